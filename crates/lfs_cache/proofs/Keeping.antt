@@ -28,14 +28,14 @@ lookup-remove_other s t (e ∷ es) apart =
     ]) refl
 
 -- what is found among the first is found among all
-lookup-take : (s n : ℕ) (es : Entries) (v : List ℕ) → lookup (nat_eq s) (take n es) ≡ Some v → lookup (nat_eq s) es ≡ Some v
-lookup-take s zero es v h = absurd cc
-lookup-take s (suc n) [] v h = h
-lookup-take s (suc n) (e ∷ es) v h =
+lookup-take : (s n : ℕ) (es : Entries) {v : List ℕ} → lookup (nat_eq s) (take n es) ≡ Some v → lookup (nat_eq s) es ≡ Some v
+lookup-take s zero es h = absurd cc
+lookup-take s (suc n) [] h = h
+lookup-take s (suc n) (e ∷ es) {v} h =
     (elim (nat_eq s e.0)
     as (λ b. cond b (Some e.1) (lookup (nat_eq s) (take n es)) ≡ Some v → cond b (Some e.1) (lookup (nat_eq s) es) ≡ Some v) [
       | true ↦ λ found. found
-      | false ↦ λ found. lookup-take s n es v found
+      | false ↦ λ found. lookup-take s n es found
     ]) h
 
 -- an entry that is found has the number that was looked for, and its bytes are what is kept
@@ -82,7 +82,7 @@ put_or_other kept s t v w None found h =
     (elim (nat_eq t s) as (λ b. nat_eq t s ≡ b → cond b (Some v) (lookup (nat_eq t) (take (kept.cap - 1) kept.entries)) ≡ Some w
     → IsPutOrOther s v t w kept) [
       | true ↦ λ is now. inl (eqb-true t s is, cc)
-      | false ↦ λ no was. inr ((λ same. let is = eq-eqb t s same in cc), lookup-take t (kept.cap - 1) kept.entries w was)
+      | false ↦ λ no was. inr ((λ same. let is = eq-eqb t s same in cc), lookup-take t (kept.cap - 1) kept.entries was)
     ]) refl h
 put_or_other kept s t v w (Some e) found h =
     let at = found_entry s kept.entries e found in
@@ -94,27 +94,27 @@ put_or_other kept s t v w (Some e) found h =
           inr (apart, sym (lookup-remove_other s t kept.entries apart) ∙ was)
     ]) refl h
 
-overwritten_at : (s n : ℕ) (v w : List ℕ) (es : Entries) (o : Option (ℕ × List ℕ)) → lookup_entry (nat_eq s) es ≡ o
+overwritten_at : (s n : ℕ) (v : List ℕ) {w : List ℕ} (es : Entries) (o : Option (ℕ × List ℕ)) → lookup_entry (nat_eq s) es ≡ o
     → lookup (nat_eq s) es ≡ Some w
     → set_value (nat_eq s) (option_map_or (λ e. e ∷ remove_entry (nat_eq s) es) o es) v
     ≡ option_map_or (λ e. (e.0, v) ∷ remove_entry (nat_eq s) es) o ((s, v) ∷ take n es)
-overwritten_at s n v w es None found is =
+overwritten_at s n v es None found is =
     let none : lookup (nat_eq s) es ≡ None = sym (lookup-lookup_entry (nat_eq s) es) ∙ ap (option_map (λ f. f.1)) found in
     cc
-overwritten_at s n v w es (Some e) found is = rw (Contains-lookup_entry (nat_eq s) es e found).1 refl
+overwritten_at s n v es (Some e) found is = rw (Contains-lookup_entry (nat_eq s) es e found).1 refl
 
 -- other bytes in the place of those that are kept of a sector, once it is used, are what would have been put
-pub overwritten : (kept : Kept) (s : ℕ) (v w : List ℕ) → kept_at kept s ≡ Some w
+pub overwritten : (kept : Kept) (s : ℕ) (v : List ℕ) {w : List ℕ} → kept_at kept s ≡ Some w
     → set_value (nat_eq s) (promoted (nat_eq s) kept.entries) v ≡ put_entries nat_eq kept s v
-overwritten kept s v w is = overwritten_at s (kept.cap - 1) v w kept.entries (lookup_entry (nat_eq s) kept.entries) refl is
+overwritten kept s v {w} is = overwritten_at s (kept.cap - 1) v kept.entries (lookup_entry (nat_eq s) kept.entries) refl is
 
 -- a use leaves the agreement
 pub agrees-promoted_at : (kept : Kept) (s : ℕ) (d : DeviceState) → Agrees kept d → Agrees (promoted_at kept s) d
 agrees-promoted_at kept s d agrees keeps t w h = agrees keeps t w (sym (kept_at-promoted_at kept s t) ∙ h)
 
 -- a call that leaves the content leaves the agreement
-pub agrees-untouched : (kept : Kept) (old new : DeviceState) → IsUntouched old new → Carries old new → Agrees kept old → Agrees kept new
-agrees-untouched kept old new same carries agrees keeps t w h = rw same.content (agrees (carries.kept_before keeps) t w h)
+pub agrees-untouched : (kept : Kept) {old new : DeviceState} → IsUntouched old new → Carries old new → Agrees kept old → Agrees kept new
+agrees-untouched kept same carries agrees keeps t w h = rw same.content (agrees (carries.kept_before keeps) t w h)
 
 -- what is kept of the sectors but one is what the device holds there
 abbrev pub AgreesElsewhere : ℕ → Kept → DeviceState → Type 0
@@ -141,9 +141,9 @@ agrees-without kept s d none others keeps t w h =
     others keeps t w apart (sym (lookup-remove_other s t kept.entries apart) ∙ h)
 
 -- whatever a write leaves of its sector, the others hold what they held
-pub elsewhere_after_write : (kept : Kept) (s : ℕ) (v : List ℕ) (old new : DeviceState) → Agrees kept old → Carries old new
+pub elsewhere_after_write : (kept : Kept) {s : ℕ} {v : List ℕ} {old new : DeviceState} → Agrees kept old → Carries old new
     → (new.keeps_model → MayWrite s v old.content new.content) → AgreesElsewhere s kept new
-elsewhere_after_write kept s v old new agrees carries may keeps t w apart h =
+elsewhere_after_write kept {s} {v} {old} agrees carries may keeps t w apart h =
     let before = agrees (carries.kept_before keeps) t w h in
     elim (may keeps) [
       | left_old same ↦ rw same before
@@ -165,9 +165,10 @@ found_or_none kept s None is missing = promoted_at-none kept s is
 found_or_none kept s (Some v) is missing = cc
 
 -- a look that doesn't find a sector leaves all as it is
-pub missed : (kept looked : Kept) (s : ℕ) (found : Bool) → looked ≡ promoted_at kept s → found ≡ is_some (kept_at kept s) → found ≡ false
+pub missed : (kept : Kept) {looked : Kept} (s : ℕ) {found : Bool} → looked ≡ promoted_at kept s → found ≡ is_some (kept_at kept s)
+    → found ≡ false
     → looked ≡ kept
-missed kept looked s found is was missing = is ∙ found_or_none kept s (kept_at kept s) refl (sym was ∙ missing)
+missed kept s is was missing = is ∙ found_or_none kept s (kept_at kept s) refl (sym was ∙ missing)
 
 -- a fact holds at an error too
 pub at_err : {A E : Type 0} (r : Result A E) (P : Type 0) → P → OnErr r P

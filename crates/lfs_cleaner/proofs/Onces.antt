@@ -14,25 +14,25 @@ use Rattle.lfs_cleaner.proofs.RoomBounds.{may_pass, passes_none}
 
 -- ---- orders
 -- a commit, and a pass behind it
-pub once_told : (t0 t1 t2 n n' : ℕ) → n' ≡ n → t1 ≤ t0 + commit_orders → t2 ≤ t1 + pass_orders n' → t2 ≤ t0 + once_orders n
-once_told t0 t1 t2 n n' same first second = omega (arith, same, first, second)
+pub once_told : (t0 t1 t2 : ℕ) {n n' : ℕ} → n' ≡ n → t1 ≤ t0 + commit_orders → t2 ≤ t1 + pass_orders n' → t2 ≤ t0 + once_orders n
+once_told t0 t1 t2 same first second = omega (arith, same, first, second)
 
 -- no more than where room is made
-pub once_within : (n : ℕ) → IsSegmentCount n → once_orders n ≤ room_orders n
-once_within n count = let least = count.least in more (n / 8) (8 * n + 4) (omega (arith, least))
+pub once_within : {n : ℕ} → IsSegmentCount n → once_orders n ≤ room_orders n
+once_within {n} count = let least = count.least in more (n / 8) (8 * n + 4) (omega (arith, least))
   where
     more : (eighth p : ℕ) → 1 ≤ eighth → commit_orders + p ≤ commit_orders + eighth * p
     more eighth p le = let times = mul-le-mul_right p le in let one = one-mul p in omega (arith, times, one)
 
 module _ {D : Type 0} (state : D → DeviceState) where
   -- a pass may be made where room can be
-  unfit_lacks : (h now : LogState D) → IsLawful (state h.device) → h.halted ≡ false → AreAllSaved h
+  unfit_lacks : (h : LogState D) {now : LogState D} → IsLawful (state h.device) → h.halted ≡ false → AreAllSaved h
       → 4 * h.clean < h.segments
       → Reads state h now → IsUnfit state h now → MayNotMakeRoom state h now
-  unfit_lacks h now lawful running nothing few reads unfit k m0 m keeps may =
-      let least = (segment_count state h k m0 m lawful may.holds).least in
+  unfit_lacks h lawful running nothing few reads unfit k m0 m keeps may =
+      let least = (segment_count state lawful may.holds).least in
       let next =
-      may_pass state h h 0 nothing (passes_none state h lawful running) few k m0 m (reads.looks.carries.kept_before keeps) may
+      may_pass state nothing (passes_none state {h = h} lawful running) few k m (reads.looks.carries.kept_before keeps) may
       (omega (arith, least)) in
       unfit next.0 next.1 m keeps next.2
 
@@ -40,22 +40,22 @@ module _ {D : Type 0} (state : D → DeviceState) where
       → KeepsMap state h now 1
   keeps_due h now lawful running due totals =
       ⊎_elim
-      (λ (need : PassesInNeed state h now). (repeats_passes state h now need totals).keeps)
+      (λ (need : PassesInNeed state h now). (repeats_passes state h need totals).keeps)
       (λ none. subst (λ (x : LogState D). KeepsMap state h x 1) (sym none.1)
-      (keeps_weaker state h h 0 1 (keeps_none state h lawful running) (omega arith)))
-      due
+      (keeps_weaker state {y = 1} (keeps_none state h lawful running) (omega arith))) due
 
   -- ---- a pass that isn't made
-  pub lacks_pass : (h now : LogState D) → IsLawful (state h.device) → h.halted ≡ false → AreAllSaved h
+  pub lacks_pass : (h : LogState D) {now : LogState D} → IsLawful (state h.device) → h.halted ≡ false → AreAllSaved h
       → 4 * h.clean < h.segments → RefusesPass state h now → LacksPasses state h now 0
-  lacks_pass h now lawful running nothing few refuses = record {
-    keeps = keeps_reads state h now lawful running refuses.reads;
-    never = unfit_lacks h now lawful running nothing few refuses.reads refuses.unfit;
+  lacks_pass h {now} lawful running nothing few refuses = record {
+    keeps = keeps_reads state lawful running refuses.reads;
+    never = unfit_lacks h lawful running nothing few refuses.reads refuses.unfit;
   }
 
-  pub fails_pass : (h now : LogState D) → IsLawful (state h.device) → h.halted ≡ false → FailsPass state h now → FailsPasses state h now 0
-  fails_pass h now lawful running fails = record {
-    keeps = keeps_reads state h now lawful running fails.reads;
+  pub fails_pass : (h : LogState D) {now : LogState D} → IsLawful (state h.device) → h.halted ≡ false → FailsPass state h now
+      → FailsPasses state h now 0
+  fails_pass h {now} lawful running fails = record {
+    keeps = keeps_reads state lawful running fails.reads;
     fault = read_fault state h now fails.fault;
   }
 

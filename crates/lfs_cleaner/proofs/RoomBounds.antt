@@ -52,9 +52,9 @@ one_more : (count p : ℕ) → (count + 1) * p ≡ count * p + p
 one_more count p = add-mul count 1 p ∙ ap (λ (n : ℕ). count * p + n) (one-mul p)
 
 -- a pass more
-pub pass_more : (t0 t1 t2 count n n' : ℕ) → n' ≡ n → t1 ≤ t0 + count * pass_orders n → t2 ≤ t1 + pass_orders n'
+pub pass_more : (t0 t1 t2 count : ℕ) {n n' : ℕ} → n' ≡ n → t1 ≤ t0 + count * pass_orders n → t2 ≤ t1 + pass_orders n'
     → t2 ≤ t0 + (count + 1) * pass_orders n
-pass_more t0 t1 t2 count n n' same first second =
+pass_more t0 t1 t2 count {n} same first second =
     let e = one_more count (pass_orders n) in
     let last : t2 ≤ t1 + pass_orders n = subst (λ (x : ℕ). t2 ≤ t1 + pass_orders x) same second in
     more (count * pass_orders n) ((count + 1) * pass_orders n) (pass_orders n) e first last
@@ -70,8 +70,8 @@ passes_most t0 t1 count most p le told = more (count * p) (most * p) (mul-le-mul
     more a b le told = omega (arith, le, told)
 
 -- a commit, and passes behind it
-pub room_told : (t0 t1 t2 n n' : ℕ) → n' ≡ n → t1 ≤ t0 + commit_orders → t2 ≤ t1 + n' / 8 * pass_orders n' → t2 ≤ t0 + room_orders n
-room_told t0 t1 t2 n n' same first second =
+pub room_told : (t0 t1 t2 : ℕ) {n n' : ℕ} → n' ≡ n → t1 ≤ t0 + commit_orders → t2 ≤ t1 + n' / 8 * pass_orders n' → t2 ≤ t0 + room_orders n
+room_told t0 t1 t2 {n} same first second =
     let last : t2 ≤ t1 + n / 8 * pass_orders n = subst (λ (x : ℕ). t2 ≤ t1 + x / 8 * pass_orders x) same second in
     more commit_orders (n / 8 * pass_orders n) first last
   where
@@ -79,29 +79,28 @@ room_told t0 t1 t2 n n' same first second =
     more a b first last = omega (arith, first, last)
 
 -- passes alone
-pub passes_told : (told0 told1 : List Order) (t2 n n' : ℕ) → n' ≡ n → told1 ≡ told0 → t2 ≤ length told1 + passes_orders n'
+pub passes_told : {told0 told1 : List Order} (t2 : ℕ) {n n' : ℕ} → n' ≡ n → told1 ≡ told0 → t2 ≤ length told1 + passes_orders n'
     → t2 ≤ length told0 + passes_orders n
-passes_told told0 told1 t2 n n' same first second =
+passes_told {told1} t2 {n} same first second =
     subst (λ (l : List Order). t2 ≤ length l + passes_orders n) first (subst (λ (x : ℕ). t2 ≤ length told1 + passes_orders x) same second)
 
 module _ {D : Type 0} (state : D → DeviceState) where
-  pub passes_none : (h : LogState D) → IsLawful (state h.device) → h.halted ≡ false → PassesDone state h h 0
-  passes_none h lawful running = record {
+  pub passes_none : {h : LogState D} → IsLawful (state h.device) → h.halted ≡ false → PassesDone state h h 0
+  passes_none {h} lawful running = record {
     repeats = repeats_none state h lawful running;
     gains = omega arith;
     told = omega arith;
   }
 
   -- a pass more
-  pub passes_more : (h now next : LogState D) (count : ℕ) → PassesDone state h now count → PassesInNeed state now next
+  pub passes_more : {h now : LogState D} (next : LogState D) {count : ℕ} → PassesDone state h now count → PassesInNeed state now next
       → next.totals ≡ now.totals
       → length (state next.device).told ≤ length (state now.device).told + pass_orders now.segments
       → PassesDone state h next (count + 1)
-  passes_more h now next count done need totals more = record {
-    repeats = repeats_then state h now next count 1 done.repeats (repeats_passes state now next need totals);
+  passes_more {h} {now} next {count} done need totals more = record {
+    repeats = repeats_then state h now next count 1 done.repeats (repeats_passes state now need totals);
     gains = (let g = done.gains in let g' = need.passes.cleans.gains in omega (arith, g, g'));
     told = pass_more (length (state h.device).told) (length (state now.device).told) (length (state next.device).told) count
-        h.segments now.segments
         done.repeats.keeps.segments done.told more;
   }
 
@@ -113,20 +112,20 @@ module _ {D : Type 0} (state : D → DeviceState) where
       omega (arith, stored, above, size, need)
 
   -- where room can be made an eighth of the segments is clean
-  pub eighth_clean : (h : LogState D) (k : CheckpointValue) (m0 m : LogMap) → MayMakeRoom state h k m0 m → h.segments ≤ 8 * h.clean
-  eighth_clean h k m0 m may = ⊎_elim
+  pub eighth_clean : (h : LogState D) {k : CheckpointValue} {m0 m : LogMap} → MayMakeRoom state h k m0 m → h.segments ≤ 8 * h.clean
+  eighth_clean h may = ⊎_elim
       (λ (on : h.saved ≡ true). (may.holds.rest on).many)
       (λ (off : h.saved ≡ false). let enough = may.enough off in omega (arith, enough))
       (cases_Bool h.saved)
 
   -- nothing is unsaved between two passes
-  pub nothing_between : (h now : LogState D) (count : ℕ) → AreAllSaved h → PassesDone state h now count → AreAllSaved now
-  nothing_between h now count nothing done =
+  pub nothing_between : {h now : LogState D} {count : ℕ} → AreAllSaved h → PassesDone state h now count → AreAllSaved now
+  nothing_between {h} {now} nothing done =
       ⊎_elim (λ (same : now ≡ h). subst (λ (x : LogState D). AreAllSaved x) (sym same) nothing) (λ all. all.rest.nothing) done.repeats.saved
 
-  module _ (h now : LogState D) (count : ℕ) (nothing : AreAllSaved h) (done : PassesDone state h now count)
+  module _ {h now : LogState D} {count : ℕ} (nothing : AreAllSaved h) (done : PassesDone state h now count)
       (few : 4 * now.clean < now.segments)
-      (k : CheckpointValue) (m0 m : LogMap) (keeps : (state now.device).keeps_model) (may : MayMakeRoom state h k m0 m) where
+      (k : CheckpointValue) {m0 : LogMap} (m : LogMap) (keeps : (state now.device).keeps_model) (may : MayMakeRoom state h k m0 m) where
     -- the next pass may begin
     pub may_pass : count < h.segments / 8 → (next : CheckpointValue) × (m1 : LogMap) × CanPass state now next m1 m
     may_pass lt =
@@ -134,7 +133,7 @@ module _ {D : Type 0} (state : D → DeviceState) where
         let above = ap (λ (t : BlockTotals). t.meta_blocks) done.repeats.keeps.totals in
         let size = done.repeats.keeps.segments in
         let gains = done.gains in
-        let many = eighth_clean h k m0 m may in
+        let many = eighth_clean h may in
         let number = done.repeats.keeps.number in
         let most = may.number in
         let need = may.need in
@@ -162,8 +161,8 @@ module _ {D : Type 0} (state : D → DeviceState) where
     passes_suffice lawful all =
         let size = done.repeats.keeps.segments in
         let gains = done.gains in
-        let many = eighth_clean h k m0 m may in
-        let eighths = (segment_count state h k m0 m lawful may.holds).eighths in
+        let many = eighth_clean h may in
+        let eighths = (segment_count state lawful may.holds).eighths in
         omega (arith, all, size, gains, many, few, eighths)
 
   -- what is unsaved is saved, and room can be made still
@@ -195,37 +194,37 @@ module _ {D : Type 0} (state : D → DeviceState) where
       let enough = may.enough some in
       let most = may.number in
       let due = due_one h some in
-      let eighths = (segment_count state h k m0 m lawful may.holds).eighths in
+      let eighths = (segment_count state lawful may.holds).eighths in
       ⊎_elim
       (λ (few : 8 * h.clean < h.segments + 64). omega (arith, enough, eighths, few))
       (λ (last : 2 ^ 64 - 1 ≤ h.number). omega (arith, due, most, last))
       full
 
   -- ---- what is unsaved is saved first
-  pub readied_none : (h : LogState D) → IsLawful (state h.device) → h.halted ≡ false → h.saved ≡ true → AreAllSaved h → IsReadied state h h
-  readied_none h lawful running all nothing = record {
+  pub readied_none : {h : LogState D} → IsLawful (state h.device) → h.halted ≡ false → h.saved ≡ true → AreAllSaved h → IsReadied state h h
+  readied_none {h} lawful running all nothing = record {
     saved = all;
     commits = inr (all, nothing, refl);
-    keeps = keeps_weaker state h h 0 _ (keeps_none state h lawful running) (omega arith);
+    keeps = keeps_weaker state (keeps_none state h lawful running) (omega arith);
     no_failure = refl;
     nothing = nothing;
     room = λ k m0 m keeps may. (k, m0, may);
   }
 
-  pub readied_saves : (h now : LogState D) → h.saved ≡ false → Saves state h now → now.totals ≡ h.totals → IsReadied state h now
-  readied_saves h now some s totals = record {
+  pub readied_saves : {h now : LogState D} → h.saved ≡ false → Saves state h now → now.totals ≡ h.totals → IsReadied state h now
+  readied_saves {h} {now} some s totals = record {
     saved = s.saved;
     commits = inl (some, s);
-    keeps = keeps_weaker state h now 1 _ (keeps_saves state h now s totals) (let due = due_one h some in omega (arith, due));
+    keeps = keeps_weaker state (keeps_saves state h now s totals) (let due = due_one h some in omega (arith, due));
     no_failure = s.no_failure;
     nothing = s.empty;
     room = λ k m0 m keeps may. let next = room_saved h now k m0 m some s totals keeps may in (next.0, dropped m, next.1);
   }
 
   -- ---- nothing is done
-  pub makes_none : (h : LogState D) → IsLawful (state h.device) → h.halted ≡ false → MakesRoom state h h
-  makes_none h lawful running = record {
-    keeps = keeps_weaker state h h 0 _ (keeps_none state h lawful running) (omega arith);
+  pub makes_none : {h : LogState D} → IsLawful (state h.device) → h.halted ≡ false → MakesRoom state h h
+  makes_none {h} lawful running = record {
+    keeps = keeps_weaker state (keeps_none state h lawful running) (omega arith);
     unsaved = λ e. (e, record { number = refl; fewer = omega arith; clean = λ enough. enough });
     all = λ e. inl e;
     rest = λ e was. was e;
@@ -233,32 +232,32 @@ module _ {D : Type 0} (state : D → DeviceState) where
 
   pub quarter_none : (h : LogState D) → IsLawful (state h.device) → h.halted ≡ false → HasQuarter h → CleansQuarter state h h
   quarter_none h lawful running enough =
-      record { makes = makes_none h lawful running; works = inr refl; no_failure = refl; quarter = enough }
+      record { makes = makes_none lawful running; works = inr refl; no_failure = refl; quarter = enough }
 
   -- a commit finds too few clean segments
-  pub lacks_commit : (h now : LogState D) → IsLawful (state h.device) → h.halted ≡ false → now ≡ h → IsFull h → h.saved ≡ false
+  pub lacks_commit : {h now : LogState D} → IsLawful (state h.device) → h.halted ≡ false → now ≡ h → IsFull h → h.saved ≡ false
       → LacksRoom state h now
-  lacks_commit h now lawful running same full some = record {
-    makes = subst (λ (x : LogState D). MakesRoom state h x) (sym same) (makes_none h lawful running);
+  lacks_commit {h} lawful running same full some = record {
+    makes = subst (λ (x : LogState D). MakesRoom state h x) (sym same) (makes_none {h = h} lawful running);
     never = λ k m0 m keeps may. commit_fits h k m0 m lawful some full may;
   }
 
   -- a failed commit
-  pub halts_first : (a b : LogState D) → Halts state a b → HaltsLater state a b (most_checkpoints a)
-  halts_first a b halts = halts_weaker state a b 0 _ (halts_at_once state a b halts) (omega arith)
+  pub halts_first : {a b : LogState D} → Halts state a b → HaltsLater state a b (most_checkpoints a)
+  halts_first {a} {b} halts = halts_weaker state (halts_at_once state a b halts) (omega arith)
 
   -- ---- passes behind a commit
-  module _ (a b c : LogState D) (ready : IsReadied state a b) (x : ℕ) (few : x ≤ a.segments / 8) where
+  module _ {a b c : LogState D} (ready : IsReadied state a b) {x : ℕ} (few : x ≤ a.segments / 8) where
     keeps_after : KeepsMap state b c x → KeepsMap state a c (most_checkpoints a)
-    keeps_after passes = keeps_weaker state a c _ _ (keeps_then state a b c _ ready.keeps x passes) (omega (arith, few))
+    keeps_after passes = keeps_weaker state (keeps_then state c ready.keeps passes) (omega (arith, few))
 
     pub makes_after : KeepsMap state b c x → MakesRoom state a c
     makes_after passes = record {
       keeps = keeps_after passes;
       unsaved = λ none. absurd (let all = passes.saved ready.saved in cc);
-      all = λ e. ⊎_elim (λ done. inr (acknowledges_still state a b c x (saves_all state a b done.1).holds passes))
+      all = λ e. ⊎_elim (λ done. inr (acknowledges_still state a c (saves_all state a done.1).holds passes))
           (λ none. inl none.0) ready.commits;
-      rest = λ e was. ⊎_elim (λ done. passes.rest (rest_saves state a b done.1))
+      rest = λ e was. ⊎_elim (λ done. passes.rest (rest_saves state done.1))
           (λ none. (keeps_after passes).rest (was none.0)) ready.commits;
     }
 
@@ -272,11 +271,11 @@ module _ {D : Type 0} (state : D → DeviceState) where
     pub fails_after : FailsPasses state b c x → FailsRoom state a c
     fails_after fails = record {
       makes = makes_after fails.keeps;
-      fault = fault_then state a b c _ ready.keeps fails.keeps.carries fails.fault;
+      fault = fault_then state c ready.keeps fails.keeps.carries fails.fault;
     }
 
     pub halts_after : HaltsLater state b c x → HaltsLater state a c (most_checkpoints a)
-    halts_after halts = halts_weaker state a c _ _ (halts_then state a b c _ ready.keeps x halts) (omega (arith, few))
+    halts_after halts = halts_weaker state (halts_then state c ready.keeps halts) (omega (arith, few))
 
     pub quarter_after : Repeats state b c x → HasQuarter c → CleansQuarter state a c
     quarter_after done enough = record {
@@ -287,11 +286,10 @@ module _ {D : Type 0} (state : D → DeviceState) where
         passes = (let p = done.passes in let most = p.1 in (p.0, omega (arith, most, few), p.2));
         saves = ⊎_elim
             (λ first.
-            ⊎_elim (λ (same : c ≡ b). inl (subst (λ (h : LogState D). SavesAll state a h) (sym same) (saves_all state a b first.1)))
-            (λ (more : SavesAll state b c). inl (saved_then state a b c _ ready.keeps done.keeps.carries more)) done.saved)
+            ⊎_elim (λ (same : c ≡ b). inl (subst (λ (h : LogState D). SavesAll state a h) (sym same) (saves_all state a first.1)))
+            (λ (more : SavesAll state b c). inl (saved_then state c ready.keeps done.keeps.carries more)) done.saved)
             (λ none. ⊎_elim (λ (same : c ≡ b). inr (same ∙ none.2))
-            (λ (more : SavesAll state b c). inl (saved_then state a b c _ ready.keeps done.keeps.carries more)) done.saved)
-            ready.commits;
+            (λ (more : SavesAll state b c). inl (saved_then state c ready.keeps done.keeps.carries more)) done.saved) ready.commits;
       });
       no_failure = done.no_failure ∙ ready.no_failure;
       quarter = enough;

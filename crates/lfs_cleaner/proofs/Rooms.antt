@@ -22,7 +22,7 @@ module _ {D : Type 0} (state : D → DeviceState) where
   -- nothing happens
   pub keeps_none : (h : LogState D) → IsLawful (state h.device) → h.halted ≡ false → KeepsMap state h h 0
   keeps_none h lawful running = record {
-    carries = carries_none (state h.device);
+    carries = carries_none;
     running = running;
     later = omega arith;
     number = omega arith;
@@ -32,18 +32,18 @@ module _ {D : Type 0} (state : D → DeviceState) where
     rest = λ rest. rest;
     holds = λ k m0 m keeps is map. record { checkpoint = k; acknowledged = m0; either = inl refl; same = refl; holds = is };
     moment = λ k m0 m keeps is map.
-        started (state h.device) (IsSaved state k.segments m0 m) lawful (λ c left. inl (acknowledged state h k m0 m is c left));
+        started (IsSaved state k.segments m0 m) lawful (λ c left. inl (acknowledged state is c left));
   }
 
   -- after a commit, and after a pass
-  pub rest_saves : (h h' : LogState D) → Saves state h h' → IsAtRest h'
-  rest_saves h h' s = record { nothing = s.empty; untaken = s.untaken; many = s.many }
+  pub rest_saves : {h h' : LogState D} → Saves state h h' → IsAtRest h'
+  rest_saves s = record { nothing = s.empty; untaken = s.untaken; many = s.many }
 
   pub rest_cleans : (h h' : LogState D) (vs : List ℕ) → Cleans state h h' vs → IsAtRest h'
   rest_cleans h h' vs s = record { nothing = s.empty; untaken = s.untaken; many = s.many }
 
-  pub keeps_reads : (a b : LogState D) → IsLawful (state a.device) → a.halted ≡ false → Reads state a b → KeepsMap state a b 0
-  keeps_reads a b lawful running reads = record {
+  pub keeps_reads : {a b : LogState D} → IsLawful (state a.device) → a.halted ≡ false → Reads state a b → KeepsMap state a b 0
+  keeps_reads {a} {b} lawful running reads = record {
     carries = reads.looks.carries;
     running = reads.halted ∙ running;
     later = (let same = reads.number in omega (arith, same));
@@ -53,14 +53,14 @@ module _ {D : Type 0} (state : D → DeviceState) where
     saved = λ all. reads.saved ∙ all;
     rest = λ rest. rest_reads state a b reads rest;
     holds = λ k m0 m keeps is map.
-        record { checkpoint = k; acknowledged = m0; either = inl refl; same = refl; holds = held_still state a b k m0 m reads is };
+        record { checkpoint = k; acknowledged = m0; either = inl refl; same = refl; holds = held_still state reads is };
     moment = λ k m0 m keeps is map.
-        weaker (state a.device) (state b.device) (λ c. StandsOn k.segments c m0) (IsSaved state k.segments m0 m) (λ c there. inl there)
-        (looks_leave state a (state b.device) k m0 m lawful reads.looks is);
+        weaker (λ c. StandsOn k.segments c m0) (IsSaved state k.segments m0 m) (λ c there. inl there)
+        (looks_leave state m lawful reads.looks is);
   }
 
-  pub saves_all : (h h' : LogState D) → Saves state h h' → SavesAll state h h'
-  saves_all h h' s = record { saved = s.saved; rest = rest_saves h h' s; holds = s.holds }
+  pub saves_all : (h : LogState D) {h' : LogState D} → Saves state h h' → SavesAll state h h'
+  saves_all h {h'} s = record { saved = s.saved; rest = rest_saves s; holds = s.holds }
 
   pub cleans_all : (h h' : LogState D) (vs : List ℕ) → Cleans state h h' vs → SavesAll state h h'
   cleans_all h h' vs s = record { saved = s.saved; rest = rest_cleans h h' vs s; holds = s.holds }
@@ -74,7 +74,7 @@ module _ {D : Type 0} (state : D → DeviceState) where
         checkpoint = next.0;
         acknowledged = dropped m;
         either = inr refl;
-        same = same_segments state h h' k next.0 m0 m (dropped m) m same is next.1;
+        same = same_segments state next.0 same is next.1;
         holds = next.1;
       }
 
@@ -87,8 +87,8 @@ module _ {D : Type 0} (state : D → DeviceState) where
     segments = s.segments;
     totals = totals;
     saved = λ all. s.saved;
-    rest = λ rest. rest_saves h h' s;
-    holds = saved_over h h' s.segments (saves_all h h' s);
+    rest = λ rest. rest_saves s;
+    holds = saved_over h h' s.segments (saves_all h s);
     moment = s.moment;
   }
 
@@ -106,8 +106,8 @@ module _ {D : Type 0} (state : D → DeviceState) where
     moment = s.moment;
   }
 
-  pub keeps_weaker : (a b : LogState D) (x y : ℕ) → KeepsMap state a b x → x ≤ y → KeepsMap state a b y
-  keeps_weaker a b x y one le = record {
+  pub keeps_weaker : {a b : LogState D} {x y : ℕ} → KeepsMap state a b x → x ≤ y → KeepsMap state a b y
+  keeps_weaker one le = record {
     carries = one.carries;
     running = one.running;
     later = one.later;
@@ -122,7 +122,7 @@ module _ {D : Type 0} (state : D → DeviceState) where
 
   -- ---- one step after another
   -- what is one of the two for the log map in the middle is one of the two for that at the start
-  module _ (a b : LogState D) (k : CheckpointValue) (m0 m : LogMap) (over : HoldsOver state k.segments m0 m b) where
+  module _ (a b : LogState D) (k : CheckpointValue) {m0 : LogMap} (m : LogMap) (over : HoldsOver state k.segments m0 m b) where
     pub saved_still : (c : Content) → IsSaved state over.checkpoint.segments over.acknowledged m c → IsSaved state k.segments m0 m c
     saved_still c is = ⊎_elim
         (λ (first : StandsOn over.checkpoint.segments c over.acknowledged).
@@ -147,20 +147,20 @@ module _ {D : Type 0} (state : D → DeviceState) where
       holds = next.holds;
     }
 
-  module _ (a b c : LogState D) (x : ℕ) (one : KeepsMap state a b x) where
+  module _ {a b : LogState D} (c : LogState D) {x : ℕ} (one : KeepsMap state a b x) where
     module _ (after : Carries (state b.device) (state c.device)) (moment : LeavesSaved state b c) where
       moment_then : LeavesSaved state a c
       moment_then k m0 m keeps is map =
           let back = after.kept_before keeps in
           let over = one.holds k m0 m back is map in
-          joined (state a.device) (state b.device) (state c.device) (IsSaved state k.segments m0 m)
+          joined (IsSaved state k.segments m0 m)
           (IsSaved state over.checkpoint.segments over.acknowledged m) (IsSaved state k.segments m0 m)
           (one.moment k m0 m back is map) (moment over.checkpoint over.acknowledged m keeps over.holds map) (λ x p. p)
-          (saved_still a b k m0 m over)
+          (saved_still a b k m over)
 
-    pub keeps_then : (y : ℕ) → KeepsMap state b c y → KeepsMap state a c (x + y)
-    keeps_then y two = record {
-      carries = carries_then (state a.device) (state b.device) (state c.device) one.carries two.carries;
+    pub keeps_then : {y : ℕ} → KeepsMap state b c y → KeepsMap state a c (x + y)
+    keeps_then two = record {
+      carries = carries_then one.carries two.carries;
       running = two.running;
       later = (let l = one.later in let l' = two.later in omega (arith, l, l'));
       number = (let n = one.number in let n' = two.number in omega (arith, n, n'));
@@ -170,7 +170,7 @@ module _ {D : Type 0} (state : D → DeviceState) where
       rest = λ rest. two.rest (one.rest rest);
       holds = λ k m0 m keeps is map.
           let over = one.holds k m0 m (two.carries.kept_before keeps) is map in
-          over_then a b k m0 m over c (two.holds over.checkpoint over.acknowledged m keeps over.holds map);
+          over_then a b k m over c (two.holds over.checkpoint over.acknowledged m keeps over.holds map);
       moment = moment_then two.carries two.moment;
     }
 
@@ -191,9 +191,9 @@ module _ {D : Type 0} (state : D → DeviceState) where
         let before = one.carries.failures in
         omega (arith, rose, before)
 
-    pub halts_then : (y : ℕ) → HaltsLater state b c y → HaltsLater state a c (x + y)
-    halts_then y two = record {
-      carries = carries_then (state a.device) (state b.device) (state c.device) one.carries two.carries;
+    pub halts_then : {y : ℕ} → HaltsLater state b c y → HaltsLater state a c (x + y)
+    halts_then two = record {
+      carries = carries_then one.carries two.carries;
       halted = two.halted;
       later = (let l = one.later in let l' = two.later in omega (arith, l, l'));
       number = (let n = one.number in let n' = two.number in omega (arith, n, n'));
@@ -201,7 +201,7 @@ module _ {D : Type 0} (state : D → DeviceState) where
       left = λ k m0 m keeps is map.
           let over = one.holds k m0 m (two.carries.kept_before keeps) is map in
           λ content left.
-          saved_still a b k m0 m over content (two.left over.checkpoint over.acknowledged m keeps over.holds map content left);
+          saved_still a b k m over content (two.left over.checkpoint over.acknowledged m keeps over.holds map content left);
       moment = moment_then two.carries two.moment;
     }
 
@@ -216,8 +216,8 @@ module _ {D : Type 0} (state : D → DeviceState) where
     moment = halts.moment;
   }
 
-  pub halts_weaker : (a b : LogState D) (x y : ℕ) → HaltsLater state a b x → x ≤ y → HaltsLater state a b y
-  halts_weaker a b x y one le = record {
+  pub halts_weaker : {a b : LogState D} {x y : ℕ} → HaltsLater state a b x → x ≤ y → HaltsLater state a b y
+  halts_weaker one le = record {
     carries = one.carries;
     halted = one.halted;
     later = one.later;
@@ -235,8 +235,8 @@ module _ {D : Type 0} (state : D → DeviceState) where
   repeats_none h lawful running =
       record { passes = (0, omega arith, refl); keeps = keeps_none h lawful running; no_failure = refl; saved = inl refl }
 
-  pub repeats_passes : (h h' : LogState D) → PassesInNeed state h h' → h'.totals ≡ h.totals → Repeats state h h' 1
-  repeats_passes h h' need totals =
+  pub repeats_passes : (h : LogState D) {h' : LogState D} → PassesInNeed state h h' → h'.totals ≡ h.totals → Repeats state h h' 1
+  repeats_passes h {h'} need totals =
       let vs = need.passes.victims in
       let s = need.passes.cleans in
       record {
@@ -265,17 +265,17 @@ module _ {D : Type 0} (state : D → DeviceState) where
         let both = passes_then a b c w.0 w'.0 w.2 w'.2 in
         let all = both.1 in
         (both.0, omega (arith, few, few', all), both.2);
-    keeps = keeps_then a b c x one.keeps y two.keeps;
+    keeps = keeps_then c one.keeps two.keeps;
     no_failure = two.no_failure ∙ one.no_failure;
     saved = ⊎_elim
         (λ (same : c ≡ b). subst (λ (h : LogState D). (h ≡ a) ⊎ SavesAll state a h) (sym same) one.saved)
-        (λ (all : SavesAll state b c). inr (saved_then a b c x one.keeps two.keeps.carries all))
-        two.saved;
+        (λ (all : SavesAll state b c). inr (saved_then c one.keeps two.keeps.carries all)) two.saved;
   }
 
   -- what a commit acknowledged stays so
-  pub acknowledges_still : (a b c : LogState D) (x : ℕ) → Acknowledges state a b → KeepsMap state b c x → Acknowledges state a c
-  acknowledges_still a b c x all passes k m0 m keeps is map =
+  pub acknowledges_still : (a : LogState D) {b : LogState D} (c : LogState D) {x : ℕ} → Acknowledges state a b → KeepsMap state b c x
+      → Acknowledges state a c
+  acknowledges_still a c all passes k m0 m keeps is map =
       let first = all k m0 m (passes.carries.kept_before keeps) is map in
       let over = passes.holds first.0 (dropped m) m keeps first.1 map in
       let same : over.acknowledged ≡ dropped m = ⊎_elim (λ (old : over.acknowledged ≡ dropped m). old)

@@ -45,9 +45,9 @@ one_call fate call calls = record {
   told = told_before call calls;
 }
 
-pub call_carries : {n : ℕ} (fate : Fate n) (call : Call) (old new : List Call) → new ≡ call ∷ old
+pub call_carries : {n : ℕ} (fate : Fate n) (call : Call) (old : List Call) {new : List Call} → new ≡ call ∷ old
     → Carries (file_state n fate old) (file_state n fate new)
-call_carries {n} fate call old new is =
+call_carries {n} fate call old is =
     subst (λ (calls : List Call). Carries (file_state n fate old) (file_state n fate calls)) (sym is) (one_call fate call old)
 
 -- a memory device
@@ -56,10 +56,11 @@ passed : (rows rows' : List Row) (past : List (List Row)) (t : ℕ) (c : List Ce
 passed rows rows' past t c le (inl now) = inr (inl (le, now))
 passed rows rows' past t c le (inr was) = inr (inr was)
 
-pub change_carries : (rows rows' : List Row) (past past' : List (List Row)) (failed failed' : Count) (told told' : List Order)
+pub change_carries : (rows rows' : List Row) (past : List (List Row)) {past' : List (List Row)} (failed failed' : Count)
+    (told told' : List Order)
     → length rows' ≡ length rows → past' ≡ rows ∷ past → count failed ≤ count failed' → Grows told told'
     → Carries (memory_state rows past failed told) (memory_state rows' past' failed' told')
-change_carries rows rows' past past' failed failed' told told' size is fails grows =
+change_carries rows rows' past failed failed' told told' size is fails grows =
     subst (λ (p : List (List Row)). Carries (memory_state rows past failed told) (memory_state rows' p failed' told')) (sym is)
     (record {
       size = size;

@@ -17,17 +17,17 @@ pub record Wrote (bytes : List ℕ) (old new : Row) : Type 0 where
   pub written : new.written ≡ Some bytes
   pub present : (new.present ≡ old.present) ⊎ (new.present ≡ Some bytes)
 
-cell_write : (bytes : List ℕ) (old new : Row) (Before : Cell → Type 0) (x : Cell) → Wrote bytes old new
+cell_write : {bytes : List ℕ} {old new : Row} (Before : Cell → Type 0) (x : Cell) → Wrote bytes old new
     → CellLeft new (CellLeft old Before) x
     → (e : Cell) × CellLeft old Before e × ((x ≡ e) ⊎ ((x ≡ Some bytes) ⊎ (x ≡ None)))
-cell_write bytes old new Before x wrote (inl is) = (x, inl (is ∙ wrote.synced), inl refl)
-cell_write bytes old new Before x wrote (inr (inl is)) = elim wrote.present [
+cell_write Before x wrote (inl is) = (x, inl (is ∙ wrote.synced), inl refl)
+cell_write {old} Before x wrote (inr (inl is)) = elim wrote.present [
   | inl same ↦ (x, inr (inl (is ∙ same)), inl refl)
   | inr other ↦ (old.synced, inl refl, inr (inl (is ∙ other)))
 ]
-cell_write bytes old new Before x wrote (inr (inr (some, inl is))) = (old.synced, inl refl, inr (inl (is ∙ wrote.written)))
-cell_write bytes old new Before x wrote (inr (inr (some, inr (inl is)))) = (old.synced, inl refl, inr (inr is))
-cell_write bytes old new Before x wrote (inr (inr (some, inr (inr before)))) = (x, before, inl refl)
+cell_write {old} Before x wrote (inr (inr (some, inl is))) = (old.synced, inl refl, inr (inl (is ∙ wrote.written)))
+cell_write {old} Before x wrote (inr (inr (some, inr (inl is)))) = (old.synced, inl refl, inr (inr is))
+cell_write Before x wrote (inr (inr (some, inr (inr before)))) = (x, before, inl refl)
 
 -- a sector that isn't changed
 cell_same : (row : Row) (Before : Cell → Type 0) (x : Cell) → CellLeft row (CellLeft row Before) x → CellLeft row Before x
@@ -62,50 +62,49 @@ still_rows [] Before (x ∷ c) left = absurd left
 still_rows (row ∷ rows) Before [] left = absurd left
 still_rows (row ∷ rows) Before (x ∷ c) left = (cell_still row (Before 0) x left.0, still_rows rows (later Before) c left.1)
 
-behind : (x : Cell) (s : ℕ) (bytes : List ℕ) (d c : List Cell) → MayWrite s bytes d c → MayWrite (suc s) bytes (x ∷ d) (x ∷ c)
-behind x s bytes d c (left_old is) = left_old (ap (λ (l : List Cell). x ∷ l) is)
-behind x s bytes d c (left_new is) = left_new (ap (λ (l : List Cell). x ∷ l) is)
-behind x s bytes d c (left_bad is) = left_bad (ap (λ (l : List Cell). x ∷ l) is)
+behind : (x : Cell) {s : ℕ} {bytes : List ℕ} {d c : List Cell} → MayWrite s bytes d c → MayWrite (suc s) bytes (x ∷ d) (x ∷ c)
+behind x (left_old is) = left_old (ap (λ (l : List Cell). x ∷ l) is)
+behind x (left_new is) = left_new (ap (λ (l : List Cell). x ∷ l) is)
+behind x (left_bad is) = left_bad (ap (λ (l : List Cell). x ∷ l) is)
 
-here : (x e : Cell) (bytes : List ℕ) (c : List Cell) → (x ≡ e) ⊎ ((x ≡ Some bytes) ⊎ (x ≡ None)) → MayWrite zero bytes (e ∷ c) (x ∷ c)
-here x e bytes c (inl is) = left_old (ap (λ (y : Cell). y ∷ c) is)
-here x e bytes c (inr (inl is)) = left_new (ap (λ (y : Cell). y ∷ c) is)
-here x e bytes c (inr (inr is)) = left_bad (ap (λ (y : Cell). y ∷ c) is)
+here : {x e : Cell} {bytes : List ℕ} (c : List Cell) → (x ≡ e) ⊎ ((x ≡ Some bytes) ⊎ (x ≡ None)) → MayWrite zero bytes (e ∷ c) (x ∷ c)
+here c (inl is) = left_old (ap (λ (y : Cell). y ∷ c) is)
+here c (inr (inl is)) = left_new (ap (λ (y : Cell). y ∷ c) is)
+here c (inr (inr is)) = left_bad (ap (λ (y : Cell). y ∷ c) is)
 
-crash_set : (rows : List Row) (Before : Reaches) (s : ℕ) (bytes : List ℕ) (old new : Row) → old ≡ slice_index_or rows s old
+crash_set : (rows : List Row) (Before : Reaches) (s : ℕ) {bytes : List ℕ} {old new : Row} → old ≡ slice_index_or rows s old
     → Wrote bytes old new
     → (c : List Cell) → CanLeave (slice_set rows s new) (After rows Before) c
     → (d : List Cell) × CanLeave rows Before d × MayWrite s bytes d c
-crash_set [] Before s bytes old new is wrote [] left = ([], tt, left_old refl)
-crash_set [] Before s bytes old new is wrote (x ∷ c) left = absurd left
-crash_set (row ∷ rows) Before zero bytes old new is wrote [] left = absurd left
-crash_set (row ∷ rows) Before zero bytes old new is wrote (x ∷ c) left =
+crash_set [] Before s is wrote [] left = ([], tt, left_old refl)
+crash_set [] Before s is wrote (x ∷ c) left = absurd left
+crash_set (row ∷ rows) Before zero is wrote [] left = absurd left
+crash_set (row ∷ rows) Before zero {bytes} {old} {new} is wrote (x ∷ c) left =
     let first : CellLeft new (CellLeft old (Before 0)) x = subst (λ (r : Row). CellLeft new (CellLeft r (Before 0)) x) (sym is) left.0 in
-    let from = cell_write bytes old new (Before 0) x wrote first in (
-      from.0 ∷ c,
+    let from = cell_write (Before 0) x wrote first in ( from.0 ∷ c,
       (subst (λ (r : Row). CellLeft r (Before 0) from.0) is from.1, same_rows rows (later Before) c left.1),
-      here x from.0 bytes c from.2,
+      here c from.2,
     )
-crash_set (row ∷ rows) Before (suc s) bytes old new is wrote [] left = absurd left
-crash_set (row ∷ rows) Before (suc s) bytes old new is wrote (x ∷ c) left =
-    let from = crash_set rows (later Before) s bytes old new is wrote c left.1 in
-    (x ∷ from.0, (cell_same row (Before 0) x left.0, from.1), behind x s bytes from.0 c from.2)
+crash_set (row ∷ rows) Before (suc s) is wrote [] left = absurd left
+crash_set (row ∷ rows) Before (suc s) {bytes} {old} {new} is wrote (x ∷ c) left =
+    let from = crash_set rows (later Before) s is wrote c left.1 in
+    (x ∷ from.0, (cell_same row (Before 0) x left.0, from.1), behind x from.2)
 
-some_written : (x : Cell) (bytes : List ℕ) → x ≡ Some bytes → IsSome x
-some_written x bytes is = subst IsSome (sym is) refl
+some_written : {x : Cell} {bytes : List ℕ} → x ≡ Some bytes → IsSome x
+some_written is = subst IsSome (sym is) refl
 
 -- and each content of the model may be left
-spread_same : (rows : List Row) (Before : Reaches) (s : ℕ) (bytes : List ℕ) (old new : Row) → old ≡ slice_index_or rows s old
+spread_same : (rows : List Row) (Before : Reaches) (s : ℕ) {bytes : List ℕ} {old new : Row} → old ≡ slice_index_or rows s old
     → Wrote bytes old new
     → (c : List Cell) → CanLeave rows Before c → CanLeave (slice_set rows s new) (After rows Before) c
-spread_same [] Before s bytes old new is wrote [] left = tt
-spread_same [] Before s bytes old new is wrote (x ∷ c) left = absurd left
-spread_same (row ∷ rows) Before zero bytes old new is wrote [] left = absurd left
-spread_same (row ∷ rows) Before zero bytes old new is wrote (x ∷ c) left =
-    (inr (inr (some_written new.written bytes wrote.written, inr (inr left.0))), still_rows rows (later Before) c left.1)
-spread_same (row ∷ rows) Before (suc s) bytes old new is wrote [] left = absurd left
-spread_same (row ∷ rows) Before (suc s) bytes old new is wrote (x ∷ c) left =
-    (cell_still row (Before 0) x left.0, spread_same rows (later Before) s bytes old new is wrote c left.1)
+spread_same [] Before s is wrote [] left = tt
+spread_same [] Before s is wrote (x ∷ c) left = absurd left
+spread_same (row ∷ rows) Before zero is wrote [] left = absurd left
+spread_same (row ∷ rows) Before zero {bytes} {new} is wrote (x ∷ c) left =
+    (inr (inr (some_written wrote.written, inr (inr left.0))), still_rows rows (later Before) c left.1)
+spread_same (row ∷ rows) Before (suc s) is wrote [] left = absurd left
+spread_same (row ∷ rows) Before (suc s) {bytes} {old} {new} is wrote (x ∷ c) left =
+    (cell_still row (Before 0) x left.0, spread_same rows (later Before) s is wrote c left.1)
 
 spread_to : (rows : List Row) (Before : Reaches) (s : ℕ) (new : Row) (v : Cell) → ((E : Cell → Type 0) → CellLeft new E v)
     → (c : List Cell) → CanLeave rows Before c → CanLeave (slice_set rows s new) (After rows Before) (slice_set c s v)
@@ -117,18 +116,18 @@ spread_to (row ∷ rows) Before (suc s) new v may [] left = absurd left
 spread_to (row ∷ rows) Before (suc s) new v may (x ∷ c) left =
     (cell_still row (Before 0) x left.0, spread_to rows (later Before) s new v may c left.1)
 
-spread_set : (rows : List Row) (Before : Reaches) (s : ℕ) (bytes : List ℕ) (old new : Row) → old ≡ slice_index_or rows s old
+spread_set : (rows : List Row) (Before : Reaches) (s : ℕ) (bytes : List ℕ) {old : Row} (new : Row) → old ≡ slice_index_or rows s old
     → Wrote bytes old new
-    → (d c : List Cell) → CanLeave rows Before d → MayWrite s bytes d c → CanLeave (slice_set rows s new) (After rows Before) c
-spread_set rows Before s bytes old new is wrote d c left (left_old same) =
-    subst (CanLeave (slice_set rows s new) (After rows Before)) (sym same) (spread_same rows Before s bytes old new is wrote d left)
-spread_set rows Before s bytes old new is wrote d c left (left_new same) =
+    → (d : List Cell) {c : List Cell} → CanLeave rows Before d → MayWrite s bytes d c
+    → CanLeave (slice_set rows s new) (After rows Before) c
+spread_set rows Before s bytes {old} new is wrote d left (left_old same) =
+    subst (CanLeave (slice_set rows s new) (After rows Before)) (sym same) (spread_same rows Before s is wrote d left)
+spread_set rows Before s bytes new is wrote d left (left_new same) =
     subst (CanLeave (slice_set rows s new) (After rows Before)) (sym same)
-    (spread_to rows Before s new (Some bytes) (λ E. inr (inr (some_written new.written bytes wrote.written, inl (sym wrote.written)))) d
-    left)
-spread_set rows Before s bytes old new is wrote d c left (left_bad same) =
+    (spread_to rows Before s new (Some bytes) (λ E. inr (inr (some_written wrote.written, inl (sym wrote.written)))) d left)
+spread_set rows Before s bytes new is wrote d left (left_bad same) =
     subst (CanLeave (slice_set rows s new) (After rows Before)) (sym same)
-    (spread_to rows Before s new None (λ E. inr (inr (some_written new.written bytes wrote.written, inr (inl refl)))) d left)
+    (spread_to rows Before s new None (λ E. inr (inr (some_written wrote.written, inr (inl refl)))) d left)
 
 -- a sector that is made unreadable
 cell_stands : (x : Cell) (Before : Cell → Type 0) (y : Cell) → CellLeft (stands_at x) Before y → y ≡ x
@@ -153,20 +152,20 @@ lose_leaves (row ∷ rows) Before (suc s) (x ∷ c) left =
     (x ∷ from.0, (cell_same row (Before 0) x left.0, from.1), ap (λ (l : List Cell). x ∷ l) from.2)
 
 -- the same, of states that are known by an equation
-module _ (rows : List Row) (past now : List (List Row)) (is_now : now ≡ rows ∷ past) where
-  pub crash_write : (s : ℕ) (bytes : List ℕ) (old new : Row) → old ≡ slice_index_or rows s old → Wrote bytes old new
+module _ {rows : List Row} {past now : List (List Row)} (is_now : now ≡ rows ∷ past) where
+  pub crash_write : (s : ℕ) (bytes : List ℕ) {old : Row} (new : Row) → old ≡ slice_index_or rows s old → Wrote bytes old new
       → (c : List Cell) → CanLeave (slice_set rows s new) (PassedThrough now) c → (d : List Cell) × CanLeave rows (PassedThrough past) d
       × MayWrite s bytes d c
-  crash_write s bytes old new is wrote c left =
-      crash_set rows (PassedThrough past) s bytes old new is wrote c
+  crash_write s bytes {old} new is wrote c left =
+      crash_set rows (PassedThrough past) s is wrote c
       (subst (λ (l : List (List Row)). CanLeave (slice_set rows s new) (PassedThrough l) c) is_now left)
 
-  pub crash_spreads : (s : ℕ) (bytes : List ℕ) (old new : Row) → old ≡ slice_index_or rows s old → Wrote bytes old new
+  pub crash_spreads : (s : ℕ) (bytes : List ℕ) {old : Row} (new : Row) → old ≡ slice_index_or rows s old → Wrote bytes old new
       → (d c : List Cell) → CanLeave rows (PassedThrough past) d → MayWrite s bytes d c
       → CanLeave (slice_set rows s new) (PassedThrough now) c
-  crash_spreads s bytes old new is wrote d c left may =
+  crash_spreads s bytes {old} new is wrote d c left may =
       subst (λ (l : List (List Row)). CanLeave (slice_set rows s new) (PassedThrough l) c) (sym is_now)
-      (spread_set rows (PassedThrough past) s bytes old new is wrote d c left may)
+      (spread_set rows (PassedThrough past) s bytes new is wrote d left may)
 
   pub were_whole : AreSectorRows rows → AllByRecursion AreSectorRows past → AllByRecursion AreSectorRows now
   were_whole whole were = subst (AllByRecursion AreSectorRows) (sym is_now) (whole, were)
@@ -185,11 +184,11 @@ present_set [] s new = refl
 present_set (row ∷ rows) zero new = refl
 present_set (row ∷ rows) (suc s) new = ap (λ (l : List Cell). row.present ∷ l) (present_set rows s new)
 
-pub present_same : (rows : List Row) (s : ℕ) (old new : Row) → old ≡ slice_index_or rows s old → new.present ≡ old.present
+pub present_same : (rows : List Row) (s : ℕ) {old : Row} (new : Row) → old ≡ slice_index_or rows s old → new.present ≡ old.present
     → map present_of (slice_set rows s new) ≡ map present_of rows
-present_same [] s old new is same = refl
-present_same (row ∷ rows) zero old new is same = ap (λ (x : Cell). x ∷ map present_of rows) (same ∙ ap present_of is)
-present_same (row ∷ rows) (suc s) old new is same = ap (λ (l : List Cell). row.present ∷ l) (present_same rows s old new is same)
+present_same [] s new is same = refl
+present_same (row ∷ rows) zero new is same = ap (λ (x : Cell). x ∷ map present_of rows) (same ∙ ap present_of is)
+present_same (row ∷ rows) (suc s) {old} new is same = ap (λ (l : List Cell). row.present ∷ l) (present_same rows s new is same)
 
 pub present_settled : (rows : List Row) → map present_of (map settled rows) ≡ map present_of rows
 present_settled [] = refl
@@ -202,17 +201,18 @@ only_settled (row ∷ rows) Before [] left = absurd left
 only_settled (row ∷ rows) Before (x ∷ c) left = λ i. cell_stands row.present (Before 0) x left.0 i
     ∷ only_settled rows (later Before) c left.1 i
 
-pub present_after_sync : (old new : List Row) → new ≡ map settled old → map present_of new ≡ map present_of old
-present_after_sync old new is = ap (λ (rows : List Row). map present_of rows) is ∙ present_settled old
+pub present_after_sync : (old : List Row) {new : List Row} → new ≡ map settled old → map present_of new ≡ map present_of old
+present_after_sync old is = ap (λ (rows : List Row). map present_of rows) is ∙ present_settled old
 
 pub only_after_sync : (old new : List Row) (Before : Reaches) → new ≡ map settled old → (c : List Cell) → CanLeave new Before c
     → c ≡ map present_of new
 only_after_sync old new Before is c left =
-    only_settled old Before c (subst (λ (rows : List Row). CanLeave rows Before c) is left) ∙ sym (present_after_sync old new is)
+    only_settled old Before c (subst (λ (rows : List Row). CanLeave rows Before c) is left) ∙ sym (present_after_sync old is)
 
-pub crash_after_sync : (old new : List Row) (Before Past : Reaches) → new ≡ map settled old → (c : List Cell) → CanLeave new Before c
+pub crash_after_sync : (old : List Row) {new : List Row} (Before Past : Reaches) → new ≡ map settled old → (c : List Cell)
+    → CanLeave new Before c
     → CanLeave old Past c
-crash_after_sync old new Before Past is c left =
+crash_after_sync old Before Past is c left =
     subst (CanLeave old Past) (sym (only_settled old Before c (subst (λ (rows : List Row). CanLeave rows Before c) is left)))
     (present old Past)
 
@@ -280,36 +280,37 @@ pub present_new : (n : ℕ) (x : Cell) → map present_of (replicate n (stands_a
 present_new zero x = refl
 present_new (suc n) x = ap (λ (l : List Cell). x ∷ l) (present_new n x)
 
-length_either : (b : Bool) (x y : Row) (xs ys : List Row) (n : ℕ) → length xs ≡ n → length ys ≡ n
+length_either : (b : Bool) (x y : Row) (xs ys : List Row) {n : ℕ} → length xs ≡ n → length ys ≡ n
     → length (if b then x ∷ xs else y ∷ ys) ≡ n + 1
-length_either true x y xs ys n one two = omega (arith, one)
-length_either false x y xs ys n one two = omega (arith, two)
+length_either true x y xs ys one two = omega (arith, one)
+length_either false x y xs ys one two = omega (arith, two)
 
 pub length-stopped : (choices : List Left) (rest : Left) (rows : List Row) → length (stopped choices rest rows) ≡ length rows
 length-stopped choices rest [] = refl
 length-stopped choices rest (row ∷ rows) =
-    length_either (is_none row.written) _ _ _ _ (length rows) (length-stopped choices rest rows) (length-stopped (drop 1 choices) rest rows)
-    ∙ omega arith
+    length_either (is_none row.written) _ _ _ _ (length-stopped choices rest rows) (length-stopped (drop 1 choices) rest rows) ∙ omega arith
 
 -- the same, of rows that are known by an equation
-pub chosen_by_stop : (choices : List Left) (rest : Left) (old new : List Row) (Before : Reaches) → new ≡ stopped choices rest old
+pub chosen_by_stop : (choices : List Left) (rest : Left) (old : List Row) {new : List Row} (Before : Reaches)
+    → new ≡ stopped choices rest old
     → CanLeave old Before (map present_of new)
-chosen_by_stop choices rest old new Before is =
+chosen_by_stop choices rest old Before is =
     subst (λ (rows : List Row). CanLeave old Before (map present_of rows)) (sym is) (stop_leaves choices rest old Before)
 
-pub only_after_stop : (choices : List Left) (rest : Left) (old new : List Row) (Before : Reaches) → new ≡ stopped choices rest old
+pub only_after_stop : (choices : List Left) (rest : Left) (old : List Row) {new : List Row} (Before : Reaches)
+    → new ≡ stopped choices rest old
     → (c : List Cell) → CanLeave new Before c → c ≡ map present_of new
-only_after_stop choices rest old new Before is c left =
+only_after_stop choices rest old Before is c left =
     stop_is_durable choices rest old Before c (subst (λ (rows : List Row). CanLeave rows Before c) is left)
     ∙ ap (λ (rows : List Row). map present_of rows) (sym is)
 
-pub present_if_new : (n : ℕ) (x : Cell) (rows : List Row) → rows ≡ replicate n (stands_at x) → map present_of rows ≡ replicate n x
-present_if_new n x rows is = ap (λ (l : List Row). map present_of l) is ∙ present_new n x
+pub present_if_new : (n : ℕ) (x : Cell) {rows : List Row} → rows ≡ replicate n (stands_at x) → map present_of rows ≡ replicate n x
+present_if_new n x is = ap (λ (l : List Row). map present_of l) is ∙ present_new n x
 
 pub only_if_new : (n : ℕ) (x : Cell) (rows : List Row) (Before : Reaches) → rows ≡ replicate n (stands_at x) → (c : List Cell)
     → CanLeave rows Before c → c ≡ map present_of rows
 only_if_new n x rows Before is c left = only_new n x Before c (subst (λ (l : List Row). CanLeave l Before c) is left)
-    ∙ sym (present_if_new n x rows is)
+    ∙ sym (present_if_new n x is)
 
 pub lost_row : (rows : List Row) (s : ℕ) (row : Row) → row ≡ stands_at None
     → map present_of (slice_set rows s row) ≡ lose (map present_of rows) s

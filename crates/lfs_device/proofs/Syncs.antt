@@ -6,8 +6,8 @@ use Rattle.lfs_device.specs.File.{MayLeave, present_left, file_state}
 use Rattle.lfs_device.specs.declared.history.Call.{Call}
 use Rattle.lfs_device.specs.declared.history.Call.TheVariants.{Synced}
 
-pub synced_untouched : {n : ℕ} (fate : Fate n) (old new : List Call) → new ≡ Synced ∷ old
+pub synced_untouched : {n : ℕ} (fate : Fate n) (old : List Call) {new : List Call} → new ≡ Synced ∷ old
     → IsUntouched (file_state n fate old) (file_state n fate new)
-synced_untouched {n} fate old new is =
+synced_untouched {n} fate old is =
     subst (λ (calls : List Call). IsUntouched (file_state n fate old) (file_state n fate calls)) (sym is)
     (record { content = refl; crash = λ c left. subst (MayLeave fate old) (sym left) (present_left fate old) })

@@ -41,11 +41,11 @@ synced_other rows s k row apart is = subst (λ (r : Row). settled r ≡ r) (sym 
 apart_from : (k s : ℕ) → nat_eq k s ≡ false → k ≡ s → ⊥
 apart_from k s missing same = false≢true (sym missing ∙ eq-eqb k s same)
 
-neither : (a b : Bool) → a ≡ false → b ≡ false → (a || b) ≡ false
-neither a b first second = subst (λ (x : Bool). (x || b) ≡ false) (sym first) second
+neither : {a b : Bool} → a ≡ false → b ≡ false → (a || b) ≡ false
+neither {b} first second = subst (λ (x : Bool). (x || b) ≡ false) (sym first) second
 
 listed_first : (k s : ℕ) (rest : List ℕ) → (k ≡ s → ⊥) → is_listed k rest ≡ false → is_listed k (s ∷ rest) ≡ false
-listed_first k s rest apart missing = neither (nat_eq k s) (is_listed k rest) (ne_eqb k s apart) missing
+listed_first k s rest apart missing = neither (ne_eqb k s apart) missing
 
 listed_last : (k s : ℕ) (listed : List ℕ) → is_listed k (listed ++ s ∷ []) ≡ false → (is_listed k listed ≡ false) × (k ≡ s → ⊥)
 listed_last k s listed missing =
@@ -61,11 +61,11 @@ synced_next rows s x rest lt others k missing = elim (cases_eq k s) [
   | inr apart ↦ synced_other rows s k (stands_at x) apart (others k (listed_first k s rest apart missing))
 ]
 
-pub settled_set : (rows : List Row) (s : ℕ) (row : Row) → row ≡ slice_index_or rows s row
+pub settled_set : (rows : List Row) (s : ℕ) {row : Row} → row ≡ slice_index_or rows s row
     → map settled (slice_set rows s (settled row)) ≡ map settled rows
-settled_set [] s row is = refl
-settled_set (r ∷ rows) zero row is = ap (λ (x : Row). settled x ∷ map settled rows) is
-settled_set (r ∷ rows) (suc s) row is = ap (λ (l : List Row). settled r ∷ l) (settled_set rows s row is)
+settled_set [] s is = refl
+settled_set (r ∷ rows) zero is = ap (λ (x : Row). settled x ∷ map settled rows) is
+settled_set (r ∷ rows) (suc s) {row} is = ap (λ (l : List Row). settled r ∷ l) (settled_set rows s is)
 
 all_synced : (rows : List Row) → ((k : ℕ) → IsSyncedAt rows k) → map settled rows ≡ rows
 all_synced [] each = refl
@@ -77,20 +77,20 @@ pub record Settling (old rows : List Row) (listed : List ℕ) (i : ℕ) : Type 0
   pub same : map settled rows ≡ map settled old
   pub others : (k : ℕ) → is_listed k (drop i listed) ≡ false → IsSyncedAt rows k
 
-pub settling_begins : (old : List Row) (listed : List ℕ) → IsUnsyncedList listed old → Settling old old listed 0
-settling_begins old listed is = record { long = refl; same = refl; others = is.others }
+pub settling_begins : {old : List Row} {listed : List ℕ} → IsUnsyncedList listed old → Settling old old listed 0
+settling_begins is = record { long = refl; same = refl; others = is.others }
 
-module _ (old rows : List Row) (listed : List ℕ) (is : IsUnsyncedList listed old) (i : ℕ) (was : Settling old rows listed i) where
+module _ {old rows : List Row} {listed : List ℕ} (is : IsUnsyncedList listed old) {i : ℕ} (was : Settling old rows listed i) where
   pub settling_within : i < length listed → get_or listed i 0 < length rows
   settling_within inside = let lt = is.within i 0 inside in let long = was.long in omega (arith, lt, long)
 
-  pub settling_next : i < length listed → (row new : Row) → row ≡ get_or rows (get_or listed i 0) row → new ≡ stands_at row.present
+  pub settling_next : i < length listed → {row new : Row} → row ≡ get_or rows (get_or listed i 0) row → new ≡ stands_at row.present
       → Settling old (slice_set rows (get_or listed i 0) new) listed (i + 1)
-  settling_next inside row new own stands =
+  settling_next inside {row} own stands =
       let s : ℕ = get_or listed i 0 in
       subst (λ (r : Row). Settling old (slice_set rows s r) listed (i + 1)) (sym stands) (record {
         long = length-set rows s (stands_at row.present) ∙ was.long;
-        same = settled_set rows s row own ∙ was.same;
+        same = settled_set rows s own ∙ was.same;
         others = synced_next rows s row.present (drop (i + 1) listed) (settling_within inside)
             (subst (λ (l : List ℕ). (k : ℕ) → is_listed k l ≡ false → IsSyncedAt rows k) (drop_more listed i 0 inside) was.others);
       })
@@ -108,8 +108,8 @@ each_settled [] k = refl
 each_settled (row ∷ rows) zero = refl
 each_settled (row ∷ rows) (suc k) = each_settled rows k
 
-pub none_after_sync : (listed : List ℕ) (old new : List Row) → listed ≡ [] → new ≡ map settled old → IsUnsyncedList listed new
-none_after_sync listed old new none is =
+pub none_after_sync : {listed : List ℕ} (old new : List Row) → listed ≡ [] → new ≡ map settled old → IsUnsyncedList listed new
+none_after_sync old new none is =
     subst (λ (l : List ℕ). IsUnsyncedList l new) (sym none)
     (subst (IsUnsyncedList []) (sym is) (none_listed (map settled old) (each_settled old)))
 
@@ -118,9 +118,9 @@ each_new zero x k = refl
 each_new (suc n) x zero = refl
 each_new (suc n) x (suc k) = each_new n x k
 
-pub none_if_new : (listed : List ℕ) (n : ℕ) (x : Cell) (rows : List Row) → listed ≡ [] → rows ≡ replicate n (stands_at x)
+pub none_if_new : {listed : List ℕ} (n : ℕ) (x : Cell) (rows : List Row) → listed ≡ [] → rows ≡ replicate n (stands_at x)
     → IsUnsyncedList listed rows
-none_if_new listed n x rows none is =
+none_if_new n x rows none is =
     subst (λ (l : List ℕ). IsUnsyncedList l rows) (sym none)
     (subst (IsUnsyncedList []) (sym is) (none_listed (replicate n (stands_at x)) (each_new n x)))
 
@@ -138,9 +138,9 @@ each_stopped choices rest (row ∷ rows) k =
     (stopped (drop 1 choices) rest rows)
     (each_stopped choices rest rows) (each_stopped (drop 1 choices) rest rows) k
 
-pub none_after_stop : (listed : List ℕ) (choices : List Left) (rest : Left) (old new : List Row) → listed ≡ []
+pub none_after_stop : {listed : List ℕ} (choices : List Left) (rest : Left) (old new : List Row) → listed ≡ []
     → new ≡ stopped choices rest old → IsUnsyncedList listed new
-none_after_stop listed choices rest old new none is =
+none_after_stop choices rest old new none is =
     subst (λ (l : List ℕ). IsUnsyncedList l new) (sym none)
     (subst (IsUnsyncedList []) (sym is) (none_listed (stopped choices rest old) (each_stopped choices rest old)))
 
@@ -169,11 +169,11 @@ some_not_none : (x : Cell) → IsSome x → is_none x ≡ false
 some_not_none None some = absurd (false≢true some)
 some_not_none (Some bytes) some = refl
 
-synced_not_written : (row : Row) → settled row ≡ row → written_once row ≡ 0
-synced_not_written row is = sym (ap written_once is)
+synced_not_written : {row : Row} → settled row ≡ row → written_once row ≡ 0
+synced_not_written is = sym (ap written_once is)
 
 -- a sector is written
-module _ (listed : List ℕ) (rows : List Row) (s : ℕ) (is : IsUnsyncedList listed rows) (lt : s < length rows) where
+module _ {listed : List ℕ} {rows : List Row} (s : ℕ) (is : IsUnsyncedList listed rows) (lt : s < length rows) where
   pub room_left : is_none (at rows s).written ≡ true → length listed < length rows
   room_left none =
       let few = is.few in
@@ -189,7 +189,7 @@ module _ (listed : List ℕ) (rows : List Row) (s : ℕ) (is : IsUnsyncedList li
   pub listed_again : is_none (at rows s).written ≡ false → (row : Row) → IsSome row.written → IsUnsyncedList listed (slice_set rows s row)
   listed_again some row now = record {
     within = within_set row;
-    others = λ k missing. synced_other rows s k row (λ same. let zero_ = synced_not_written (at rows s) (subst (IsSyncedAt rows) same
+    others = λ k missing. synced_other rows s k row (λ same. let zero_ = synced_not_written (subst (IsSyncedAt rows) same
         (is.others k missing)) in let one = was_written (at rows s) some in omega (arith, zero_, one)) (is.others k missing);
     few = let few = is.few in let set = count_set rows s row lt in let one = was_written (at rows s) some in
         let new = was_written row (some_not_none row.written now) in omega (arith, few, set, one, new);
@@ -213,15 +213,15 @@ module _ (listed : List ℕ) (rows : List Row) (s : ℕ) (is : IsUnsyncedList li
   abbrev others_of : List ℕ → List ℕ
   others_of l = filter (λ t. not (nat_eq t s)) l
 
-  kept_listed : (l : List ℕ) (k : ℕ) → (k ≡ s → ⊥) → is_listed k (others_of l) ≡ false → is_listed k l ≡ false
-  kept_listed [] k apart missing = refl
-  kept_listed (t ∷ l) k apart missing = elim (cases_eq t s) [
-    | inl same ↦ listed_first k t l (λ too. apart (too ∙ same)) (kept_listed l k apart
+  kept_listed : (l : List ℕ) {k : ℕ} → (k ≡ s → ⊥) → is_listed k (others_of l) ≡ false → is_listed k l ≡ false
+  kept_listed [] apart missing = refl
+  kept_listed (t ∷ l) {k} apart missing = elim (cases_eq t s) [
+    | inl same ↦ listed_first k t l (λ too. apart (too ∙ same)) (kept_listed l apart
         (subst (λ (b : Bool). is_listed k (cond (not b) (t ∷ others_of l) (others_of l)) ≡ false) (eq-eqb t s same) missing))
     | inr other ↦
         let parts = or_parts (nat_eq k t) (is_listed k (others_of l))
         (subst (λ (b : Bool). is_listed k (cond (not b) (t ∷ others_of l) (others_of l)) ≡ false) (ne_eqb t s other) missing) in
-        listed_first k t l (apart_from k t parts.0) (kept_listed l k apart parts.1)
+        listed_first k t l (apart_from k t parts.0) (kept_listed l apart parts.1)
   ]
 
   no_longer : (l : List ℕ) → length (others_of l) ≤ length l
@@ -250,25 +250,25 @@ module _ (listed : List ℕ) (rows : List Row) (s : ℕ) (is : IsUnsyncedList li
       let less = shorter listed found in
       let none = ap written_once unreadable in omega (arith, few, set, most, less, none)
   few_kept row unreadable false missing =
-      let few = is.few in let set = count_set rows s row lt in let before = synced_not_written (at rows s) (is.others s missing) in
+      let few = is.few in let set = count_set rows s row lt in let before = synced_not_written (is.others s missing) in
       let less = no_longer listed in
       let none = ap written_once unreadable in omega (arith, few, set, before, less, none)
 
-  pub let_go_of : (new : List ℕ) (row : Row) → new ≡ others_of listed → row ≡ no_row → IsUnsyncedList new (slice_set rows s row)
-  let_go_of new row are unreadable = subst (λ (l : List ℕ). IsUnsyncedList l (slice_set rows s row)) (sym are) (record {
+  pub let_go_of : {new : List ℕ} (row : Row) → new ≡ others_of listed → row ≡ no_row → IsUnsyncedList new (slice_set rows s row)
+  let_go_of row are unreadable = subst (λ (l : List ℕ). IsUnsyncedList l (slice_set rows s row)) (sym are) (record {
     within = All-filter (λ t. not (nat_eq t s)) (λ t. t < length (slice_set rows s row)) listed (within_set row);
     others = λ k missing. elim (cases_eq k s) [
       | inl same ↦ subst (IsSyncedAt (slice_set rows s row)) (sym same)
           (subst (λ (r : Row). IsSyncedAt (slice_set rows s r) s) (sym unreadable) (synced_same rows s None lt))
-      | inr apart ↦ synced_other rows s k row apart (is.others k (kept_listed listed k apart missing))
+      | inr apart ↦ synced_other rows s k row apart (is.others k (kept_listed listed apart missing))
     ];
     few = few_kept row unreadable (is_listed s listed) refl;
   })
 
 -- the row that is looked at
-pub looked_at : (rows : List Row) (s : ℕ) (row : Row) (b : Bool) → s < length rows → row ≡ slice_index_or rows s row
+pub looked_at : (rows : List Row) (s : ℕ) {row : Row} (b : Bool) → s < length rows → row ≡ slice_index_or rows s row
     → is_none row.written ≡ b → is_none (slice_index_or rows s no_row).written ≡ b
-looked_at rows s row b lt own is = ap (λ (r : Row). is_none r.written) (get_or_default rows s no_row row lt ∙ sym own) ∙ is
+looked_at rows s {row} b lt own is = ap (λ (r : Row). is_none r.written) (get_or_default rows s no_row row lt ∙ sym own) ∙ is
 
 -- there stays room for as many numbers as there are sectors
 pub room_set : (rows : List Row) (s : ℕ) (row : Row) (room : ℕ) → length rows ≤ room → length (slice_set rows s row) ≤ room

@@ -12,11 +12,11 @@ use Rattle.lfs_device.specs.Rows.{IsSectorRow, AreSectorRows, stands_at, settled
 pub whole_at : (x : Cell) → IsSector x → IsSectorRow (stands_at x)
 whole_at x has = record { present = has; synced = has; written = tt }
 
-pub whole_row : (rows : List Row) (s : ℕ) (row : Row) → row ≡ slice_index_or rows s row → AreSectorRows rows → s < length rows
+pub whole_row : (rows : List Row) (s : ℕ) {row : Row} → row ≡ slice_index_or rows s row → AreSectorRows rows → s < length rows
     → IsSectorRow row
-whole_row [] s row is whole lt = absurd (omega arith)
-whole_row (r ∷ rows) zero row is whole lt = subst IsSectorRow (sym is) whole.0
-whole_row (r ∷ rows) (suc s) row is whole lt = whole_row rows s row is whole.1 (omega arith)
+whole_row [] s is whole lt = absurd (omega arith)
+whole_row (r ∷ rows) zero is whole lt = subst IsSectorRow (sym is) whole.0
+whole_row (r ∷ rows) (suc s) {row} is whole lt = whole_row rows s is whole.1 (omega arith)
 
 pub whole_set : (rows : List Row) (s : ℕ) (row : Row) → IsSectorRow row → AreSectorRows rows → AreSectorRows (slice_set rows s row)
 whole_set rows s row has whole = all_set IsSectorRow rows s row has whole
@@ -25,13 +25,13 @@ whole_settled : (rows : List Row) → AreSectorRows rows → AreSectorRows (map 
 whole_settled [] whole = tt
 whole_settled (row ∷ rows) whole = (whole_at row.present whole.0.present, whole_settled rows whole.1)
 
-pub whole_after_sync : (old new : List Row) → new ≡ map settled old → AreSectorRows old → AreSectorRows new
-whole_after_sync old new is whole = subst AreSectorRows (sym is) (whole_settled old whole)
+pub whole_after_sync : (old : List Row) {new : List Row} → new ≡ map settled old → AreSectorRows old → AreSectorRows new
+whole_after_sync old is whole = subst AreSectorRows (sym is) (whole_settled old whole)
 
-whole_chosen : (choice : Left) (row : Row) → IsSectorRow row → IsSector (chosen choice row)
-whole_chosen Old row whole = whole.synced
-whole_chosen New row whole = whole.written
-whole_chosen Bad row whole = tt
+whole_chosen : (choice : Left) {row : Row} → IsSectorRow row → IsSector (chosen choice row)
+whole_chosen Old whole = whole.synced
+whole_chosen New whole = whole.written
+whole_chosen Bad whole = tt
 
 either : (b : Bool) (xs ys : List Row) → AreSectorRows xs → AreSectorRows ys → AreSectorRows (if b then xs else ys)
 either true xs ys one two = one
@@ -42,16 +42,17 @@ whole_stopped choices rest [] whole = tt
 whole_stopped choices rest (row ∷ rows) whole =
     either (is_none row.written) _ _
     (whole_at row.present whole.0.present, whole_stopped choices rest rows whole.1) (
-      whole_at (chosen (first_or rest choices) row) (whole_chosen (first_or rest choices) row whole.0),
+      whole_at (chosen (first_or rest choices) row) (whole_chosen (first_or rest choices) whole.0),
       whole_stopped (drop 1 choices) rest rows whole.1,
     )
 
-pub whole_after_stop : (choices : List Left) (rest : Left) (old new : List Row) → new ≡ stopped choices rest old → AreSectorRows old
+pub whole_after_stop : (choices : List Left) (rest : Left) (old : List Row) {new : List Row} → new ≡ stopped choices rest old
+    → AreSectorRows old
     → AreSectorRows new
-whole_after_stop choices rest old new is whole = subst AreSectorRows (sym is) (whole_stopped choices rest old whole)
+whole_after_stop choices rest old is whole = subst AreSectorRows (sym is) (whole_stopped choices rest old whole)
 
-pub whole_if_new : (n : ℕ) (x : Cell) (rows : List Row) → IsSector x → rows ≡ replicate n (stands_at x) → AreSectorRows rows
-whole_if_new n x rows has is = subst AreSectorRows (sym is) (all_same IsSectorRow n (stands_at x) (whole_at x has))
+pub whole_if_new : (n : ℕ) (x : Cell) {rows : List Row} → IsSector x → rows ≡ replicate n (stands_at x) → AreSectorRows rows
+whole_if_new n x has is = subst AreSectorRows (sym is) (all_same IsSectorRow n (stands_at x) (whole_at x has))
 
 pub fits_set : (rows : List Row) (s : ℕ) (row : Row) → length rows < 2 ^ 32 → length (slice_set rows s row) < 2 ^ 32
 fits_set rows s row fits = omega (arith, fits, length-set rows s row)

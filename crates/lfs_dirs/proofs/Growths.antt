@@ -7,16 +7,16 @@ use Rattle.lfs_dirs.specs.Growing.{GrowsDirectory}
 use Rattle.lfs_dirs.proofs.Widths.{slot_some}
 
 module _ {S D : Type 0} where
-  pub slot_grows : (s s' : FilesState S D) (d : ℕ) (head : Header) (at : ℕ) (slot : List ℕ) → length slot ≡ slot_len head.form
+  pub slot_grows : {s s' : FilesState S D} {d : ℕ} {head : Header} {at : ℕ} {slot : List ℕ} → length slot ≡ slot_len head.form
       → Writes s s' d head at slot → GrowsDirectory s s' 1 2
-  slot_grows s s' d head at slot long writes = record {
+  slot_grows {head} long writes = record {
     headers = writes.headers;
     blocks = let more = writes.blocks in let most = (slot_some head.form).1 in omega (arith, more, long, most);
   }
 
   -- a draft that is only read before
-  pub grows_behind : (s a s' : FilesState S D) (h k : ℕ) → Reads s a → GrowsDirectory a s' h k → GrowsDirectory s s' h k
-  grows_behind s a s' h k reads grows = record {
+  pub grows_behind : {s a s' : FilesState S D} (h k : ℕ) → Reads s a → GrowsDirectory a s' h k → GrowsDirectory s s' h k
+  grows_behind h k reads grows = record {
     headers = let same = reads.headers in let more = grows.headers in omega (arith, same, more);
     blocks = let same = reads.blocks in let more = grows.blocks in omega (arith, same, more);
   }

@@ -30,11 +30,11 @@ puts_none form block count es behind is =
     subst (λ (a : List (List ℕ)). IsGatheredOf form (a ++ behind) es) (sym (no_slots form block count count (omega arith))) is
 
 -- a slot before those that are there
-pub puts_more : (form : ℕ) (block : List ℕ) (count place next : ℕ) (slot : List ℕ) (old mid new : List Entry) → 0 < place → place ≤ count
+pub puts_more : (form : ℕ) (block : List ℕ) (count place next : ℕ) {slot : List ℕ} (old mid new : List Entry) → 0 < place → place ≤ count
     → next ≡ place - 1 → slot ≡ part (slot_len form * next) (slot_len form) block
     → PutsSlots form (slots_in form block place (count - place)) old mid → gathered new ≡ with_slot (slot_in form slot) (gathered mid)
     → slot_in form slot ≢ None → PutsSlots form (slots_in form block next (count - next)) old new
-puts_more form block count place next slot old mid new some le before own was more formed behind is =
+puts_more form block count place next {slot} old mid new some le before own was more formed behind is =
     let here : next + 1 ≡ place = omega (arith, some, before) in
     let split : slots_in form block next (count - next) ≡ slot ∷ slots_in form block place (count - place) =
     next_slot form block next count (omega (arith, le, some, before))
@@ -63,7 +63,7 @@ module _ {S D : Type 0} (s s' : FilesState S D) (form d index count : ℕ) (few 
           (sym (slots_of_block m' d head index count block (told m m' keeps has) few room)) puts)
 
   pub block_malformed : HasNoSlot form block count → LacksBlockSlot s s' form d index count
-  block_malformed bad m m' keeps has head same room formed = each_is_slot m' d head index count block (told m m' keeps has)
+  block_malformed bad m m' keeps has head same room formed = each_is_slot m' d head (told m m' keeps has)
       (subst (λ (f : ℕ). count ≤ per_block f) (sym same) few)
       (subst (λ (f : ℕ). per_block f * index + count ≤ slot_count head) (sym same) room) formed
       (subst (λ (f : ℕ). HasNoSlot f block count) (sym same) bad)
@@ -80,29 +80,30 @@ module _ {S D : Type 0} (d : ℕ) (head : Header) where
     pub names : (m m' : LogMap) → s'.device.keeps_model → s.has m m'
         → IsGatheredOf head.form (drop (per_block head.form * index) (slots_at m' d head)) es
 
-  pub list_begins : (s : FilesState S D) (index : ℕ) (es : List Entry) → es ≡ [] → slot_count head ≤ per_block head.form * index
+  pub list_begins : (s : FilesState S D) (index : ℕ) {es : List Entry} → es ≡ [] → slot_count head ≤ per_block head.form * index
       → ListedFrom s s index es
-  list_begins s index es none past = record {
+  list_begins s index {es} none past = record {
     reads = reads_none s;
     names = λ m m' keeps has. let many = slots_many m' d head in
         subst (λ (a : List (List ℕ)). IsGatheredOf head.form a es) (sym (drop_all (per_block head.form * index) (slots_at m' d head)
         (omega (arith, many, past)))) (record { names = ap gathered none; formed = tt });
   }
 
-  pub list_ends : (s a : FilesState S D) (index : ℕ) (es ordered : List Entry) → index ≡ 0 → ListedFrom s a index es
+  pub list_ends : {s a : FilesState S D} {index : ℕ} {es : List Entry} (ordered : List Entry) → index ≡ 0 → ListedFrom s a index es
       → pairs ordered ≡ gathered es → Inspects s a d head ordered
-  list_ends s a index es ordered all was is m m' keeps has =
+  list_ends {index} {es} ordered all was is m m' keeps has =
       let first : per_block head.form * index ≡ 0 = ap (λ (i : ℕ). per_block head.form * i) all ∙ omega arith in
       let from : IsGatheredOf head.form (slots_at m' d head) es =
       subst (λ (n : ℕ). IsGatheredOf head.form (drop n (slots_at m' d head)) es) first (was.names m m' keeps has) in
       record { names = is ∙ from.names; formed = from.formed }
 
-  module _ (s a b : FilesState S D) (index next count : ℕ) (old : List Entry) (is : count ≡ min (slot_count head - per_block head.form
+  module _ {s a : FilesState S D} (b : FilesState S D) {index : ℕ} (next : ℕ) {count : ℕ} {old : List Entry}
+      (is : count ≡ min (slot_count head - per_block head.form
       * next) (per_block head.form)) (low : per_block head.form * next < slot_count head) (was : ListedFrom s a index old) where
     pub list_goes_on : (new : List Entry) → IsLawful s.device → 0 < index → next ≡ index - 1 → Reads a b
         → ListsBlock a b head.form d next count old new → ListedFrom s b next new
     list_goes_on new lawful some before reads lists = record {
-      reads = reads_more s a b lawful was.reads reads;
+      reads = reads_more lawful was.reads reads;
       names = λ m m' keeps has.
           let slots = slots_at m' d head in
           let here : index ≡ next + 1 = omega (arith, some, before) in
@@ -110,7 +111,7 @@ module _ {S D : Type 0} (d : ℕ) (head : Header) where
           (was.names m m' (reads.looks.carries.kept_before keeps) has) in
           subst (λ (a : List (List ℕ)). IsGatheredOf head.form a new)
           (ap (λ (j : ℕ). take count (drop (per_block head.form * next) slots) ++ drop (per_block head.form * j) slots) here
-          ∙ sym (block_and_rest head.form slots next count (slot_count head) (slots_many m' d head) is)) more;
+          ∙ sym (block_and_rest head.form slots next (slots_many m' d head) is)) more;
     }
 
     pub list_fails : IsBlockFault a b head.form d next count → IsDirectoryFault s b d head

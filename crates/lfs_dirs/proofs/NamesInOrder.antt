@@ -41,7 +41,7 @@ name_order = on_total (λ (e : Entry). e.name.items) nat_list_cmp_total
 
 same_is_tied : (x y : Entry) → same_name x y ≡ eq_by_cmp by_name x y
 same_is_tied x y = elim (same_name x y) as (λ b. same_name x y ≡ b → b ≡ eq_by_cmp byte_cmp x.name.items y.name.items) [
-  | true ↦ λ e. sym (ties x.name.items y.name.items ((bytes_eq-Decides x.name.items y.name.items).0 e))
+  | true ↦ λ e. sym (ties ((bytes_eq-Decides x.name.items y.name.items).0 e))
   | false ↦ λ e. sym (apart x.name.items y.name.items (λ is. false≢true (sym e ∙ (bytes_eq-Decides x.name.items y.name.items).1 is)))
 ] refl
 
@@ -165,9 +165,9 @@ same_finds xs ys moved stable q = elim (is_some (find byte_cmp q (pairs xs)))
     ] refl
 
 -- ---- entries that are sorted, and of each name the first
-pub ordered : (xs ys zs : List Entry) → IsPermutation xs ys → IsStableBy comes_before xs ys → IsSortedBy comes_before ys
+pub ordered : (xs ys : List Entry) {zs : List Entry} → IsPermutation xs ys → IsStableBy comes_before xs ys → IsSortedBy comes_before ys
     → zs ≡ dedup same_name ys → pairs zs ≡ first_of_each (pairs xs)
-ordered xs ys zs moved stable sorted is =
+ordered xs ys moved stable sorted is =
     ap pairs is
     ∙ same_entries byte_cmp nat_list_cmp_total (slice_cmp-IsAntisymmetric nat_cmp-IsAntisymmetric) (pairs (dedup same_name ys))
     (first_of_each (pairs xs))

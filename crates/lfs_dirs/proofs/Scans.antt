@@ -37,13 +37,12 @@ module _ (form : ℕ) where
     ScannedTo at = find byte_cmp name (map_of form (slots_in form block at (count - at)))
         ≡ find byte_cmp name (map_of form (first_slots form block count))
 
-    pub scan_hit : (at : ℕ) (n : FileNumber) (s : SlotValue) → at < count → ScannedTo at
+    pub scan_hit : (at : ℕ) (n : FileNumber) {s : SlotValue} → at < count → ScannedTo at
         → slot_in form (part (slot_len form * at) (slot_len form) block) ≡ Some s → name ≡ s.name → n.value ≡ s.number
         → IsSlotOf form (first_slots form block count) name record { place = at; number = n }
-    scan_hit at n s low was is same number = record {
+    scan_hit at n {s} low was is same number = record {
       gives =
-          sym was ∙ ap (λ (a : List (List ℕ)). find byte_cmp name (map_of form a)) (next_slot block at count low)
-          ∙ found_first name s (slot_in form (part (slot_len form * at) (slot_len form) block))
+          sym was ∙ ap (λ (a : List (List ℕ)). find byte_cmp name (map_of form a)) (next_slot block at count low) ∙ found_first s
           (map_of form (slots_in form block (at + 1) (count - (at + 1)))) is same ∙ ap Some (sym number);
       inside = let many = block_slots_many form block 0 count in omega (arith, many, low);
       slot =

@@ -31,10 +31,10 @@ all_at P (x ∷ xs) zero d all low = all.0
 all_at P (x ∷ xs) (suc j) d all low = all_at P xs j d all.1 (omega (arith, low))
 
 -- the slots from a block on are those of the block, of which the last may have fewer than the others, and those behind
-pub block_and_rest : (form : ℕ) (a : List (List ℕ)) (index count all : ℕ) → length a ≡ all
+pub block_and_rest : (form : ℕ) (a : List (List ℕ)) (index : ℕ) {count all : ℕ} → length a ≡ all
     → count ≡ min (all - per_block form * index) (per_block form)
     → drop (per_block form * index) a ≡ take count (drop (per_block form * index) a) ++ drop (per_block form * (index + 1)) a
-block_and_rest form a index count all long is =
+block_and_rest form a index {count} {all} long is =
     sym (take-append-drop count (drop (per_block form * index) a))
     ∙ ap (λ (b : List (List ℕ)). take count (drop (per_block form * index) a) ++ b) (drop-drop count (per_block form * index) a ∙ rest)
   where
@@ -51,15 +51,15 @@ block_and_rest form a index count all long is =
 
 -- ---- one block
 -- where an object's slots are, each slot of its block is one
-pub each_is_slot : (m : LogMap) (d : ℕ) (head : Header) (i count : ℕ) (block : List ℕ) → HoldsBlock m d i block
+pub each_is_slot : (m : LogMap) (d : ℕ) (head : Header) {i count : ℕ} {block : List ℕ} → HoldsBlock m d i block
     → count ≤ per_block head.form → per_block head.form * i + count ≤ slot_count head → AreSlots head.form (slots_at m d head)
     → HasNoSlot head.form block count → ⊥
-each_is_slot m d head i count block is few room formed bad =
+each_is_slot m d head {i} {block} is few room formed bad =
     let inside = bad.inside in
     let many = slots_many m d head in
     let low : per_block head.form * i + bad.place < slot_count head = omega (arith, inside, room) in
     all_at (λ b. slot_in head.form b ≢ None) (slots_at m d head) (per_block head.form * i + bad.place) [] formed (omega (arith, low, many))
-    (ap (slot_in head.form) (slot_of_block m d head i bad.place block is (omega (arith, inside, few)) low) ∙ bad.none)
+    (ap (slot_in head.form) (slot_of_block m d head bad.place is (omega (arith, inside, few)) low) ∙ bad.none)
 
 module _ {S D : Type 0} (s s' : FilesState S D) (form d index count : ℕ) (few : count ≤ per_block form) (block : List ℕ)
     (told : TellsBlock s s' d index block) where
@@ -78,7 +78,7 @@ module _ {S D : Type 0} (s s' : FilesState S D) (form d index count : ℕ) (few 
           (sym (slots_of_block m' d head index count block (told m m' keeps has) few room)) is)
 
   pub block_broken : HasNoSlot form block count → IsBlockFault s s' form d index count
-  block_broken bad m m' keeps has head same room dir = absurd (each_is_slot m' d head index count block (told m m' keeps has)
+  block_broken bad m m' keeps has head same room dir = absurd (each_is_slot m' d head (told m m' keeps has)
       (subst (λ (f : ℕ). count ≤ per_block f) (sym same) few)
       (subst (λ (f : ℕ). per_block f * index + count ≤ slot_count head) (sym same) room) dir.formed
       (subst (λ (f : ℕ). HasNoSlot f block count) (sym same) bad))
@@ -120,23 +120,23 @@ module _ {S D : Type 0} (d : ℕ) (head : Header) (name : List ℕ) where
         → find byte_cmp name (map_of head.form (drop (per_block head.form * index) (slots_at m' d head)))
         ≡ find byte_cmp name (names_at m' d head)
 
-  pub search_ends : (s a : FilesState S D) (index : ℕ) → slot_count head ≤ per_block head.form * index → SearchedTo s a index
+  pub search_ends : {s a : FilesState S D} {index : ℕ} → slot_count head ≤ per_block head.form * index → SearchedTo s a index
       → FindsSlot s a d head name None
-  search_ends s a index past was m m' keeps has =
+  search_ends {s} {index} past was m m' keeps has =
       let slots = slots_at m' d head in
       let many = slots_many m' d head in
       sym (was.behind m m' keeps has) ∙ ap (λ (s : List (List ℕ)). find byte_cmp name (map_of head.form s))
       (drop_all (per_block head.form * index) slots (omega (arith, many, past)))
 
   -- ---- a block more
-  module _ (s a b : FilesState S D) (index : ℕ) (was : SearchedTo s a index) where
+  module _ {s a : FilesState S D} (b : FilesState S D) {index : ℕ} (was : SearchedTo s a index) where
     pub search_goes_on : IsLawful s.device → Reads a b → FindsInNth a b d head index name None → SearchedTo s b (index + 1)
     search_goes_on lawful reads none = record {
-      reads = reads_more s a b lawful was.reads reads;
+      reads = reads_more lawful was.reads reads;
       behind = λ m m' keeps has.
           let slots = slots_at m' d head in
           sym (ap (λ (s : List (List ℕ)). find byte_cmp name (map_of head.form s))
-          (block_and_rest head.form slots index (count_in_nth head index) (slot_count head) (slots_many m' d head) refl)
+          (block_and_rest head.form slots index {count = count_in_nth head index} (slots_many m' d head) refl)
           ∙ gives_none head.form (slots_in_nth m' d head index) (drop (per_block head.form * (index + 1)) slots) name
           (none m m' keeps (was.reads.has m m' has)))
           ∙ was.behind m m' (reads.looks.carries.kept_before keeps) has;
@@ -150,7 +150,7 @@ module _ {S D : Type 0} (d : ℕ) (head : Header) (name : List ℕ) where
           gives =
               sym (was.behind m m' (reads.looks.carries.kept_before keeps) has)
               ∙ ap (λ (s : List (List ℕ)). find byte_cmp name (map_of head.form s))
-              (block_and_rest head.form slots index (count_in_nth head index) (slot_count head) (slots_many m' d head) refl)
+              (block_and_rest head.form slots index {count = count_in_nth head index} (slots_many m' d head) refl)
               ∙ gives_some head.form (slots_in_nth m' d head index) (drop (per_block head.form * (index + 1)) slots) name found.number.value
               slot.gives;
           inside = slot.inside;

@@ -26,8 +26,8 @@ equal_order Greater e = absurd (cc)
 pub tied : (x y : List ℕ) → eq_by_cmp byte_cmp x y ≡ true → x ≡ y
 tied x y e = slice_cmp-IsAntisymmetric nat_cmp-IsAntisymmetric x y (equal_order (byte_cmp x y) e)
 
-pub ties : (x y : List ℕ) → x ≡ y → eq_by_cmp byte_cmp x y ≡ true
-ties x y e = subst (λ (z : List ℕ). eq_by_cmp byte_cmp x z ≡ true) e (ap is_eq (tied_itself nat_list_cmp_total x))
+pub ties : {x y : List ℕ} → x ≡ y → eq_by_cmp byte_cmp x y ≡ true
+ties {x} e = subst (λ (z : List ℕ). eq_by_cmp byte_cmp x z ≡ true) e (ap is_eq (tied_itself nat_list_cmp_total x))
 
 pub apart : (x y : List ℕ) → x ≢ y → eq_by_cmp byte_cmp x y ≡ false
 apart x y ne = elim (eq_by_cmp byte_cmp x y) as (λ b. eq_by_cmp byte_cmp x y ≡ b → b ≡ false)
@@ -38,15 +38,15 @@ found_with : (name : List ℕ) (s : SlotValue) (m : Names)
     → find byte_cmp name (with_slot (Some s) m) ≡ cond (eq_by_cmp byte_cmp name s.name) (Some s.number) (find byte_cmp name m)
 found_with name s m = find-put byte_cmp nat_list_cmp_total name s.name s.number m
 
-pub found_first : (name : List ℕ) (s : SlotValue) (o : Option SlotValue) (m : Names) → o ≡ Some s → name ≡ s.name
+pub found_first : {name : List ℕ} (s : SlotValue) {o : Option SlotValue} (m : Names) → o ≡ Some s → name ≡ s.name
     → find byte_cmp name (with_slot o m) ≡ Some s.number
-found_first name s o m is same =
+found_first {name} s m is same =
     ap (λ (x : Option SlotValue). find byte_cmp name (with_slot x m)) is ∙ found_with name s m
-    ∙ ap (λ b. cond b (Some s.number) (find byte_cmp name m)) (ties name s.name same)
+    ∙ ap (λ b. cond b (Some s.number) (find byte_cmp name m)) (ties same)
 
-pub found_behind : (name : List ℕ) (s : SlotValue) (o : Option SlotValue) (m : Names) → o ≡ Some s → name ≢ s.name
+pub found_behind : (name : List ℕ) (s : SlotValue) {o : Option SlotValue} (m : Names) → o ≡ Some s → name ≢ s.name
     → find byte_cmp name (with_slot o m) ≡ find byte_cmp name m
-found_behind name s o m is other =
+found_behind name s m is other =
     ap (λ (x : Option SlotValue). find byte_cmp name (with_slot x m)) is ∙ found_with name s m
     ∙ ap (λ b. cond b (Some s.number) (find byte_cmp name m)) (apart name s.name other)
 
@@ -54,7 +54,7 @@ found_behind name s o m is other =
 pub found_past : (name : List ℕ) (o : Option SlotValue) (m : Names) → ((s : SlotValue) → o ≡ Some s → name ≢ s.name)
     → find byte_cmp name (with_slot o m) ≡ find byte_cmp name m
 found_past name None m other = refl
-found_past name (Some s) m other = found_behind name s (Some s) m refl (other s refl)
+found_past name (Some s) m other = found_behind name s {o = Some s} m refl (other s refl)
 
 -- ---- slots behind others
 first_some : (o : Option SlotValue) (m m' : Names) (name : List ℕ) (n : ℕ) → (find byte_cmp name m ≡ Some n
@@ -99,15 +99,15 @@ module _ (form : ℕ) where
   sorted_names (x ∷ a) = sorted_slot (slot_in form x) (map_of form a) (sorted_names a)
 
   -- names that answer alike are the same
-  pub same_names : (m m' : Names) → T (is_sorted byte_cmp m) → T (is_sorted byte_cmp m')
+  pub same_names : {m m' : Names} → T (is_sorted byte_cmp m) → T (is_sorted byte_cmp m')
       → ((name : List ℕ) → find byte_cmp name m ≡ find byte_cmp name m') → m ≡ m'
-  same_names m m' order order' same =
+  same_names {m} {m'} order order' same =
       same_entries byte_cmp nat_list_cmp_total (slice_cmp-IsAntisymmetric nat_cmp-IsAntisymmetric) m m' order order' same
 
   -- ---- a slot behind the others
   module _ (s : SlotValue) (fits : FitsSlot form s) where
     spelt : slot_in form (slot_bytes form s) ≡ Some s
-    spelt = slot_some form (slot_bytes form s) s fits refl
+    spelt = slot_some form (slot_bytes form s) fits refl
 
     alone : (name : List ℕ)
         → find byte_cmp name (map_of form (slot_bytes form s ∷ [])) ≡ cond (eq_by_cmp byte_cmp name s.name) (Some s.number) None
@@ -131,8 +131,7 @@ module _ (form : ℕ) where
     pub appended : (a : List (List ℕ)) → find byte_cmp s.name (map_of form a) ≡ None
         → map_of form (a ++ slot_bytes form s ∷ []) ≡ put byte_cmp s.name s.number (map_of form a)
     appended a new =
-        same_names (map_of form (a ++ slot_bytes form s ∷ [])) (put byte_cmp s.name s.number (map_of form a))
-        (sorted_names (a ++ slot_bytes form s ∷ []))
+        same_names (sorted_names (a ++ slot_bytes form s ∷ []))
         (is_sorted-put byte_cmp nat_list_cmp_total s.name s.number (map_of form a) (sorted_names a)) (behind a new)
 
     -- no two slots have one name then either

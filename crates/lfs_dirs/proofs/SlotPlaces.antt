@@ -42,9 +42,9 @@ slot_byte m d head j b low inside =
     ∙ object_byte m d (as_header head) (slot_len head.form * j + b) (byte_within head.form j b head.size low inside)
 
 -- a list of as many bytes that are those of the file is the slot
-pub slot_is : (m : LogMap) (d : ℕ) (head : Header) (j : ℕ) (s : List ℕ) → j < slot_count head → length s ≡ slot_len head.form
+pub slot_is : (m : LogMap) (d : ℕ) (head : Header) (j : ℕ) {s : List ℕ} → j < slot_count head → length s ≡ slot_len head.form
     → ((b : ℕ) → b < slot_len head.form → get_or s b 0 ≡ byte_in m d (slot_len head.form * j + b)) → get_or (slots_at m d head) j [] ≡ s
-slot_is m d head j s low long each =
+slot_is m d head j {s} low long each =
     let l = slot_long m d head j low in
     same_number_lists (get_or (slots_at m d head) j []) s (l ∙ sym long)
     (λ b inside. slot_byte m d head j b low (omega (arith, l, inside)) ∙ sym (each b (omega (arith, l, inside))))
@@ -84,12 +84,11 @@ in_block : (m : LogMap) (d form i k b : ℕ) → k < per_block form → b < slot
 in_block m d form i k b low inside =
     ap₂ (λ (x y : ℕ). slice_index (m.block d x) y) (byte_block form i k b low inside) (byte_place form i k b low inside)
 
-pub slot_of_block : (m : LogMap) (d : ℕ) (head : Header) (i k : ℕ) (block : List ℕ) → HoldsBlock m d i block → k < per_block head.form
+pub slot_of_block : (m : LogMap) (d : ℕ) (head : Header) {i : ℕ} (k : ℕ) {block : List ℕ} → HoldsBlock m d i block → k < per_block head.form
     → per_block head.form * i + k < slot_count head
     → get_or (slots_at m d head) (per_block head.form * i + k) [] ≡ part (slot_len head.form * k) (slot_len head.form) block
-slot_of_block m d head i k block is low inside =
-    slot_is m d head (per_block head.form * i + k) (part (slot_len head.form * k) (slot_len head.form) block) inside
-    (part_long head.form block k is.long low)
+slot_of_block m d head {i} k {block} is low inside =
+    slot_is m d head (per_block head.form * i + k) inside (part_long head.form block k is.long low)
     (λ b small. part_byte head.form block k b small ∙ is.bytes (slot_len head.form * k + b) ∙ in_block m d head.form i k b low small)
 
 pub slots_of_block : SlotsOfBlock
@@ -104,7 +103,7 @@ slots_of_block m d head i count block is few room =
     let inside : k < count = omega (arith, low, long) in
     get_or-take count (drop (per_block head.form * i) (slots_at m d head)) k [] inside
     ∙ get_or-drop (per_block head.form * i) (slots_at m d head) k []
-    ∙ slot_of_block m d head i k block is (omega (arith, inside, few)) (omega (arith, inside, room))
+    ∙ slot_of_block m d head k is (omega (arith, inside, few)) (omega (arith, inside, room))
     ∙ ap (λ (j : ℕ). part (slot_len head.form * j) (slot_len head.form) block) (omega arith)
     ∙ sym (block_slot head.form block 0 count k inside))
 
@@ -112,7 +111,7 @@ pub slot_in_block : SlotInBlock
 slot_in_block m d head place block is inside =
     let here = slot_split head.form place in
     ap (λ (j : ℕ). get_or (slots_at m d head) j []) (sym here)
-    ∙ slot_of_block m d head (place / per_block head.form) (place % per_block head.form) block is (place_low head.form place)
+    ∙ slot_of_block m d head (place % per_block head.form) is (place_low head.form place)
     (subst (λ (j : ℕ). j < slot_count head) (sym here) inside)
 
 pub names_many : NamesMany

@@ -21,11 +21,12 @@ use Rattle.lfs_dirs.proofs.SlotNames.{appended, appended_apart, appended_formed}
 use Rattle.lfs_dirs.proofs.SlotPlaces.{slot_byte, slot_is, slot_long, slots_many}
 
 -- ---- the slots
-module _ (m m' : LogMap) (d : ℕ) (head : Header) (slot : List ℕ) (dir : IsDirectory m d (as_header head))
+module _ (m m' : LogMap) (d : ℕ) (head : Header) {slot : List ℕ} (dir : IsDirectory m d (as_header head))
     (long : length slot ≡ slot_len head.form) (writes : WritesBytes m m' d (as_header head) (as_header (grown head)) head.size slot) where
   old_slot : (j : ℕ) → j < slot_count head → get_or (slots_at m' d (grown head)) j [] ≡ get_or (slots_at m d head) j []
   old_slot j low =
-      slot_is m' d (grown head) j (get_or (slots_at m d head) j []) (let more = count_more head.form head.size in omega (arith, low, more))
+      slot_is m' d (grown head) j {s = get_or (slots_at m d head) j []}
+      (let more = count_more head.form head.size in omega (arith, low, more))
       (slot_long m d head j low)
       (λ b inside. slot_byte m d head j b low inside
       ∙ sym (writes.bytes.before (slot_len head.form * j + b) (byte_within head.form j b head.size low inside)))
@@ -33,7 +34,7 @@ module _ (m m' : LogMap) (d : ℕ) (head : Header) (slot : List ℕ) (dir : IsDi
   new_slot : get_or (slots_at m' d (grown head)) (slot_count head) [] ≡ slot
   new_slot =
       let whole = dir.whole in
-      slot_is m' d (grown head) (slot_count head) slot (let more = count_more head.form head.size in omega (arith, more)) long
+      slot_is m' d (grown head) (slot_count head) (let more = count_more head.form head.size in omega (arith, more)) long
       (λ b inside.
       let place : head.size + b ≡ slot_len head.form * (slot_count head) + b =
       (let w = whole_size head.form head.size whole in omega (arith, w)) in
@@ -57,7 +58,7 @@ module _ (m m' : LogMap) (d : ℕ) (head : Header) (slot : List ℕ) (dir : IsDi
       (cases_lt j (slot_count head)))
 
 pub slot_written : SlotWritten
-slot_written m m' d head slot dir long writes = slots_grown m m' d head slot dir long writes
+slot_written m m' d head slot dir long writes = slots_grown m m' d head dir long writes
 
 -- ---- the names
 pub adds_name : (m m' : LogMap) (d : ℕ) (head : Header) (n : ℕ) (name : List ℕ) → FitsSlot head.form record { number = n; name = name }
@@ -79,14 +80,14 @@ adds_name m m' d head n name fits long dir new writes = record {
     s = record { number = n; name = name }
 
     grows : slots_at m' d (grown head) ≡ slots_at m d head ++ slot_for head.form n name ∷ []
-    grows = slots_grown m m' d head (slot_for head.form n name) dir long writes
+    grows = slots_grown m m' d head dir long writes
 
-pub fits_slot : (form n : ℕ) (name : List ℕ) → 1 ≤ n → n ≤ 4095 → IsName (name_len form) name
+pub fits_slot : (form n : ℕ) {name : List ℕ} → 1 ≤ n → n ≤ 4095 → IsName (name_len form) name
     → FitsSlot form record { number = n; name = name }
-fits_slot form n name some few good = record { number = (some, few); name = good }
+fits_slot form n {name} some few good = record { number = (some, few); name = good }
 
 -- ---- the draft
-module _ {S D : Type 0} (s s' : FilesState S D) (d : ℕ) (head : Header) (n : ℕ) (name : List ℕ) where
+module _ {S D : Type 0} (s s' : FilesState S D) {d : ℕ} {head : Header} (n : ℕ) (name : List ℕ) where
   pub adds : FitsSlot head.form record { number = n; name = name } → length (slot_for head.form n name) ≡ slot_len head.form
       → Writes s s' d head head.size (slot_for head.form n name) → Adds s s' d head n name
   adds fits long writes = record {

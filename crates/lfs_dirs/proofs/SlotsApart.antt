@@ -81,27 +81,27 @@ module _ (form : ℕ) where
   none_both a b name left right = gives_none form a b name left ∙ right
 
   -- a name that slots give isn't given by those behind them
-  given_once : (a b : List (List ℕ)) (name : List ℕ) (n : ℕ) → AreApart (a ++ b) → gives name a ≡ Some n → gives name b ≡ None
-  given_once [] b name n distinct some = absurd (cc)
-  given_once (x ∷ a) b name n distinct some =
+  given_once : (a b : List (List ℕ)) (name : List ℕ) {n : ℕ} → AreApart (a ++ b) → gives name a ≡ Some n → gives name b ≡ None
+  given_once [] b name distinct some = absurd (cc)
+  given_once (x ∷ a) b name {n} distinct some =
       let f = is_first x (a ++ b) distinct in
       elim (eq_by_cmp byte_cmp name f.value.name) as (λ t. eq_by_cmp byte_cmp name f.value.name ≡ t → gives name b ≡ None) [
         | true ↦ λ e. none_right a b name (ap (λ (q : List ℕ). gives q (a ++ b)) (tied name f.value.name e) ∙ f.new)
         | false ↦ λ e.
             let other : name ≢ f.value.name =
-            λ same. (let yes = ties name f.value.name same in let no : true ≡ false = sym yes ∙ e in absurd (cc)) in
-            given_once a b name n f.rest (sym (found_behind name f.value (slot_in form x) (map_of form a) f.slot other) ∙ some)
+            λ same. (let yes = ties same in let no : true ≡ false = sym yes ∙ e in absurd (cc)) in
+            given_once a b name f.rest (sym (found_behind name f.value (map_of form a) f.slot other) ∙ some)
       ] refl
 
   -- ---- one slot among others
-  module _ (a b : List (List ℕ)) (x : List ℕ) (s : SlotValue) (is : slot_in form x ≡ Some s) (distinct : AreApart (a ++ x ∷ b)) where
+  module _ (a b : List (List ℕ)) (x : List ℕ) {s : SlotValue} (is : slot_in form x ≡ Some s) (distinct : AreApart (a ++ x ∷ b)) where
     found_here : (y : List ℕ) (t : SlotValue) (c : List (List ℕ)) → slot_in form y ≡ Some t → gives t.name (y ∷ c) ≡ Some t.number
-    found_here y t c own = found_first t.name t (slot_in form y) (map_of form c) own refl
+    found_here y t c own = found_first {name = t.name} t (map_of form c) own refl
 
     none_before : gives s.name a ≡ None
     none_before = elim (gives s.name a) as (λ (o : Option ℕ). gives s.name a ≡ o → o ≡ None) [
       | None ↦ λ e. refl
-      | Some n ↦ λ e. let bad : Some s.number ≡ None = sym (found_here x s b is) ∙ given_once a (x ∷ b) s.name n distinct e in absurd (cc)
+      | Some n ↦ λ e. let bad : Some s.number ≡ None = sym (found_here x s b is) ∙ given_once a (x ∷ b) s.name distinct e in absurd (cc)
     ] refl
 
     none_behind : gives s.name b ≡ None
@@ -115,10 +115,10 @@ module _ (form : ℕ) where
     there = gives_none form a (x ∷ b) s.name none_before ∙ found_here x s b is
 
     other_behind : (name : List ℕ) → name ≢ s.name → gives name (x ∷ b) ≡ gives name b
-    other_behind name ne = found_behind name s (slot_in form x) (map_of form b) is ne
+    other_behind name ne = found_behind name s (map_of form b) is ne
 
     -- ---- another number
-    module _ (y : List ℕ) (t : SlotValue) (own : slot_in form y ≡ Some t) (same : t.name ≡ s.name) where
+    module _ (y : List ℕ) {t : SlotValue} (own : slot_in form y ≡ Some t) (same : t.name ≡ s.name) where
       replaced_gives : (name : List ℕ)
           → gives name (a ++ y ∷ b) ≡ cond (eq_by_cmp byte_cmp name s.name) (Some t.number) (gives name (a ++ x ∷ b))
       replaced_gives name = elim (eq_by_cmp byte_cmp name s.name)
@@ -126,12 +126,12 @@ module _ (form : ℕ) where
             | true ↦ λ e.
                 let here : name ≡ s.name = tied name s.name e in
                 gives_none form a (y ∷ b) name (ap (λ (q : List ℕ). gives q a) here ∙ none_before)
-                ∙ found_first name t (slot_in form y) (map_of form b) own (here ∙ sym same)
+                ∙ found_first t (map_of form b) own (here ∙ sym same)
             | false ↦ λ e.
                 let other : name ≢ s.name =
-                λ here. (let yes = ties name s.name here in let no : true ≡ false = sym yes ∙ e in absurd (cc)) in
+                λ here. (let yes = ties here in let no : true ≡ false = sym yes ∙ e in absurd (cc)) in
                 let skipped : gives name (y ∷ b) ≡ gives name (x ∷ b) =
-                found_behind name t (slot_in form y) (map_of form b) own (λ h. other (h ∙ same)) ∙ sym (other_behind name other) in
+                found_behind name t (map_of form b) own (λ h. other (h ∙ same)) ∙ sym (other_behind name other) in
                 elim (gives name a) as (λ (o : Option ℕ). gives name a ≡ o → gives name (a ++ y ∷ b) ≡ gives name (a ++ x ∷ b)) [
                   | None ↦ λ none. gives_none form a (y ∷ b) name none ∙ skipped ∙ sym (gives_none form a (x ∷ b) name none)
                   | Some n ↦ λ some. gives_some form a (y ∷ b) name n some ∙ sym (gives_some form a (x ∷ b) name n some)
@@ -140,8 +140,7 @@ module _ (form : ℕ) where
 
       pub replaced : map_of form (a ++ y ∷ b) ≡ put byte_cmp s.name t.number (map_of form (a ++ x ∷ b))
       replaced =
-          same_names form (map_of form (a ++ y ∷ b)) (put byte_cmp s.name t.number (map_of form (a ++ x ∷ b)))
-          (sorted_names form (a ++ y ∷ b))
+          same_names form (sorted_names form (a ++ y ∷ b))
           (is_sorted-put byte_cmp nat_list_cmp_total s.name t.number (map_of form (a ++ x ∷ b)) (sorted_names form (a ++ x ∷ b)))
           (λ name. replaced_gives name ∙ sym (find-put byte_cmp nat_list_cmp_total name s.name t.number (map_of form (a ++ x ∷ b))))
 
@@ -159,7 +158,7 @@ module _ (form : ℕ) where
         → ((name : List ℕ) → gives name c ≡ cond (eq_by_cmp byte_cmp name s.name) None (gives name (a ++ x ∷ b)))
         → map_of form c ≡ without byte_cmp s.name (map_of form (a ++ x ∷ b))
     taken_from c each =
-        same_names form (map_of form c) (without byte_cmp s.name (map_of form (a ++ x ∷ b))) (sorted_names form c)
+        same_names form {m = map_of form c} {m' = without byte_cmp s.name (map_of form (a ++ x ∷ b))} (sorted_names form c)
         (is_sorted-where_key byte_cmp (λ q. not (eq_by_cmp byte_cmp s.name q)) (map_of form (a ++ x ∷ b)) (sorted_names form (a ++ x ∷ b)))
         (λ name. each name ∙ sym (find_without nat_list_cmp_total s.name name (map_of form (a ++ x ∷ b))))
 
@@ -181,7 +180,7 @@ module _ (form : ℕ) where
         as (λ e. eq_by_cmp byte_cmp name s.name ≡ e → gives name c ≡ cond e None (gives name (a ++ x ∷ b))) [
           | true ↦ λ e. ap (λ (q : List ℕ). gives q c) (tied name s.name e) ∙ gone
           | false ↦ λ e.
-              let other : name ≢ s.name = λ here. (let yes = ties name s.name here in let no : true ≡ false = sym yes ∙ e in absurd (cc)) in
+              let other : name ≢ s.name = λ here. (let yes = ties here in let no : true ≡ false = sym yes ∙ e in absurd (cc)) in
               elim (gives name a) as (λ (o : Option ℕ). gives name a ≡ o → gives name c ≡ gives name (a ++ x ∷ b)) [
                 | None ↦ λ before. none name before other ∙ sym (gives_none form a (x ∷ b) name before ∙ other_behind name other)
                 | Some n ↦ λ before. some name n before ∙ sym (gives_some form a (x ∷ b) name n before)
@@ -193,9 +192,9 @@ module _ (form : ℕ) where
       → (map_of form a ≡ without byte_cmp s.name (map_of form (a ++ x ∷ []))) × AreApart a
   last_taken a x s is distinct =
       let less : length a + 1 ≡ length (a ++ x ∷ []) = let l = length-append a (x ∷ []) in omega (arith, l) in
-      let names = taken_from a [] x s is distinct a
-      (taken_gives a [] x s is distinct a (none_before a [] x s is distinct) (λ name none ne. none) (λ name n some. some)) in
-      (names, taken_few a [] x s is distinct a names less)
+      let names = taken_from a [] x is distinct a
+      (taken_gives a [] x is distinct a (none_before a [] x is distinct) (λ name none ne. none) (λ name n some. some)) in
+      (names, taken_few a [] x is distinct a names less)
 
   -- a slot goes, and the last one comes into its place
   module _ (a b : List (List ℕ)) (x y : List ℕ) (s : SlotValue) (is : slot_in form x ≡ Some s)
@@ -210,7 +209,7 @@ module _ (form : ℕ) where
           | Some n ↦ λ some.
               let none : gives name b ≡ None = elim (gives name b) as (λ (o : Option ℕ). gives name b ≡ o → o ≡ None) [
                 | None ↦ λ e. refl
-                | Some k ↦ λ e. let bad : Some n ≡ None = sym some ∙ given_once b (y ∷ []) name k behind_apart e in absurd (cc)
+                | Some k ↦ λ e. let bad : Some n ≡ None = sym some ∙ given_once b (y ∷ []) name behind_apart e in absurd (cc)
               ] refl in
               gives_some form (y ∷ []) b name n some ∙ sym (gives_none form b (y ∷ []) name none ∙ some)
           | None ↦ λ none. gives_none form (y ∷ []) b name none
@@ -225,12 +224,11 @@ module _ (form : ℕ) where
         let c = b ++ y ∷ [] in
         let less : length (a ++ y ∷ b) + 1 ≡ length (a ++ x ∷ c) =
         let l = length-append a (x ∷ c) in let k = length-append a (y ∷ b) in let j = length-append b (y ∷ []) in omega (arith, l, k, j) in
-        let names = taken_from a c x s is distinct (a ++ y ∷ b)
-        (taken_gives a c x s is distinct (a ++ y ∷ b)
-        (none_both a (y ∷ b) s.name (none_before a c x s is distinct) (swapped s.name ∙ none_behind a c x s is distinct))
+        let names = taken_from a c x is distinct (a ++ y ∷ b) (taken_gives a c x is distinct (a ++ y ∷ b)
+        (none_both a (y ∷ b) s.name (none_before a c x is distinct) (swapped s.name ∙ none_behind a c x is distinct))
         (λ name none ne. gives_none form a (y ∷ b) name none ∙ swapped name)
         (λ name n some. gives_some form a (y ∷ b) name n some)) in
-        (names, taken_few a c x s is distinct (a ++ y ∷ b) names less)
+        (names, taken_few a c x is distinct (a ++ y ∷ b) names less)
 
   -- ---- each is a slot
   all_left : (a b : List (List ℕ)) → AreFormed (a ++ b) → AreFormed a
@@ -258,7 +256,7 @@ module _ (form : ℕ) where
 
 -- ---- laws
 pub slot_replaced : SlotReplaced
-slot_replaced form a b x y s t is own same distinct = replaced form a b x s is distinct y t own same
+slot_replaced form a b x y s t is own same distinct = replaced form a b x is distinct y own same
 
 pub last_slot_taken : LastSlotTaken
 last_slot_taken form a x s is distinct = (last_taken form a x s is distinct).0

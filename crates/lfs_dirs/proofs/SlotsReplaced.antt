@@ -34,7 +34,7 @@ pub parts_set : (a : List (List ℕ)) (j : ℕ) (y : List ℕ) → j < length a 
 parts_set a j y inside = let next : suc j ≡ j + 1 = omega arith in set_split a j y inside ∙ ap (λ (k : ℕ). take j a ++ y ∷ drop k a) next
 
 -- ---- the slots
-module _ (m m' : LogMap) (d : ℕ) (head : Header) (place : ℕ) (slot : List ℕ) (inside : place < slot_count head) (long : length slot
+module _ (m m' : LogMap) (d : ℕ) (head : Header) (place : ℕ) {slot : List ℕ} (inside : place < slot_count head) (long : length slot
     ≡ slot_len head.form) (writes : WritesBytes m m' d (as_header head) (as_header head) (slot_len head.form * place) slot) where
   apart_bytes : (j b : ℕ) → j ≢ place → b < slot_len head.form
       → byte_in m' d (slot_len head.form * j + b) ≡ byte_in m d (slot_len head.form * j + b)
@@ -54,13 +54,13 @@ module _ (m m' : LogMap) (d : ℕ) (head : Header) (place : ℕ) (slot : List �
       let within : j < slot_count head = omega (arith, low, many') in
       ⊎_elim
       (λ (here : j ≡ place).
-      slot_is m' d head j slot within long
+      slot_is m' d head j {s = slot} within long
       (λ b small. sym (writes.bytes.inside b (omega (arith, small, long)))
       ∙ ap (λ (k : ℕ). byte_in m' d (slot_len head.form * k + b)) (sym here))
       ∙ sym (ap (λ (k : ℕ). get_or (set (slots_at m d head) place slot) k []) here
       ∙ get_or-set_same (slots_at m d head) place slot [] (omega (arith, inside, many))))
       (λ (other : j ≢ place).
-      slot_is m' d head j (get_or (slots_at m d head) j []) within (slot_long m d head j within)
+      slot_is m' d head j {s = get_or (slots_at m d head) j []} within (slot_long m d head j within)
       (λ b small. slot_byte m d head j b within small ∙ sym (apart_bytes j b other small))
       ∙ sym (get_or-set_other (slots_at m d head) place j slot [] other))
       (cases_eq j place))
@@ -87,11 +87,11 @@ module _ (m m' : LogMap) (d : ℕ) (head : Header) (n : ℕ) (name : List ℕ) (
 
   now : slots_at m' d head ≡ before ++ slot_for head.form n name ∷ behind
   now = let inside = is.inside in let many = slots_many m d head in
-      slots_set m m' d head found.place (slot_for head.form n name) (omega (arith, inside, many)) long writes
+      slots_set m m' d head found.place (omega (arith, inside, many)) long writes
       ∙ parts_set old found.place (slot_for head.form n name) is.inside
 
   spelt : slot_in head.form (slot_for head.form n name) ≡ Some record { number = n; name = name }
-  spelt = slot_some head.form (slot_for head.form n name) record { number = n; name = name } fits refl
+  spelt = slot_some head.form (slot_for head.form n name) fits refl
 
   is_slot : slot_in head.form (slot_for head.form n name) ≢ None
   is_slot none = let bad : Some (slot_value n name) ≡ None = sym spelt ∙ none in absurd (cc)
@@ -106,28 +106,23 @@ module _ (m m' : LogMap) (d : ℕ) (head : Header) (n : ℕ) (name : List ℕ) (
       whole = dir.whole;
       formed = subst (AreFormed head.form) (sym now) (replaced_formed head.form before behind (get_or old found.place [])
           (slot_for head.form n name) is_slot (subst (AreFormed head.form) was dir.formed));
-      apart = subst (AreApart head.form) (sym now) (replaced_apart head.form before behind (get_or old found.place []) record {
-        number =
-            found.number.value;
-        name = name;
-      } is.slot were_apart (slot_for head.form n name) record { number = n; name = name } spelt refl);
+      apart = subst (AreApart head.form) (sym now) (replaced_apart head.form before behind (get_or old found.place [])
+      is.slot were_apart (slot_for head.form n name) spelt refl);
     };
     names =
-        ap (map_of head.form) now
-        ∙ replaced head.form before behind (get_or old found.place []) record { number = found.number.value; name = name } is.slot
-        were_apart (slot_for head.form n name) record { number = n; name = name } spelt refl
-        ∙ ap (λ (a : List (List ℕ)). put byte_cmp name n (map_of head.form a)) (sym was);
+        ap (map_of head.form) now ∙ replaced head.form before behind (get_or old found.place []) is.slot
+        were_apart (slot_for head.form n name) spelt refl ∙ ap (λ (a : List (List ℕ)). put byte_cmp name n (map_of head.form a)) (sym was);
   }
 
 -- ---- the draft
-module _ {S D : Type 0} (s a s' : FilesState S D) (d : ℕ) (head : Header) (n : ℕ) (name : List ℕ) (found : Found) where
+module _ {S D : Type 0} {s a s' : FilesState S D} {d : ℕ} {head : Header} {n : ℕ} {name : List ℕ} (found : Found) where
   pub repoints : FitsSlot head.form record { number = n; name = name } → length (slot_for head.form n name) ≡ slot_len head.form
       → found.place < slot_count head → Reads s a → Redrafts a s'
       → FindsName s a d head name found → Writes a s' d head (slot_len head.form * found.place) (slot_for head.form n name)
       → Repoints s s' d head n name
   repoints fits long inside reads more finds writes = record {
     place = found.place;
-    writes = writes_behind s a s' d head (slot_len head.form * found.place) (slot_for head.form n name) reads writes;
+    writes = writes_behind s a d reads writes;
     has = λ m m' keeps has.
         let f = writes.file m m' keeps (reads.has m m' has) in
         let file = subst (λ (z : ℕ).
@@ -145,14 +140,14 @@ module _ {S D : Type 0} (s a s' : FilesState S D) (d : ℕ) (head : Header) (n :
       size = let within = slot_within head.form found.place head.size inside in omega (arith, long, within)
 
 -- what fails after the search
-pub fails_behind : {S D : Type 0} (s a s' : FilesState S D) (d : ℕ) (head : Header) → Reads s a → IsFault a s'
+pub fails_behind : {S D : Type 0} {s a : FilesState S D} (s' : FilesState S D) (d : ℕ) (head : Header) → Reads s a → IsFault a s'
     → IsDirectoryFault s s' d head
-fails_behind s a s' d head reads failed m m' keeps has dir =
+fails_behind s' d head reads failed m m' keeps has dir =
     let rose = failed m m' keeps (reads.has m m' has) in
     let before = reads.looks.carries.failures in
     omega (arith, rose, before)
 
 -- the totals of what is written behind the search are those behind none
-pub counts_searched : {S D : Type 0} (s a s' : FilesState S D) → Reads s a → Counts a s' → Counts s s'
-counts_searched s a s' reads counts m x y keeps has has' map map' are =
+pub counts_searched : {S D : Type 0} {s a : FilesState S D} (s' : FilesState S D) → Reads s a → Counts a s' → Counts s s'
+counts_searched s' reads counts m x y keeps has has' map map' are =
     counts m x y keeps (reads.has m x has) has' map map' (subst (λ (t : Counted). AreCounted x t) (sym reads.drafted) are)

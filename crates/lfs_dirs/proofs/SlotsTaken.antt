@@ -24,9 +24,10 @@ use Rattle.lfs_dirs.proofs.SlotsApart.{AreApart, AreFormed, last_formed, last_ta
 use Rattle.lfs_dirs.proofs.SlotsReplaced.{parts_at, parts_set, slots_set}
 
 -- ---- bytes before a cut
-cut_byte : (m m' : LogMap) (d len p : ℕ) (head head' : Header) → CutsBytes m m' d (as_header head) (as_header head') len → p < len
+cut_byte : (m m' : LogMap) (d : ℕ) {len : ℕ} (p : ℕ) (head head' : Header) → CutsBytes m m' d (as_header head) (as_header head') len
+    → p < len
     → byte_in m' d p ≡ byte_in m d p
-cut_byte m m' d len p head head' cuts low = ⊎_elim
+cut_byte m m' d {len} p head head' cuts low = ⊎_elim
     (λ (at : p / 512 ≡ len / 512).
     ap (λ (q : ℕ). slice_index (m'.block d q) (p % 512)) at ∙ cuts.last (p % 512) (omega (arith, at, low))
     ∙ ap (λ (q : ℕ). slice_index (m.block d q) (p % 512)) (sym at))
@@ -47,8 +48,8 @@ slots_cut m m' d head some cuts =
     (λ j low.
     let within : j < (head.size - slot_len head.form) / slot_len head.form = omega (arith, low, many') in
     let inside : j < slot_count head = omega (arith, within, less) in
-    slot_is m' d (shrunk head) j (get_or (slots_at m d head) j []) within (slot_long m d head j inside)
-    (λ b small. slot_byte m d head j b inside small ∙ sym (cut_byte m m' d (head.size - slot_len head.form)
+    slot_is m' d (shrunk head) j {s = get_or (slots_at m d head) j []} within (slot_long m d head j inside)
+    (λ b small. slot_byte m d head j b inside small ∙ sym (cut_byte m m' d
     (slot_len head.form * j + b) head (shrunk head) cuts (byte_within head.form j b (head.size - slot_len head.form) within small)))
     ∙ sym (get_or-take (length (slots_at m d head) - 1) (slots_at m d head) j [] (omega (arith, within, many, less))))
 
@@ -75,21 +76,21 @@ slots_dropped m m' d head place last cuts =
     slots_cut m m' d head (one_slot head.form place head.size (omega (arith, last))) cuts
     ∙ sym (removed_last (slots_at m d head) place (omega (arith, last, many)))
 
-pub slots_moved : (m l m' : LogMap) (d : ℕ) (head : Header) (place : ℕ) (slot : List ℕ) → place + 1 < slot_count head
+pub slots_moved : (m : LogMap) {l : LogMap} (m' : LogMap) (d : ℕ) (head : Header) (place : ℕ) (slot : List ℕ) → place + 1 < slot_count head
     → length slot ≡ slot_len head.form → get_or (slots_at m d head) (length (slots_at m d head) - 1) [] ≡ slot
     → CutsBytes m l d (as_header head) (as_header (shrunk head)) (head.size - slot_len head.form)
     → WritesBytes l m' d (as_header (shrunk head)) (as_header (shrunk head)) (slot_len head.form * place) slot
     → slots_at m' d (shrunk head) ≡ swap_remove (slots_at m d head) place []
-slots_moved m l m' d head place slot inside long last cuts writes =
-    slots_set l m' d (shrunk head) place slot (let less = count_less head.form head.size in omega (arith, inside, less)) long writes
+slots_moved m {l} m' d head place slot inside long last cuts writes =
+    slots_set l m' d (shrunk head) place (let less = count_less head.form head.size in omega (arith, inside, less)) long writes
     ∙ ap (λ (a : List (List ℕ)). set a place slot) (slots_cut m l d head (one_slot head.form place head.size (omega (arith, inside))) cuts)
     ∙ ap (λ (s : List ℕ). set (take (length (slots_at m d head) - 1) (slots_at m d head)) place s) (sym last)
     ∙ sym (removed (slots_at m d head) place)
 
 -- ---- the file
-pub file_cut : (m m' : LogMap) (d : ℕ) (head : Header) → slot_len head.form ≤ head.size
+pub file_cut : {m m' : LogMap} (d : ℕ) {head : Header} → slot_len head.form ≤ head.size
     → SizesFile m m' d head (shrunk head) (head.size - slot_len head.form) → CutsSlot m m' d head
-file_cut m m' d head some sizes = record {
+file_cut {m} {m'} d {head} some sizes = record {
   header = sizes.header;
   only = sizes.only;
   whole = sizes.whole;
@@ -97,11 +98,11 @@ file_cut m m' d head some sizes = record {
       (sizes.shorter (let least = (slot_some head.form).0 in omega (arith, some, least)));
 }
 
-pub file_moved : (m l m' : LogMap) (d : ℕ) (head : Header) (place : ℕ) (slot : List ℕ) → place + 1 < slot_count head
+pub file_moved : (m : LogMap) {l m' : LogMap} (d : ℕ) (head : Header) (place : ℕ) {slot : List ℕ} → place + 1 < slot_count head
     → length slot ≡ slot_len head.form → SizesFile m l d head (shrunk head) (head.size - slot_len head.form)
     → WritesFile l m' d (shrunk head) (shrunk head) (slot_len head.form * place) slot → CutsSlot m m' d head
-file_moved m l m' d head place slot inside long sizes writes =
-    let cut = file_cut m l d head (one_slot head.form place head.size (omega (arith, inside))) sizes in
+file_moved m {l} d head place inside long sizes writes =
+    let cut = file_cut d (one_slot head.form place head.size (omega (arith, inside))) sizes in
     record {
       header = writes.header;
       only = record {
@@ -126,9 +127,9 @@ module _ (form : ℕ) (a : List (List ℕ)) (place : ℕ) (s : SlotValue) (insid
     pub apart : AreApart form (swap_remove a place [])
     pub formed_still : AreFormed form (swap_remove a place [])
 
-  by_parts : (b c : List (List ℕ)) → swap_remove a place [] ≡ c → a ≡ b → (map_of form c ≡ without byte_cmp s.name (map_of form b))
+  by_parts : {b c : List (List ℕ)} → swap_remove a place [] ≡ c → a ≡ b → (map_of form c ≡ without byte_cmp s.name (map_of form b))
       × AreApart form c → AreFormed form c → Removes
-  by_parts b c at parts both each = record {
+  by_parts at parts both each = record {
     names = ap (map_of form) at ∙ both.0 ∙ ap (λ (l : List (List ℕ)). without byte_cmp s.name (map_of form l)) (sym parts);
     apart = subst (AreApart form) (sym at) both.1;
     formed_still = subst (AreFormed form) (sym at) each;
@@ -138,7 +139,7 @@ module _ (form : ℕ) (a : List (List ℕ)) (place : ℕ) (s : SlotValue) (insid
   removes_last last =
       let parts = last_at a place last in
       let here : length a - 1 ≡ place = omega (arith, last) in
-      by_parts (take place a ++ get_or a place [] ∷ []) (take place a) (removed_last a place last ∙ ap (λ (k : ℕ). take k a) here) parts
+      by_parts (removed_last a place last ∙ ap (λ (k : ℕ). take k a) here) parts
       (last_taken form (take place a) (get_or a place []) s is (subst (AreApart form) parts distinct))
       (last_formed form (take place a) (get_or a place []) (subst (AreFormed form) parts formed))
 
@@ -157,7 +158,7 @@ module _ (form : ℕ) (a : List (List ℕ)) (place : ℕ) (s : SlotValue) (insid
       ∙ ap (λ (b : List (List ℕ)). b ++ y ∷ []) (parts_at front place within)
       ∙ append_assoc before (x ∷ behind) (y ∷ [])
       in
-      by_parts (before ++ x ∷ (behind ++ y ∷ [])) (before ++ y ∷ behind) (removed a place ∙ parts_set front place y within) parts
+      by_parts (removed a place ∙ parts_set front place y within) parts
       (moved form before behind x y s (ap (slot_in form) same ∙ is) (subst (AreApart form) parts distinct))
       (moved_formed form before behind x y (subst (AreFormed form) parts formed))
 

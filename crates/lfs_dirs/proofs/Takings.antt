@@ -23,9 +23,9 @@ use Rattle.lfs_dirs.proofs.SlotPlaces.{slot_in_block, slots_many}
 use Rattle.lfs_dirs.proofs.SlotsTaken.{file_cut, file_moved, slots_dropped, slots_moved, takes_name}
 
 -- A directory that is cut in a log map is one in a log map that a volume may keep.
-pub cut_kept : (m l : LogMap) (d : ℕ) (head : Header) → head.size ≤ 1024 * slot_len head.form → HasFile m d head → AreLong m d
+pub cut_kept : {m l : LogMap} {d : ℕ} {head : Header} → head.size ≤ 1024 * slot_len head.form → HasFile m d head → AreLong m d
     → CutsSlot m l d head → IsLogMap l
-cut_kept m l d head few there long cut =
+cut_kept {m} {l} {d} {head} few there long cut =
     let was =
     object_fits m d (as_header head) there.map long there.there (let most = (slot_some head.form).1 in omega (arith, few, most)) in
     object_kept m l d (as_header (shrunk head)) there.map cut.only cut.header record {
@@ -39,16 +39,16 @@ cut_kept m l d head few there long cut =
 
 module _ {S D : Type 0} where
   -- ---- one slot
-  pub slot_read : (s s' : FilesState S D) (d : ℕ) (head : Header) (place : ℕ) (block slot : List ℕ)
+  pub slot_read : (s s' : FilesState S D) (d : ℕ) (head : Header) (place : ℕ) (block : List ℕ) {slot : List ℕ}
       → slot ≡ part (slot_len head.form * (place % per_block head.form)) (slot_len head.form) block
       → TellsBlock s s' d (place / per_block head.form) block → ReadsSlot s s' d head place slot
-  slot_read s s' d head place block slot is told m m' keeps has inside = slot_in_block m' d head place block (told m m' keeps has) inside
+  slot_read s s' d head place block is told m m' keeps has inside = slot_in_block m' d head place block (told m m' keeps has) inside
       ∙ sym is
 
   -- ---- the last slot goes
-  pub drops_last : (s s' : FilesState S D) (d : ℕ) (head : Header) (place : ℕ) → place + 1 ≡ slot_count head
+  pub drops_last : {s s' : FilesState S D} {d : ℕ} {head : Header} (place : ℕ) → place + 1 ≡ slot_count head
       → Shrinks s s' d head (head.size - slot_len head.form) → DropsSlot s s' d head place
-  drops_last s s' d head place last shrinks = record {
+  drops_last {d} {head} place last shrinks = record {
     lost = shrinks.lost;
     headers = let few = shrinks.headers in omega (arith, few);
     blocks = let few = shrinks.blocks in omega (arith, few);
@@ -59,7 +59,7 @@ module _ {S D : Type 0} where
         record {
           map = f.map;
           has = f.has;
-          file = λ there. file_cut m' f.map d head (one_slot head.form place head.size (omega (arith, last))) (f.file there);
+          file = λ there. file_cut d (one_slot head.form place head.size (omega (arith, last))) (f.file there);
           slots = λ there. slots_dropped m' f.map d head place last ((f.file there).shorter (let one = one_slot head.form place head.size
               (omega (arith, last)) in let least = (slot_some head.form).0 in omega (arith, one, least)));
         };
@@ -69,7 +69,7 @@ module _ {S D : Type 0} where
   counts_last s s' d head counts m a b keeps has has' there long map are = counts m a b keeps has has' there.map map are
 
   -- ---- or comes into another's place
-  module _ (s a b s' : FilesState S D) (d : ℕ) (head : Header) (place : ℕ) (slot : List ℕ) (inside : place + 1 < slot_count head)
+  module _ {s a b s' : FilesState S D} {d : ℕ} {head : Header} (place : ℕ) {slot : List ℕ} (inside : place + 1 < slot_count head)
       (long : length slot ≡ slot_len head.form)
       (reads : Reads s a) (more : Redrafts a b) (last : Redrafts b s') (found : ReadsSlot s a d head (slot_count head - 1) slot)
       (shrinks : Shrinks a b d head (head.size - slot_len head.form))
@@ -95,15 +95,15 @@ module _ {S D : Type 0} where
         record {
           map = f.map;
           has = f.has;
-          file = λ there. file_moved m' cut.map f.map d head place slot inside long (cut.file there) file;
-          slots = λ there. slots_moved m' cut.map f.map d head place slot inside long (read m m' keeps has)
+          file = λ there. file_moved m' d head place inside long (cut.file there) file;
+          slots = λ there. slots_moved m' f.map d head place slot inside long (read m m' keeps has)
               ((cut.file there).shorter (let one = one_slot head.form place head.size (omega (arith, inside)) in
               let least = (slot_some head.form).0 in omega (arith, one, least))) file.bytes;
         }
 
     apart_then : IsApart s.lost d → IsApart b.lost d
     apart_then is =
-        let was = still_apart s a d reads is in
+        let was = still_apart reads is in
         record { inode = shrinks.lost _ ∙ was.inode; above = λ i. shrinks.lost _ ∙ was.above i }
 
     fitting : (m m' : LogMap) → s'.device.keeps_model → s.has m m' → s.fits m → TakesDrop s m m' d head → s'.fits m
@@ -112,7 +112,7 @@ module _ {S D : Type 0} where
         let shorter = shrinks.fits m m' (reads.has m m' has) (reads.fits m fit)
         record {
           there = takes.there;
-          apart = still_apart s a d reads takes.apart;
+          apart = still_apart reads takes.apart;
           within = λ none. absurd (takes.staged none);
           header = takes.header;
         } in
@@ -138,16 +138,15 @@ module _ {S D : Type 0} where
     counts_other few first next m x y keeps has has' there whole map are =
         let before = last.looks.carries.kept_before keeps in
         let cut = sized m x keeps has in
-        let kept = cut_kept x cut.map d head few there whole
-        (file_cut x cut.map d head (one_slot head.form place head.size (omega (arith, inside))) (cut.file there)) in
+        let kept = cut_kept few there whole (file_cut d (one_slot head.form place head.size (omega (arith, inside))) (cut.file there)) in
         next m cut.map y keeps cut.has has' kept map
         (first m x cut.map before (reads.has m x has) cut.has there.map kept
         (subst (λ (t : Counted). AreCounted x t) (sym reads.drafted) are))
 
   -- what fails where the slot is written
-  pub fails_last : (s a b s' : FilesState S D) (d : ℕ) (head : Header) (len : ℕ) → Reads s a → Redrafts a b → Redrafts b s'
+  pub fails_last : {s a b s' : FilesState S D} {d : ℕ} {head : Header} {len : ℕ} → Reads s a → Redrafts a b → Redrafts b s'
       → Shrinks a b d head len → IsFault b s' → IsFault s s'
-  fails_last s a b s' d head len reads more last shrinks failed m m' keeps has =
+  fails_last reads more last shrinks failed m m' keeps has =
       let cut = shrinks.has m m' (last.looks.carries.kept_before keeps) (reads.has m m' has) in
       let rose = failed m cut.map keeps cut.has in
       let one = reads.looks.carries.failures in
@@ -155,27 +154,29 @@ module _ {S D : Type 0} where
       omega (arith, rose, one, two)
 
   -- ---- the slot of a name goes
-  pub drops_behind : (s a s' : FilesState S D) (d : ℕ) (head : Header) (place : ℕ) → Reads s a → DropsSlot a s' d head place
+  pub drops_behind : (s a : FilesState S D) {s' : FilesState S D} (d : ℕ) {head : Header} {place : ℕ} → Reads s a
+      → DropsSlot a s' d head place
       → DropsSlot s s' d head place
-  drops_behind s a s' d head place reads drops = record {
+  drops_behind s a d reads drops = record {
     lost = λ x. drops.lost x ∙ reads.lost x;
     headers = let more = drops.headers in let same = reads.headers in omega (arith, more, same);
     blocks = let more = drops.blocks in let same = reads.blocks in omega (arith, more, same);
     fits = λ m m' keeps has fit takes. drops.fits m m' keeps (reads.has m m' has) (reads.fits m fit)
-        record { staged = takes.staged; there = takes.there; header = takes.header; apart = still_apart s a d reads takes.apart };
+        record { staged = takes.staged; there = takes.there; header = takes.header; apart = still_apart reads takes.apart };
     has = λ m m' keeps has. drops.has m m' keeps (reads.has m m' has);
   }
 
-  pub counts_behind : (s a s' : FilesState S D) (d : ℕ) (head : Header) → Reads s a → CountsDropped a s' d head → CountsDropped s s' d head
-  counts_behind s a s' d head reads counts m x y keeps has has' there long map are =
+  pub counts_behind : {s a : FilesState S D} (s' : FilesState S D) (d : ℕ) (head : Header) → Reads s a → CountsDropped a s' d head
+      → CountsDropped s s' d head
+  counts_behind s' d head reads counts m x y keeps has has' there long map are =
       counts m x y keeps (reads.has m x has) has' there long map (subst (λ (t : Counted). AreCounted x t) (sym reads.drafted) are)
 
-  pub takes : (s a s' : FilesState S D) (d : ℕ) (head : Header) (name : List ℕ) (found : Found) → Reads s a → Redrafts a s'
+  pub takes : {s a s' : FilesState S D} {d : ℕ} {head : Header} {name : List ℕ} (found : Found) → Reads s a → Redrafts a s'
       → FindsName s a d head name found
       → DropsSlot a s' d head found.place → Takes s s' d head name
-  takes s a s' d head name found reads more finds drops = record {
+  takes {s} {a} {s'} {d} {head} {name} found reads more finds drops = record {
     place = found.place;
-    drops = drops_behind s a s' d head found.place reads drops;
+    drops = drops_behind s a d reads drops;
     has = λ m m' keeps has.
         let f = drops.has m m' keeps (reads.has m m' has) in
         record {

@@ -24,7 +24,7 @@ wide_enough zero size whole = omega (arith, whole)
 wide_enough (suc form) size whole = omega (arith, whole)
 
 -- ---- a file with another header
-module _ (m m' : LogMap) (d : ℕ) (head : Header) (is : IsWithHeader m d (Some (as_header (wide head))) m') where
+module _ (m : LogMap) {m' : LogMap} (d : ℕ) (head : Header) (is : IsWithHeader m d (Some (as_header (wide head))) m') where
   only_header : IsChangedAt m d m'
   only_header = record { headers = is.others; blocks = λ k i other. is.block k i; version = is.version }
 
@@ -73,12 +73,12 @@ module _ {S D : Type 0} (s a b : FilesState S D) (d : ℕ) (head : Header) (byte
 
   apart_then : IsApart s.lost d → IsApart b.lost d
   apart_then is =
-      let was = still_apart s a d reads is in
+      let was = still_apart reads is in
       record { inode = reforms.lost _ ∙ was.inode; above = λ i. reforms.lost _ ∙ was.above i }
 
   reform_fits : (m m' : LogMap) → s.has m m' → s.fits m → TakesWide s m m' d head → b.fits m
   reform_fits m m' has fit takes = reforms.fits m m' (reads.has m m' has)
-      (reads.fits m fit) record { there = takes.there; apart = still_apart s a d reads takes.apart; header = takes.header }
+      (reads.fits m fit) record { there = takes.there; apart = still_apart reads takes.apart; header = takes.header }
 
   few_asked : s.headers ≡ 0 → s.blocks ≡ 0 → b.asked ≤ asked_by_directory
   few_asked no_header no_block =
@@ -98,8 +98,8 @@ module _ {S D : Type 0} (s a b : FilesState S D) (d : ℕ) (head : Header) (byte
         record {
           map = r.map;
           has = r.has;
-          file = header_widens m' r.map d head r.file;
-          names = λ dir. names_wide m' r.map d head bytes (told m m' (more.looks.carries.kept_before keeps) has)
+          file = header_widens m' d head r.file;
+          names = λ dir. names_wide m' r.map d head (told m m' (more.looks.carries.kept_before keeps) has)
               (λ p low. absurd (omega (arith, low, none))) dir;
         };
   }
@@ -127,7 +127,7 @@ module _ {S D : Type 0} (s a b : FilesState S D) (d : ℕ) (head : Header) (byte
         let r = reformed_map m m' has in
         let f = writes.file m r.map keeps r.has in
         let file = subst (λ (z : ℕ). WritesFile r.map f.map d (wide head) (resized (wide head) z) 0 bytes) size f.file in
-        let first = header_widens m' r.map d head r.file in
+        let first = header_widens m' d head r.file in
         record {
           map = f.map;
           has = f.has;
@@ -142,7 +142,7 @@ module _ {S D : Type 0} (s a b : FilesState S D) (d : ℕ) (head : Header) (byte
             ends = λ whole ends p past. file.bytes.bytes.behind p (omega (arith, past, long)) ∙ first.ends whole ends p past;
           };
           names = λ dir.
-              names_wide m' f.map d head bytes (told m m' (more.looks.carries.kept_before (last.looks.carries.kept_before keeps)) has)
+              names_wide m' f.map d head (told m m' (more.looks.carries.kept_before (last.looks.carries.kept_before keeps)) has)
               (λ p low. let here : 0 + p ≡ p = omega arith in sym (ap (λ (q : ℕ). byte_in f.map d q) here) ∙ file.bytes.bytes.inside p low)
               dir;
         }
@@ -172,6 +172,6 @@ module _ {S D : Type 0} (s a b : FilesState S D) (d : ℕ) (head : Header) (byte
     pub counts_written : CountsReformed a b d head → Counts b s' → CountsWidened s s' d head
     counts_written first next m x y keeps has has' there whole dir form map are =
         let r = reformed_map m x has in
-        let kept = header_kept x r.map d head r.file few there whole dir form in
+        let kept = header_kept x d head r.file few there whole dir form in
         next m r.map y keeps r.has has' kept map
         (first m x r.map (reads.has m x has) r.has there.there (subst (λ (t : Counted). AreCounted x t) (sym reads.drafted) are))

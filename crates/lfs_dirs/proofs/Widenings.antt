@@ -29,28 +29,28 @@ use Rattle.lfs_dirs.proofs.Widths.{next_block}
 
 -- ---- one slot
 -- a name of a directory of any form is one of a directory of form 1
-longer : (form : ℕ) (name : List ℕ) → IsName (name_len form) name → IsName (name_len 1) name
-longer form name is = record { long = is.long; short = at_most form is.short; bytes = is.bytes; dot = is.dot; dotdot = is.dotdot }
+longer : (form : ℕ) {name : List ℕ} → IsName (name_len form) name → IsName (name_len 1) name
+longer form {name} is = record { long = is.long; short = at_most form is.short; bytes = is.bytes; dot = is.dot; dotdot = is.dotdot }
   where
     at_most : (form : ℕ) → length name ≤ name_len form → length name ≤ name_len 1
     at_most zero short = omega (arith, short)
     at_most (suc form) short = short
 
-pub fits_wide : (form : ℕ) (s : SlotValue) → FitsSlot form s → FitsSlot 1 s
-fits_wide form s fits = record { number = fits.number; name = longer form s.name fits.name }
+pub fits_wide : {form : ℕ} (s : SlotValue) → FitsSlot form s → FitsSlot 1 s
+fits_wide {form} s fits = record { number = fits.number; name = longer form fits.name }
 
 module _ (form : ℕ) where
   -- a slot says in form 1 what it said
   says_by : (o : Option SlotValue) (x : List ℕ) → slot_in form x ≡ o → o ≢ None → slot_in 1 (wide_slot_of o) ≡ o
   says_by None x is some = absurd (some refl)
-  says_by (Some s) x is some = slot_some 1 (slot_bytes 1 s) s (fits_wide form s (slot_found form x s is).0) refl
+  says_by (Some s) x is some = slot_some 1 (slot_bytes 1 s) (fits_wide s (slot_found form x s is).0) refl
 
   says : (x : List ℕ) → slot_in form x ≢ None → slot_in 1 (wide_slot form x) ≡ slot_in form x
   says x some = says_by (slot_in form x) x refl some
 
   long_by : (o : Option SlotValue) (x : List ℕ) → slot_in form x ≡ o → o ≢ None → length (wide_slot_of o) ≡ slot_len 1
   long_by None x is some = absurd (some refl)
-  long_by (Some s) x is some = length-slot 1 s (fits_wide form s (slot_found form x s is).0)
+  long_by (Some s) x is some = length-slot 1 (fits_wide s (slot_found form x s is).0)
 
   pub wide_long : (x : List ℕ) → slot_in form x ≢ None → length (wide_slot form x) ≡ slot_len 1
   wide_long x some = long_by (slot_in form x) x refl some
@@ -104,7 +104,7 @@ whole_wide n = omega arith
 get_slot : (a : List (List ℕ)) (form j : ℕ) → j < length a → get_or (map (wide_slot form) a) j [] ≡ wide_slot form (get_or a j [])
 get_slot a form j low = get_or-map (wide_slot form) a j [] [] low
 
-module _ (m m' : LogMap) (d : ℕ) (head : Header) (bytes : List ℕ) (is : AppendsWide head.form (slots_at m d head) [] bytes)
+module _ (m m' : LogMap) (d : ℕ) (head : Header) {bytes : List ℕ} (is : AppendsWide head.form (slots_at m d head) [] bytes)
     (each : (p : ℕ) → p < length bytes → byte_in m' d p ≡ get_or bytes p 0) where
   slots_wide : slots_at m' d (wide head) ≡ map (wide_slot head.form) (slots_at m d head)
   slots_wide =
@@ -119,8 +119,7 @@ module _ (m m' : LogMap) (d : ℕ) (head : Header) (bytes : List ℕ) (is : Appe
       (λ j low.
       let within : j < slot_count head = omega (arith, low, many', count) in
       let here : j < length (slots_at m d head) = omega (arith, within, many) in
-      slot_is m' d (wide head) j (get_or (map (wide_slot head.form) (slots_at m d head)) j []) (omega (arith, within, count))
-      (ap length (get_slot (slots_at m d head) head.form j here)
+      slot_is m' d (wide head) j (omega (arith, within, count)) (ap length (get_slot (slots_at m d head) head.form j here)
       ∙ wide_long head.form (get_or (slots_at m d head) j []) (at_slot (slots_at m d head) j formed here))
       (λ b small.
       ap (λ (s : List ℕ). get_or s b 0) (get_slot (slots_at m d head) head.form j here)
@@ -163,9 +162,10 @@ module _ (form : ℕ) (block : List ℕ) (count : ℕ) where
         formed = λ is. subst (λ (k : ℕ). AreSlots form (slots_in form block 0 k)) all is;
       }
 
-  pub wide_goes_on : (old now next slot : List ℕ) (place : ℕ) → place < count → slot ≡ part (slot_len form * place) (slot_len form) block
+  pub wide_goes_on : {old now : List ℕ} (next : List ℕ) {slot : List ℕ} {place : ℕ} → place < count
+      → slot ≡ part (slot_len form * place) (slot_len form) block
       → WideTo old place now → next ≡ now ++ wide_slot form slot → slot_in form slot ≢ None → WideTo old (place + 1) next
-  wide_goes_on old now next slot place low own was more formed =
+  wide_goes_on {now} next {slot} {place} low own was more formed =
       let rest : List (List ℕ) = slots_in form block (place + 1) (count - (place + 1)) in
       let split : slots_in form block place (count - place) ≡ slot ∷ rest = next_slot form block place count low
       ∙ ap (λ (s : List ℕ). s ∷ rest) (sym own) in
@@ -178,20 +178,20 @@ module _ (form : ℕ) (block : List ℕ) (count : ℕ) where
         formed = λ behind. was.formed (subst (AreSlots form) (sym split) (formed, behind));
       }
 
-  pub wide_ends : (old now : List ℕ) (place : ℕ) → count ≤ place → WideTo old place now
+  pub wide_ends : {old now : List ℕ} {place : ℕ} → count ≤ place → WideTo old place now
       → AppendsWide form (first_slots form block count) old now
-  wide_ends old now place past was =
+  wide_ends {now} {place} past was =
       let none = no_slots form block place count past in
       record {
         bytes = sym (append-nil now) ∙ sym (ap (λ (a : List (List ℕ)). now ++ wide_bytes form a) none) ∙ was.bytes;
         formed = was.formed (subst (AreSlots form) (sym none) tt);
       }
 
-module _ {S D : Type 0} (s s' : FilesState S D) (form d index count : ℕ) (few : count ≤ per_block form) (block : List ℕ)
+module _ {S D : Type 0} (s s' : FilesState S D) {form : ℕ} (d index count : ℕ) (few : count ≤ per_block form) (block : List ℕ)
     (told : TellsBlock s s' d index block) where
-  pub block_widened : (old new : List ℕ) → AppendsWide form (first_slots form block count) old new
+  pub block_widened : {old new : List ℕ} → AppendsWide form (first_slots form block count) old new
       → WidensBlock s s' form d index count old new
-  block_widened old new is m m' keeps has head same room =
+  block_widened {old} {new} is m m' keeps has head same room =
       by (subst (λ (f : ℕ). count ≤ per_block f) (sym same) few)
       (subst (λ (f : ℕ). per_block f * index + count ≤ slot_count head) (sym same) room)
       (subst (λ (f : ℕ). AppendsWide f (first_slots f block count) old new) (sym same) is)
@@ -213,8 +213,8 @@ module _ {S D : Type 0} (d : ℕ) (head : Header) where
     pub formed : (m m' : LogMap) → s'.device.keeps_model → s.has m m'
         → AreSlots head.form (drop (per_block head.form * index) (slots_at m' d head)) → AreSlots head.form (slots_at m' d head)
 
-  pub widening_begins : (s : FilesState S D) (bytes : List ℕ) → bytes ≡ [] → WidenedTo s s 0 bytes
-  widening_begins s bytes none =
+  pub widening_begins : {s : FilesState S D} {bytes : List ℕ} → bytes ≡ [] → WidenedTo s s 0 bytes
+  widening_begins {s} none =
       let first : per_block head.form * 0 ≡ 0 = omega arith in
       record {
         reads = reads_none s;
@@ -224,17 +224,18 @@ module _ {S D : Type 0} (d : ℕ) (head : Header) where
         formed = λ m m' keeps has is. subst (λ (k : ℕ). AreSlots head.form (drop k (slots_at m' d head))) first is;
       }
 
-  module _ (s a b : FilesState S D) (index count : ℕ) (old : List ℕ) (is : count ≡ min (slot_count head - per_block head.form * index)
+  module _ {s a : FilesState S D} (b : FilesState S D) {index : ℕ} (count : ℕ) {old : List ℕ}
+      (is : count ≡ min (slot_count head - per_block head.form * index)
       (per_block head.form)) (low : per_block head.form * index < slot_count head) (was : WidenedTo s a index old) where
-    pub widening_goes_on : (new : List ℕ) → IsLawful s.device → Reads a b → length new ≡ length old + slot_len 1 * count
+    pub widening_goes_on : {new : List ℕ} → IsLawful s.device → Reads a b → length new ≡ length old + slot_len 1 * count
         → WidensBlock a b head.form d index count old new → WidenedTo s b (index + 1) new
-    widening_goes_on new lawful reads long more = record {
-      reads = reads_more s a b lawful was.reads reads;
+    widening_goes_on lawful reads long more = record {
+      reads = reads_more lawful was.reads reads;
       long = (let before = was.long in let next = next_block head.form index in omega (arith, before, long, is, low, next));
       all = λ m m' keeps has.
           let slots = slots_at m' d head in
           let here = more m m' keeps (was.reads.has m m' has) head refl (omega (arith, is, low)) in
-          let split = block_and_rest head.form slots index count (slot_count head) (slots_many m' d head) is in
+          let split = block_and_rest head.form slots index (slots_many m' d head) is in
           let some : List (List ℕ) = take count (drop (per_block head.form * index) slots) in
           let rest : List (List ℕ) = drop (per_block head.form * (index + 1)) slots in
           ap (λ (w : List ℕ). w ++ wide_bytes head.form rest) here.bytes
@@ -245,7 +246,7 @@ module _ {S D : Type 0} (d : ℕ) (head : Header) where
       formed = λ m m' keeps has behind.
           let slots = slots_at m' d head in
           let here = more m m' keeps (was.reads.has m m' has) head refl (omega (arith, is, low)) in
-          let split = block_and_rest head.form slots index count (slot_count head) (slots_many m' d head) is in
+          let split = block_and_rest head.form slots index (slots_many m' d head) is in
           was.formed m m' (reads.looks.carries.kept_before keeps) has
           (subst (AreSlots head.form) (sym split) (both (take count (drop (per_block head.form * index) slots))
           (drop (per_block head.form * (index + 1)) slots) here.formed behind));
@@ -261,9 +262,9 @@ module _ {S D : Type 0} (d : ℕ) (head : Header) where
         let before = was.reads.looks.carries.failures in
         omega (arith, rose, before)
 
-  pub widening_ends : (s a : FilesState S D) (index : ℕ) (bytes : List ℕ) → slot_count head ≤ per_block head.form * index
+  pub widening_ends : {s a : FilesState S D} {index : ℕ} {bytes : List ℕ} → slot_count head ≤ per_block head.form * index
       → WidenedTo s a index bytes → TellsWide s a d head bytes
-  widening_ends s a index bytes past was m m' keeps has =
+  widening_ends {index} {bytes} past was m m' keeps has =
       let slots = slots_at m' d head in
       let many = slots_many m' d head in
       let none = drop_all (per_block head.form * index) slots (omega (arith, many, past)) in
@@ -272,11 +273,11 @@ module _ {S D : Type 0} (d : ℕ) (head : Header) where
         formed = was.formed m m' keeps has (subst (AreSlots head.form) (sym none) tt);
       }
 
-  pub widening_long : (s a : FilesState S D) (index : ℕ) (bytes : List ℕ) → slot_count head ≤ per_block head.form * index
+  pub widening_long : {s a : FilesState S D} {index : ℕ} {bytes : List ℕ} → slot_count head ≤ per_block head.form * index
       → WidenedTo s a index bytes → length bytes ≡ slot_len 1 * slot_count head
-  widening_long s a index bytes past was = let long = was.long in omega (arith, long, past)
+  widening_long past was = let long = was.long in omega (arith, long, past)
 
-  pub widening_few : (s a : FilesState S D) (index : ℕ) (bytes : List ℕ) → head.size ≤ 1024 * slot_len head.form
+  pub widening_few : {s a : FilesState S D} {index : ℕ} {bytes : List ℕ} → head.size ≤ 1024 * slot_len head.form
       → slot_count head ≤ per_block head.form * index → WidenedTo s a index bytes → length bytes ≤ 1024 * slot_len 1
-  widening_few s a index bytes few past was = let long = widening_long s a index bytes past was in
+  widening_few {s} {a} {index} {bytes} few past was = let long = widening_long past was in
       let slots = few_slots head.form head.size few in omega (arith, long, slots)

@@ -91,13 +91,14 @@ slot_next zero place = omega arith
 slot_next (suc form) place = omega arith
 
 -- the slots of the blocks before one
-pub blocks_low : (form index slots whole : ℕ) → whole ≡ per_block form → index < div_ceil slots whole → per_block form * index < slots
-blocks_low zero index slots whole is low = let less = subst (λ (w : ℕ). index < div_ceil slots w) is low in omega (arith, less)
-blocks_low (suc form) index slots whole is low = let less = subst (λ (w : ℕ). index < div_ceil slots w) is low in omega (arith, less)
+pub blocks_low : (form index slots : ℕ) {whole : ℕ} → whole ≡ per_block form → index < div_ceil slots whole → per_block form * index < slots
+blocks_low zero index slots is low = let less = subst (λ (w : ℕ). index < div_ceil slots w) is low in omega (arith, less)
+blocks_low (suc form) index slots is low = let less = subst (λ (w : ℕ). index < div_ceil slots w) is low in omega (arith, less)
 
-pub blocks_past : (form index slots whole : ℕ) → whole ≡ per_block form → div_ceil slots whole ≤ index → slots ≤ per_block form * index
-blocks_past zero index slots whole is past = let most = subst (λ (w : ℕ). div_ceil slots w ≤ index) is past in omega (arith, most)
-blocks_past (suc form) index slots whole is past = let most = subst (λ (w : ℕ). div_ceil slots w ≤ index) is past in omega (arith, most)
+pub blocks_past : (form index slots : ℕ) {whole : ℕ} → whole ≡ per_block form → div_ceil slots whole ≤ index
+    → slots ≤ per_block form * index
+blocks_past zero index slots is past = let most = subst (λ (w : ℕ). div_ceil slots w ≤ index) is past in omega (arith, most)
+blocks_past (suc form) index slots is past = let most = subst (λ (w : ℕ). div_ceil slots w ≤ index) is past in omega (arith, most)
 
 -- a slot that is written is in one block
 pub one_block : (form place : ℕ) → (slot_len form * place + slot_len form) / 512 + min 1 ((slot_len form * place + slot_len form) % 512)
@@ -105,9 +106,9 @@ pub one_block : (form place : ℕ) → (slot_len form * place + slot_len form) /
 one_block zero place = omega arith
 one_block (suc form) place = omega arith
 
-pub blocks_up : (form slots whole : ℕ) → whole ≡ per_block form → per_block form * div_ceil slots whole < slots + per_block form
-blocks_up zero slots whole is = subst (λ (w : ℕ). 8 * div_ceil slots w < slots + 8) (sym is) (omega arith)
-blocks_up (suc form) slots whole is = subst (λ (w : ℕ). 4 * div_ceil slots w < slots + 4) (sym is) (omega arith)
+pub blocks_up : (form slots : ℕ) {whole : ℕ} → whole ≡ per_block form → per_block form * div_ceil slots whole < slots + per_block form
+blocks_up zero slots is = subst (λ (w : ℕ). 8 * div_ceil slots w < slots + 8) (sym is) (omega arith)
+blocks_up (suc form) slots is = subst (λ (w : ℕ). 4 * div_ceil slots w < slots + 4) (sym is) (omega arith)
 
 pub block_before : (form index : ℕ) → 0 < index → per_block form * (index - 1) + per_block form ≡ per_block form * index
 block_before zero index some = omega (arith, some)

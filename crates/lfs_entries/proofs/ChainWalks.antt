@@ -10,7 +10,7 @@ pub record RisesTo (chain : List ℕ) (n : ℕ) (now : List ℕ) : Type 0 where
   pub is : now ≡ risen_by count chain
   pub none : (k : ℕ) → k < count → here (risen_by k chain) ≢ n
 
-module _ (chain : List ℕ) (n : ℕ) (now : List ℕ) (rises : RisesTo chain n now) where
+module _ {chain : List ℕ} {n : ℕ} {now : List ℕ} (rises : RisesTo chain n now) where
   other_to : here now ≢ n → (k : ℕ) → k < suc rises.count → here (risen_by k chain) ≢ n
   other_to other k lt = ⊎_elim
       (λ (low : k < rises.count). rises.none k low)

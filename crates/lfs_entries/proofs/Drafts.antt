@@ -19,7 +19,7 @@ module _ {S D : Type 0} (s s' : FilesState S D) where
 
 -- ---- other links
 
-module _ {S D : Type 0} (s s' : FilesState S D) (n : ℕ) (h : Header) (links : ℕ) where
+module _ {S D : Type 0} {s s' : FilesState S D} {n : ℕ} {h : Header} {links : ℕ} where
   pub links_drafted : 0 < links → SetsLinks s s' n h links → CountsRelinked s s' n h → Relinks s s' true n h links
   links_drafted some sets counts = record {
     lost = sets.lost some;
@@ -36,18 +36,18 @@ module _ {S D : Type 0} (s s' : FilesState S D) (n : ℕ) (h : Header) (links : 
 
 -- the links that it has
 module _ {S D : Type 0} (s : FilesState S D) (n : ℕ) (h : Header) where
-  same_links : (m : LogMap) → m.header n ≡ Some (as_header h) → IsWithHeader m n (Some (as_header (relinked h h.links))) m
-  same_links m there = record { own = there; version = refl; others = λ k other. refl; block = λ k i. refl }
+  same_links : {m : LogMap} → m.header n ≡ Some (as_header h) → IsWithHeader m n (Some (as_header (relinked h h.links))) m
+  same_links there = record { own = there; version = refl; others = λ k other. refl; block = λ k i. refl }
 
-  pub links_stay : (links : ℕ) → links ≡ h.links → Relinks s s false n h links
-  links_stay links same = subst (Relinks s s false n h) (sym same) record {
+  pub links_stay : {links : ℕ} → links ≡ h.links → Relinks s s false n h links
+  links_stay same = subst (Relinks s s false n h) (sym same) record {
     lost = λ x. refl;
     fits = λ m m' has fits takes. fits;
     has = λ m m' has. record {
       map = m';
       has = has;
       same = λ still. refl;
-      file = same_links m';
+      file = same_links;
       keeps = λ log there. log;
       counted = λ there are. are;
     };

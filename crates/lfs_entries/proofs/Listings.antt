@@ -47,21 +47,21 @@ nothing_left (x ∷ xs) h = absurd (omega (arith, h))
 
 -- ---- faults behind calls that read
 
-pub fails_where : {S D : Type 0} (s a s' : FilesState S D) (P Q : LogMap → Type 0) → Reads s a
+pub fails_where : {S D : Type 0} {s a : FilesState S D} (s' : FilesState S D) (P Q : LogMap → Type 0) → Reads s a
     → ((m m' : LogMap) → s'.device.keeps_model → s.has m m' → P m' → Q m') → (why : EntryFault) → FailsWhere a s' Q why
     → FailsWhere s s' P why
-fails_where s a s' P Q one so fault.NoEntry never = never
-fails_where s a s' P Q one so fault.NotDir never = never
-fails_where s a s' P Q one so fault.IsDir never = never
-fails_where s a s' P Q one so fault.Exist never = never
-fails_where s a s' P Q one so fault.NotEmpty never = never
-fails_where s a s' P Q one so fault.Inval never = never
-fails_where s a s' P Q one so fault.NameTooLong never = never
-fails_where s a s' P Q one so fault.Perm never = never
-fails_where s a s' P Q one so fault.TooManyLinks never = never
-fails_where s a s' P Q one so fault.DirFull never = never
-fails_where s a s' P Q one so fault.NoMemory memory = tt
-fails_where s a s' P Q one so (fault.Log f) failed = fails_then s a s' P Q one so failed
+fails_where s' P Q one so fault.NoEntry never = never
+fails_where s' P Q one so fault.NotDir never = never
+fails_where s' P Q one so fault.IsDir never = never
+fails_where s' P Q one so fault.Exist never = never
+fails_where s' P Q one so fault.NotEmpty never = never
+fails_where s' P Q one so fault.Inval never = never
+fails_where s' P Q one so fault.NameTooLong never = never
+fails_where s' P Q one so fault.Perm never = never
+fails_where s' P Q one so fault.TooManyLinks never = never
+fails_where s' P Q one so fault.DirFull never = never
+fails_where s' P Q one so fault.NoMemory memory = tt
+fails_where {s} {a} s' P Q one so (fault.Log f) failed = fails_then s' P Q one so failed
 
 -- the names themselves aren't listed
 pub fails_list : {S D : Type 0} (s s' : FilesState S D) (d : ℕ) (head : Header) (f : StoreFault)
@@ -70,7 +70,7 @@ fails_list s s' d head store.NoMemory failed = tt
 fails_list s s' d head (store.Log f) failed = λ m m' keeps has is. failed (λ same. cc) m m' keeps has is.directory
 
 -- ---- behind the names
-module _ {S D T : Type 0} (R : LogMap → List ℕ × ℕ → T → Type 0) (s a s' : FilesState S D) (d : ℕ) (head : Header) (es : List Entry)
+module _ {S D T : Type 0} (R : LogMap → List ℕ × ℕ → T → Type 0) {s a s' : FilesState S D} (d : ℕ) (head : Header) (es : List Entry)
     (one : Reads s a) (two : Reads a s') (lists : Lists s a d head es) where
   pub listed_told : (ts : List T) → InEach a s' (λ m. AreTold (R m) (pairs es) ts)
       → InEach s s' (λ m. AreTold (R m) (names_at m d head) ts)
@@ -78,7 +78,7 @@ module _ {S D T : Type 0} (R : LogMap → List ℕ × ℕ → T → Type 0) (s a
       (lists m m' (two.looks.carries.kept_before keeps) has) (told m m' keeps (one.has m m' has))
 
   pub listed_fails : (why : EntryFault) → FailsWhere a s' (AreThere (pairs es)) why → FailsWhere s s' (IsListable d head) why
-  listed_fails = fails_where s a s' (IsListable d head) (AreThere (pairs es)) one
+  listed_fails = fails_where s' (IsListable d head) (AreThere (pairs es)) one
       (λ m m' keeps has is. subst (λ (ps : Names). AreThere ps m')
       (sym (lists m m' (two.looks.carries.kept_before keeps) has)) is.there)
 
@@ -92,22 +92,22 @@ pub record ToldSoFar {S D T : Type 0} (R : LogMap → List ℕ × ℕ → T → 
   pub long : left ≡ length rest
   pub told : InEach s a (λ m. AreTold (R m) (pairs done) ts)
 
-module _ {S D T : Type 0} (R : LogMap → List ℕ × ℕ → T → Type 0) where
-  pub told_none : (s : FilesState S D) (es rest : List Entry) (left : ℕ) (ts : List T) → rest ≡ es → left ≡ length rest → ts ≡ []
+module _ {S D T : Type 0} {R : LogMap → List ℕ × ℕ → T → Type 0} where
+  pub told_none : {s : FilesState S D} {es rest : List Entry} {left : ℕ} {ts : List T} → rest ≡ es → left ≡ length rest → ts ≡ []
       → ToldSoFar R s s es [] rest left ts
-  told_none s es rest left ts all long none = record {
+  told_none {s} all long none = record {
     reads = reads_none s;
     all = all;
     long = long;
     told = λ m m' keeps has. subst (λ (l : List T). AreTold (R m') [] l) (sym none) tt;
   }
 
-  module _ (s a s' : FilesState S D) (es done before rest : List Entry) (left : ℕ) (was : List T)
-      (so : ToldSoFar R s a es done before left was) (e : Entry) (steps : before ≡ e ∷ rest) (next : Reads a s') where
-    pub told_next : IsLawful s.device → (left' : ℕ) → left ≡ suc left' → (t : T) (now : List T) → now ≡ was ++ t ∷ []
+  module _ {s a s' : FilesState S D} {es done before rest : List Entry} {left : ℕ} {was : List T}
+      (so : ToldSoFar R s a es done before left was) {e : Entry} (steps : before ≡ e ∷ rest) (next : Reads a s') where
+    pub told_next : IsLawful s.device → {left' : ℕ} → left ≡ suc left' → (t : T) {now : List T} → now ≡ was ++ t ∷ []
         → InEach a s' (λ m. R m (pair e) t) → ToldSoFar R s s' es (done ++ e ∷ []) rest left' now
-    told_next lawful left' gone t now put one = record {
-      reads = reads_more s a s' lawful so.reads next;
+    told_next lawful gone t put one = record {
+      reads = reads_more lawful so.reads next;
       all = append_assoc done (e ∷ []) rest ∙ ap (λ (l : List Entry). done ++ l) (sym steps) ∙ so.all;
       long = (let long = so.long in let short = ap length steps in omega (arith, long, short, gone));
       told = λ m m' keeps has.
@@ -118,13 +118,13 @@ module _ {S D T : Type 0} (R : LogMap → List ℕ × ℕ → T → Type 0) wher
     }
 
     pub told_fails : (why : EntryFault) → FailsWhere a s' (HasObject e.number.value) why → FailsWhere s s' (AreThere (pairs es)) why
-    told_fails = fails_where s a s' (AreThere (pairs es)) (HasObject e.number.value) so.reads
+    told_fails = fails_where s' (AreThere (pairs es)) (HasObject e.number.value) so.reads
         (λ m m' keeps has all. there_at m' done rest e
         (subst (λ (l : List Entry). AreThere (pairs l) m') (sym so.all ∙ ap (λ (l : List Entry). done ++ l) steps) all))
 
-  pub told_all : (s a : FilesState S D) (es done rest : List Entry) (left : ℕ) (ts : List T) → ToldSoFar R s a es done rest left ts
+  pub told_all : {s a : FilesState S D} {es done rest : List Entry} {left : ℕ} {ts : List T} → ToldSoFar R s a es done rest left ts
       → left ≡ 0 → InEach s a (λ m. AreTold (R m) (pairs es) ts)
-  told_all s a es done rest left ts so none =
+  told_all {s} {a} {done} {rest} {ts} so none =
       let empty : rest ≡ [] = nothing_left rest (let long = so.long in omega (arith, long, none)) in
       subst (λ (l : List Entry). InEach s a (λ m. AreTold (R m) (pairs l) ts))
       (sym (append-nil done) ∙ ap (λ (l : List Entry). done ++ l) (sym empty) ∙ so.all) so.told
@@ -139,11 +139,11 @@ entry_listed s s' e head header t name number kind m m' keeps has =
     record { name = ap (λ v. v.items) name; number = number; head = head; header = header m m' keeps has tt; kind = kind }
 
 -- a row, with the beginning of its object
-pub row_listed : {S D : Type 0} (s a s' : FilesState S D) (d : ℕ) (e : Entry) (head : Header) → Reads s a → Reads a s'
+pub row_listed : {S D : Type 0} {s a s' : FilesState S D} {d : ℕ} (e : Entry) (head : Header) → Reads s a → Reads a s'
     → Tells s a (λ m. Unit {0}) (HasHeader e.number.value head) → (t : TreeRow) → t.directory ≡ d → t.name ≡ e.name
     → t.number ≡ e.number.value → t.kind ≡ head.kind → t.links ≡ head.links → t.size ≡ head.size
     → InEach a s' (λ m. ShowsHead m e.number.value head head.kind t.head.items) → InEach s s' (λ m. IsRow m d (pair e) t)
-row_listed s a s' d e head one two header t directory name number kind links size shown m m' keeps has = record {
+row_listed e head one two header t directory name number kind links size shown m m' keeps has = record {
   directory = directory;
   name = ap (λ v. v.items) name;
   number = number;

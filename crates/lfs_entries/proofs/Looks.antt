@@ -16,9 +16,9 @@ use Rattle.lfs_entries.specs.NewEntries.{IsFull}
 use Rattle.lfs_entries.specs.OldEntries.{GivesSome}
 
 -- an object whose header isn't told, behind a lookup
-pub object_failed : {S D : Type 0} (s a b : FilesState S D) (d n : ℕ) (name : List ℕ) (head : Header) → Reads s a → Reads a b
+pub object_failed : {S D : Type 0} {s a b : FilesState S D} (d n : ℕ) (name : List ℕ) (head : Header) → Reads s a → Reads a b
     → FindsNumber s a d name head (Some n) → TellsFault a b (HasObject n) → TellsFault s b (IsHolder d)
-object_failed s a b d n name head one two finds = fails_then s a b (IsHolder d) (HasObject n) one
+object_failed {s} {a} {b} d n name head one two finds = fails_then b (IsHolder d) (HasObject n) one
     (λ m m' keeps has holder. (let at = finds m m' (two.looks.carries.kept_before keeps) has in
     holder.gives head name n at.header (sym at.gives)))
 
@@ -30,7 +30,7 @@ module _ {S D : Type 0} (s s' : FilesState S D) (d : ℕ) (name : List ℕ) (hea
   full (Some f) none large finds = absurd (cc)
 
   -- ---- a name of an object
-  module _ (found : Option Object) (o : Object) (is : found ≡ Some o) (finds : FindsName s s' d name head found) where
+  module _ {found : Option Object} {o : Object} (is : found ≡ Some o) (finds : FindsName s s' d name head found) where
     finds_it : FindsName s s' d name head (Some o)
     finds_it m m' keeps has = subst (LooksAt m' d name head) is (finds m m' keeps has)
 

@@ -60,10 +60,10 @@ found_none s is_open = record {
       record { map = m'; has = has; file = refl; keeps = λ log there. log; counted = λ log there are. are };
 }
 
-found_some : {S D : Type 0} (s s' : FilesState S D) (o : Object) (is_open : Bool)
+found_some : {S D : Type 0} (s : FilesState S D) {s' : FilesState S D} (o : Object) {is_open : Bool}
     → Loses s s' o.number.value o.header (stays o.header is_open) → CountsLoss s s' o.number.value o.header
     → LosesFound s s' (Some o) is_open
-found_some s s' o is_open loses counts = record {
+found_some s o loses counts = record {
   apart = λ k other. loses.apart k other;
   fits = loses.fits;
   has = λ m m' keeps has. (let f = loses.has m m' has in record {
@@ -78,7 +78,7 @@ found_some s s' o is_open loses counts = record {
 pub found_then : {S D E : Type 0} (s s' : FilesState S D) (o : Object) (is_open : Bool) (r : Result (Unit {0}) E)
     → OnOk r (Loses s s' o.number.value o.header (stays o.header is_open)) → OnOk r (CountsLoss s s' o.number.value o.header)
     → OnOk r (LosesFound s s' (Some o) is_open)
-found_then s s' o is_open (Ok u) loses counts = found_some s s' o is_open loses counts
+found_then s s' o is_open (Ok u) loses counts = found_some s o loses counts
 found_then s s' o is_open (Err e) loses counts = tt
 
 -- ---- links of both directories
@@ -89,8 +89,8 @@ never_gains true false y same gains = cc
 never_gains false true y same gains = cc
 never_gains false false y same gains = cc
 
-equal_true : (a b : ℕ) → a ≡ b → (a == b) ≡ true
-equal_true a b same =
+equal_true : {a b : ℕ} → a ≡ b → (a == b) ≡ true
+equal_true {a} {b} same =
     ⊎_elim (λ (h : (eqb a b ≡ true) × (a ≡ b)). h.0) (λ (h : (eqb a b ≡ false) × (a ≢ b)). absurd (h.1 same)) (eqb_tells a b)
 
 -- a directory that has another one less has one more of nothing
@@ -98,7 +98,7 @@ gains_apart : (source : Source) (target : Target) → gains_directory source tar
     → source.directory.value ≢ target.directory.value
 gains_apart source target gains same =
     never_gains (is_directory source.object.header.kind) (source.directory.value == target.directory.value) (is_none target.replaced)
-    (equal_true source.directory.value target.directory.value same) gains
+    (equal_true same) gains
 
 gains_none : (source : Source) (target : Target) → source.directory.value ≡ target.directory.value → gains_directory source target ≡ false
 gains_none source target same = by (gains_directory source target) refl
@@ -192,8 +192,8 @@ still_there names na nb other there none = by (eq_by_cmp byte_cmp nb na) refl
 abbrev of_model : entry.Header → Header
 of_model h = record { kind = h.kind; form = h.form; links = h.links; size = h.size }
 
-one_header : (m : LogMap) (n : ℕ) (a b : Header) → HasHeader n a m → HasHeader n b m → a ≡ b
-one_header m n a b at_a at_b =
+one_header : (m : LogMap) (n : ℕ) {a b : Header} → HasHeader n a m → HasHeader n b m → a ≡ b
+one_header m n {a} {b} at_a at_b =
     let both : Some (as_header a) ≡ Some (as_header b) = sym at_a ∙ at_b in
     let same : as_header a ≡ as_header b = cc in
     ap of_model same
@@ -300,7 +300,7 @@ module _ {S D : Type 0} (s a b t : FilesState S D) (source : Source) (target : T
 
   -- ---- behind the first name
   module _ (takes : Takes b t first_d (first_holder source target) source.name.now) where
-    module _ (m m' : LogMap) (keeps : t.device.keeps_model) (has : s.has m m') (move : HasMove source target m') where
+    module _ (m : LogMap) {m' : LogMap} (keeps : t.device.keeps_model) (has : s.has m m') (move : HasMove source target m') where
       abbrev taken : LogMap
       taken = (takes.has m (linked m m' keeps has move) keeps (linked_has m m' keeps has move)).map
 
@@ -347,7 +347,7 @@ module _ {S D : Type 0} (s a b t : FilesState S D) (source : Source) (target : T
           there_a : first_d ≡ second_d → find byte_cmp target.name.now (names_at m' first_d source.holder) ≢ None
           there_a e none = named_b.there (
               let heads : source.holder ≡ target.holder =
-              one_header m' second_d source.holder target.holder (ap m'.header (sym e) ∙ move.holders.first) move.holders.second in
+              one_header m' second_d (ap m'.header (sym e) ∙ move.holders.first) move.holders.second in
               ap (λ (h : Header). find byte_cmp target.name.now (names_at m' second_d h)) (sym heads)
               ∙ ap (λ (d : ℕ). find byte_cmp target.name.now (names_at m' d source.holder)) (sym e) ∙ none)
 
@@ -376,24 +376,24 @@ module _ {S D : Type 0} (s a b t : FilesState S D) (source : Source) (target : T
       second_found (Some o) named_a named_b others = second_named named_a named_b others
 
     -- the second name isn't drafted
-    pub move_names_not : (s' : FilesState S D) → Redrafts t s' → (why : EntryFault)
+    pub move_names_not : {s' : FilesState S D} → Redrafts t s' → (why : EntryFault)
         → FailsWhere t s' (HasFoundName target.replaced second_d (second_holder source target) target.name.now) why
         → FailsWhere s s' (HasNames source target) why
-    move_names_not s' four fault.NoEntry never = never
-    move_names_not s' four fault.NotDir never = never
-    move_names_not s' four fault.IsDir never = never
-    move_names_not s' four fault.Exist never = never
-    move_names_not s' four fault.NotEmpty never = never
-    move_names_not s' four fault.Inval never = never
-    move_names_not s' four fault.NameTooLong never = never
-    move_names_not s' four fault.Perm never = never
-    move_names_not s' four fault.TooManyLinks never = never
-    move_names_not s' four fault.DirFull never = never
-    move_names_not s' four fault.NoMemory memory = tt
-    move_names_not s' four (fault.Log f) failed = λ m m' keeps has names. (
+    move_names_not four fault.NoEntry never = never
+    move_names_not four fault.NotDir never = never
+    move_names_not four fault.IsDir never = never
+    move_names_not four fault.Exist never = never
+    move_names_not four fault.NotEmpty never = never
+    move_names_not four fault.Inval never = never
+    move_names_not four fault.NameTooLong never = never
+    move_names_not four fault.Perm never = never
+    move_names_not four fault.TooManyLinks never = never
+    move_names_not four fault.DirFull never = never
+    move_names_not four fault.NoMemory memory = tt
+    move_names_not four (fault.Log f) failed = λ m m' keeps has names. (
         let before = four.looks.carries.kept_before keeps in
-        let rose = failed m (taken m m' before has names.move) keeps (taken_has m m' before has names.move)
-        (second_found m m' before has names.move target.replaced names.first names.second names.others) in
+        let rose = failed m (taken m before has names.move) keeps (taken_has m before has names.move)
+        (second_found m before has names.move target.replaced names.first names.second names.others) in
         let first = one.looks.carries.failures in
         let second = two.looks.carries.failures in
         let third = three.looks.carries.failures in
@@ -442,7 +442,7 @@ module _ {S D : Type 0} (s a b t : FilesState S D) (source : Source) (target : T
             let move = may.move in
             let before = four.looks.carries.kept_before keeps in
             let l = lost m m' before has move in
-            named_fits target.replaced names m (taken m m' before has move) keeps (taken_has m m' before has move)
+            named_fits target.replaced names m (taken m before has move) keeps (taken_has m before has move)
             (takes.drops.fits m (linked m m' before has move) before (linked_has m m' before has move)
             (both.fits m l (lost_has m m' before has move) (lost_found.fits m m' has fits may.replaced) record {
               holders = holders m m' before has move;
@@ -462,25 +462,22 @@ module _ {S D : Type 0} (s a b t : FilesState S D) (source : Source) (target : T
               staged = may.first_staged;
               there = (links m m' before has move).first;
               header = may.shorter;
-              apart = apart_same a b first_d both.lost (lost_found.apart first_d move.not_first may.first_apart);
-            })
-            (second_there m m' before has move)
-            (apart_same b t second_d takes.drops.lost
-            (apart_same a b second_d both.lost (lost_found.apart second_d move.not_second may.second_apart)))
-            may.second_staged may.longer);
+              apart = apart_same a b both.lost (lost_found.apart first_d move.not_first may.first_apart);
+            }) (second_there m before has move) (apart_same b t takes.drops.lost
+            (apart_same a b both.lost (lost_found.apart second_d move.not_second may.second_apart))) may.second_staged may.longer);
         has = λ m m' keeps has move. (
             let before = four.looks.carries.kept_before keeps in
             let f = takes.has m (linked m m' before has move) before (linked_has m m' before has move) in
-            let g = second_has target.replaced names m (taken m m' before has move) keeps (taken_has m m' before has move) in record {
+            let g = second_has target.replaced names m (taken m before has move) keeps (taken_has m before has move) in record {
               lost = lost m m' before has move;
               linked = linked m m' before has move;
-              taken = taken m m' before has move;
+              taken = taken m before has move;
               map = g.map;
               has = g.has;
               loses = (lost_found.has m m' (kept m m' before has move) has).file;
               links = links m m' before has move;
               same = (both.has m (lost m m' before has move) (lost_has m m' before has move) (holders m m' before has move)).same;
-              untied = record { cut = cut m m' before has move; names = f.names (file m m' before has move) };
+              untied = record { cut = cut m before has move; names = f.names (file m m' before has move) };
               named = g.named;
             });
       }
@@ -491,11 +488,10 @@ module _ {S D : Type 0} (s a b t : FilesState S D) (source : Source) (target : T
           let before = four.looks.carries.kept_before keeps in
           let there = file m x before has move in
           let whole = first_long m x before has move long in
-          let log = cut_kept (linked m x before has move) (taken m x before has move) first_d (first_holder source target) few there whole
-          (cut m x before has move) in
-          recounts m (taken m x before has move) y keeps (taken_has m x before has move) has' log log'
-          (drops m (linked m x before has move) (taken m x before has move) before (linked_has m x before has move)
-          (taken_has m x before has move) there whole log
+          let log = cut_kept few there whole (cut m before has move) in
+          recounts m (taken m before has move) y keeps (taken_has m before has move) has' log log'
+          (drops m (linked m x before has move) (taken m before has move) before (linked_has m x before has move)
+          (taken_has m before has move) there whole log
           ((both.has m (lost m x before has move) (lost_has m x before has move) (holders m x before has move)).counted
           ((lost_found.has m x (kept m x before has move) has).counted move.map move.replaced are)))
 
@@ -521,9 +517,9 @@ later_by source target may false apart = record {
   is_name = may.is_name;
 }
 
-pub later_fits : (source : Source) (target : Target) → MayMove source target → (from to holder : Header) → from ≡ first_holder source target
+pub later_fits : {source : Source} {target : Target} → MayMove source target → {from to holder : Header} → from ≡ first_holder source target
     → to ≡ second_linked source target → holder ≡ (if source.directory.value == target.directory.value then shrunk from else to)
     → FitsLater target holder
-later_fits source target may from to holder first second is =
+later_fits {source} {target} may first second is =
     subst (FitsLater target) (sym (is ∙ (λ i. if source.directory.value == target.directory.value then shrunk (first i) else second i)))
     (later_by source target may (source.directory.value == target.directory.value) refl)

@@ -13,8 +13,8 @@ use Rattle.lfs_entries.proofs.NewObjects.{made_log}
 
 module _ {S D : Type 0} where
   -- ---- draft behind draft
-  pub apart_same : (a b : FilesState S D) (n : ℕ) → ((x : _) → b.lost x ≡ a.lost x) → IsApart a.lost n → IsApart b.lost n
-  apart_same a b n same is = record { inode = same _ ∙ is.inode; above = λ i. same _ ∙ is.above i }
+  pub apart_same : (a b : FilesState S D) {n : ℕ} → ((x : _) → b.lost x ≡ a.lost x) → IsApart a.lost n → IsApart b.lost n
+  apart_same a b same is = record { inode = same _ ∙ is.inode; above = λ i. same _ ∙ is.above i }
 
   -- what failed behind a draft, where there are files with it
   pub fails_after : (a b c : FilesState S D) → Redrafts a b → Redrafts b c
@@ -74,7 +74,7 @@ module _ {S D : Type 0} (s a b s' : FilesState S D) (d : ℕ) (head : Header) (n
           header = takes.links;
         })) record {
           there = (l.file at).own;
-          apart = apart_same a b d links.lost (apart_same s a d object.lost takes.named.apart);
+          apart = apart_same a b links.lost (apart_same s a object.lost takes.named.apart);
           within = λ none. absurd (takes.named.staged none);
           header = takes.named.longer;
         };
@@ -96,13 +96,13 @@ module _ {S D : Type 0} (s a b s' : FilesState S D) (d : ℕ) (head : Header) (n
   entry_counted counts recounts m x y keeps has has' lacks form log' are =
       let at = there m x keeps has lacks in
       let l = links.has m (made m x keeps has lacks) (made_has m x keeps has lacks) in
-      let log = made_log x (made m x keeps has lacks) n k (is_made m x keeps has lacks) some lacks.free form lacks.map in
+      let log = made_log x n k (is_made m x keeps has lacks) some lacks.free form lacks.map in
       recounts m l.map y keeps l.has has' (l.keeps log (λ changes. at)) log'
       (l.counted (λ changes. at)
       (counts m x (made m x keeps has lacks) (kept m x keeps has lacks) has (made_has m x keeps has lacks) lacks.map log lacks.free are))
 
 -- ---- a link more of an object, and its name
-module _ {S D : Type 0} (s a s' : FilesState S D) (d : ℕ) (head : Header) (n : ℕ) (object : Header) (name : List ℕ)
+module _ {S D : Type 0} {s a s' : FilesState S D} {d : ℕ} {head : Header} {n : ℕ} {object : Header} {name : List ℕ}
     (sets : SetsLinks s a n object (object.links + 1)) (adds : Adds a s' d head n name) where
   pub name_counted : CountsRelinked s a n object → Counts a s' → CountsName s s' n object
   name_counted relinks recounts m x y keeps has has' log there log' are =

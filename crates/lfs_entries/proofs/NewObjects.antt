@@ -22,7 +22,7 @@ use Rattle.lfs_files.specs.Making.{CountsMade, Makes}
 use Rattle.lfs_entries.specs.NewObjects.{CountsObject, DraftsObject, IsMade, NewKind, form_of_new, kind_of_new, new_directory, new_file}
 use Rattle.lfs_entries.specs.NewObjects.{new_header, new_link}
 
-module _ (m m1 : LogMap) (n : ℕ) (k : NewKind) (made : IsMade m n k m1) (some : 1 ≤ n) (free : m.header n ≡ None)
+module _ (m : LogMap) {m1 : LogMap} (n : ℕ) (k : NewKind) (made : IsMade m n k m1) (some : 1 ≤ n) (free : m.header n ≡ None)
     (formed : IsForm m.version (kind_of_new k) (form_of_new k)) where
   made_object : IsLogMap m → IsObject m1 n (as_header (new_header k))
   made_object log = record {
@@ -39,7 +39,7 @@ module _ (m m1 : LogMap) (n : ℕ) (k : NewKind) (made : IsMade m n k m1) (some 
 
 -- ---- its header alone
 
-module _ (m m1 : LogMap) (log : IsLogMap m) (n : ℕ) (free : m.header n ≡ None) (h : Header)
+module _ {m m1 : LogMap} (log : IsLogMap m) {n : ℕ} (free : m.header n ≡ None) (h : Header)
     (with_it : IsWithHeader m n (Some (as_header h)) m1) where
   -- what has no header has no block
   no_data : (i : ℕ) → HasData m n i → ⊥
@@ -59,7 +59,7 @@ module _ (m m1 : LogMap) (log : IsLogMap m) (n : ℕ) (free : m.header n ≡ Non
   blank_byte p = ap (λ (b : List ℕ). slice_index b (p % 512)) (no_block (p / 512))
 
   header_changed : IsChangedAt m n m1
-  header_changed = with_header_at m m1 n (Some (as_header h)) with_it
+  header_changed = with_header_at m m1 n with_it
 
 none_small : 0 ≤ 8511488
 none_small = omega arith
@@ -69,26 +69,26 @@ no_bytes : (m : LogMap) (n : ℕ) (k : Kind) (form : ℕ) → object m n (as_hea
 unfolding object
 no_bytes m n k form = refl
 
-module _ (m m1 : LogMap) (log : IsLogMap m) (n : ℕ) (free : m.header n ≡ None) where
+module _ (m : LogMap) {m1 : LogMap} (log : IsLogMap m) (n : ℕ) (free : m.header n ≡ None) where
   file_made : IsWithHeader m n (Some (as_header (first_header kind.File 0 0))) m1 → IsMade m n new_file m1
   file_made with_it = record {
     own = with_it.own;
-    changed = header_changed m m1 log n free (first_header kind.File 0 0) with_it;
+    changed = header_changed log free (first_header kind.File 0 0) with_it;
     bytes = no_bytes m1 n kind.File 0;
     small = none_small;
-    whole = blank_whole m m1 log n free (first_header kind.File 0 0) with_it;
-    ends = λ p le. blank_byte m m1 log n free (first_header kind.File 0 0) with_it p;
+    whole = blank_whole log free (first_header kind.File 0 0) with_it;
+    ends = λ p le. blank_byte log free (first_header kind.File 0 0) with_it p;
   }
 
   directory_made : (form : ℕ) → IsWithHeader m n (Some (as_header (first_header kind.Directory form 0))) m1
       → IsMade m n (new_directory form) m1
   directory_made form with_it = record {
     own = with_it.own;
-    changed = header_changed m m1 log n free (first_header kind.Directory form 0) with_it;
+    changed = header_changed log free (first_header kind.Directory form 0) with_it;
     bytes = no_bytes m1 n kind.Directory form;
     small = none_small;
-    whole = blank_whole m m1 log n free (first_header kind.Directory form 0) with_it;
-    ends = λ p le. blank_byte m m1 log n free (first_header kind.Directory form 0) with_it p;
+    whole = blank_whole log free (first_header kind.Directory form 0) with_it;
+    ends = λ p le. blank_byte log free (first_header kind.Directory form 0) with_it p;
   }
 
 -- a link whose text is laid over its zeros
@@ -101,15 +101,15 @@ module _ (m blank m1 : LogMap) (log : IsLogMap m) (n : ℕ) (free : m.header n �
   link_made with_it writes = record {
     own = writes.header ∙ ap (λ (size : ℕ). Some (as_header (resized h size))) same_size;
     changed = record {
-      headers = λ q ne. writes.only.headers q ne ∙ (header_changed m blank log n free h with_it).headers q ne;
-      blocks = λ q i ne. writes.only.blocks q i ne ∙ (header_changed m blank log n free h with_it).blocks q i ne;
+      headers = λ q ne. writes.only.headers q ne ∙ (header_changed log free h with_it).headers q ne;
+      blocks = λ q i ne. writes.only.blocks q i ne ∙ (header_changed log free h with_it).blocks q i ne;
       version = writes.only.version ∙ with_it.version;
     };
     bytes = object_is m1 n (as_header h) text refl (λ p lt. ap (byte_in m1 n) (from_start p) ∙ writes.bytes.bytes.inside p lt);
     small = few;
-    whole = writes.whole (blank_whole m blank log n free h with_it);
+    whole = writes.whole (blank_whole log free h with_it);
     ends = λ p le.
-        (let past : length text ≤ p = le in writes.bytes.bytes.behind p (omega (arith, past)) ∙ blank_byte m blank log n free h with_it p);
+        (let past : length text ≤ p = le in writes.bytes.bytes.behind p (omega (arith, past)) ∙ blank_byte log free h with_it p);
   }
     where
       from_start : (p : ℕ) → p ≡ 0 + p
@@ -130,7 +130,7 @@ module _ {S D : Type 0} (s s' : FilesState S D) (n : ℕ) where
     fits = λ m m' has fits takes.
         makes.fits m m' has fits record { free = takes.free; apart = takes.apart.inode; header = takes.header };
     has = λ m m' keeps has. (let f = makes.has m m' has in
-        record { map = f.map; has = f.has; made = λ log free. file_made m' f.map log n free f.file });
+        record { map = f.map; has = f.has; made = λ log free. file_made m' log n free f.file });
   }
 
   pub directory_drafted : (form : ℕ) → Makes s s' n (first_header kind.Directory form 0) → DraftsObject s s' n (new_directory form)
@@ -139,14 +139,14 @@ module _ {S D : Type 0} (s s' : FilesState S D) (n : ℕ) where
     fits = λ m m' has fits takes.
         makes.fits m m' has fits record { free = takes.free; apart = takes.apart.inode; header = takes.header };
     has = λ m m' keeps has. (let f = makes.has m m' has in
-        record { map = f.map; has = f.has; made = λ log free. directory_made m' f.map log n free form f.file });
+        record { map = f.map; has = f.has; made = λ log free. directory_made m' log n free form f.file });
   }
 
   pub made_counted : CountsMade s s' n → CountsObject s s' n
   made_counted counts m a b keeps has has' log log' free = counts m a b has has' log free
 
 -- a link: its header, and then its text
-module _ {S D : Type 0} (s a s' : FilesState S D) (n : ℕ) (text : List ℕ) (short : length text ≤ 1023)
+module _ {S D : Type 0} {s a : FilesState S D} (s' : FilesState S D) {n : ℕ} (text : List ℕ) (short : length text ≤ 1023)
     (makes : Makes s a n (first_header kind.Link 0 (length text))) where
   pub link_drafted : Writes a s' n (first_header kind.Link 0 (length text)) 0 text → DraftsObject s s' n (new_link text)
   link_drafted writes = record {

@@ -11,7 +11,7 @@ use Rattle.lfs_path.specs.Telling.{Tells}
 use Rattle.lfs_entries.specs.Reading.{ReadsObject, ReadsSized, ReadsText, ShowsHead}
 use Rattle.lfs_entries.specs.Telling.{InEach}
 
-module _ {S D : Type 0} (s a s' : FilesState S D) (one : Reads s a) (two : Reads a s') (n : ℕ) (head : Header)
+module _ {S D : Type 0} {s a s' : FilesState S D} (one : Reads s a) (two : Reads a s') (n : ℕ) (head : Header)
     (header : Tells s a (λ m. Unit {0}) (HasHeader n head)) where
   at : (m m' : LogMap) → s'.device.keeps_model → s.has m m' → HasHeader n head m'
   at m m' keeps has = header m m' (two.looks.carries.kept_before keeps) has tt

@@ -118,7 +118,7 @@ module _ {S D : Type 0} (s a b s' : FilesState S D) (d : ℕ) (e : Entry) (is_op
     pub drop_drafted : DraftsDrop s s' d e is_open name
     drop_drafted = record {
       apart = λ k other was.
-          apart_same b s' k takes.drops.lost (apart_same a b k links.lost (loses.apart k other was));
+          apart_same b s' takes.drops.lost (apart_same a b links.lost (loses.apart k other was));
       fits = λ m m' keeps has fits may.
           let both = may.both in
           takes.drops.fits m (linked m m' has both) keeps (linked_has m m' has both)
@@ -131,7 +131,7 @@ module _ {S D : Type 0} (s a b s' : FilesState S D) (d : ℕ) (e : Entry) (is_op
             staged = may.staged;
             there = (with_links m m' has both).own;
             header = may.shorter;
-            apart = apart_same a b d links.lost (loses.apart d both.other may.apart);
+            apart = apart_same a b links.lost (loses.apart d both.other may.apart);
           };
       has = λ m m' keeps has both.
           let f = takes.has m (linked m m' has both) keeps (linked_has m m' has both) in record {

@@ -22,13 +22,13 @@ one_form m d a b at_a at_b =
     let same : as_header a ≡ as_header b = cc in
     ap (λ h. h.form) same
 
-module _ {S D : Type 0} (s a b : FilesState S D) (one : Reads s a) (two : Reads a b) where
+module _ {S D : Type 0} {s a b : FilesState S D} (one : Reads s a) (two : Reads a b) where
   pub fails_second : (P : LogMap → Type 0) → TellsFault a b P → TellsFault s b P
-  fails_second P = fails_then s a b P P one (λ m m' keeps has it. it)
+  fails_second P = fails_then b P P one (λ m m' keeps has it. it)
 
-  pub source_still : (d : ℕ) (name : List ℕ) (slash : Bool) (source : Source) → FindsSource s a d name slash source
+  pub source_still : {d : ℕ} {name : List ℕ} {slash : Bool} {source : Source} → FindsSource s a d name slash source
       → FindsSource s b d name slash source
-  source_still d name slash source finds = record {
+  source_still finds = record {
     directory = finds.directory;
     named = finds.named;
     looks = λ m m' keeps has. finds.looks m m' (two.looks.carries.kept_before keeps) has;
@@ -38,9 +38,9 @@ module _ {S D : Type 0} (s a b : FilesState S D) (one : Reads s a) (two : Reads 
     plain = finds.plain;
   }
 
-  pub target_behind : (d : ℕ) (name : List ℕ) (slash : Bool) (k : Kind) (target : Target) → FindsTarget a b d name slash k target
+  pub target_behind : {d : ℕ} {name : List ℕ} {slash : Bool} {k : Kind} {target : Target} → FindsTarget a b d name slash k target
       → FindsTarget s b d name slash k target
-  target_behind d name slash k target finds = record {
+  target_behind finds = record {
     directory = finds.directory;
     named = finds.named;
     looks = λ m m' keeps has. finds.looks m m' keeps (one.has m m' has);
@@ -76,12 +76,12 @@ module _ {S D : Type 0} (s a b : FilesState S D) (one : Reads s a) (two : Reads 
   next_behind d name slash k (fault.Log f) why = λ may. fails_second (IsHolder d) (why may)
 
   -- ---- both
-  module _ (da : ℕ) (na : List ℕ) (ea : Bool) (db : ℕ) (nb : List ℕ) (eb : Bool) (source : Source) (target : Target)
+  module _ {da : ℕ} {na : List ℕ} {ea : Bool} {db : ℕ} {nb : List ℕ} {eb : Bool} {source : Source} {target : Target}
       (first : FindsSource s a da na ea source) (second : FindsTarget a b db nb eb source.object.header.kind target) where
     pub both_found : FindsBoth s b da na ea db nb eb source target
     both_found = record {
-      first = source_still da na ea source first;
-      second = target_behind db nb eb source.object.header.kind target second;
+      first = source_still first;
+      second = target_behind second;
     }
 
     pub never_two : source.directory.value ≡ target.directory.value → source.holder.form ≢ target.holder.form → TellsFault s b (IsHolder db)

@@ -24,9 +24,9 @@ module _ {S D : Type 0} where
     fits = λ m is. is;
   }
 
-  pub reads_more : (a b c : FilesState S D) → IsLawful a.device → Reads a b → Reads b c → Reads a c
-  reads_more a b c lawful one two = record {
-    looks = looks_then a.device b.device c.device lawful one.looks two.looks;
+  pub reads_more : {a b c : FilesState S D} → IsLawful a.device → Reads a b → Reads b c → Reads a c
+  reads_more {a} {b} {c} lawful one two = record {
+    looks = looks_then lawful one.looks two.looks;
     halted = two.halted ∙ one.halted;
     saved = two.saved ∙ one.saved;
     staged = two.staged ∙ one.staged;
@@ -42,36 +42,37 @@ module _ {S D : Type 0} where
     fits = λ m is. two.fits m (one.fits m is);
   }
 
-  pub fault_more : (a b c : FilesState S D) → Reads a b → IsFault b c → IsFault a c
-  fault_more a b c one failed m m' keeps is =
+  pub fault_more : {a b : FilesState S D} (c : FilesState S D) → Reads a b → IsFault b c → IsFault a c
+  fault_more c one failed m m' keeps is =
       let rose = failed m m' keeps (one.has m m' is) in
       let before = one.looks.carries.failures in
       omega (arith, rose, before)
 
   -- ---- the draft
-  pub redrafts_read : (a b : FilesState S D) → Reads a b → Redrafts a b
-  redrafts_read a b is = record { looks = is.looks; halted = is.halted; saved = is.saved; staged = is.staged; totals = is.totals }
+  pub redrafts_read : {a b : FilesState S D} → Reads a b → Redrafts a b
+  redrafts_read is = record { looks = is.looks; halted = is.halted; saved = is.saved; staged = is.staged; totals = is.totals }
 
-  pub redrafts_more : (a b c : FilesState S D) → IsLawful a.device → Redrafts a b → Redrafts b c → Redrafts a c
-  redrafts_more a b c lawful one two = record {
-    looks = looks_then a.device b.device c.device lawful one.looks two.looks;
+  pub redrafts_more : {a b c : FilesState S D} → IsLawful a.device → Redrafts a b → Redrafts b c → Redrafts a c
+  redrafts_more {a} {b} {c} lawful one two = record {
+    looks = looks_then lawful one.looks two.looks;
     halted = two.halted ∙ one.halted;
     saved = two.saved ∙ one.saved;
     staged = two.staged ∙ one.staged;
     totals = two.totals ∙ one.totals;
   }
 
-  pub still_apart : (a b : FilesState S D) (n : ℕ) → Reads a b → IsApart a.lost n → IsApart b.lost n
-  still_apart a b n reads is = record { inode = reads.lost _ ∙ is.inode; above = λ i. reads.lost _ ∙ is.above i }
+  pub still_apart : {a b : FilesState S D} {n : ℕ} → Reads a b → IsApart a.lost n → IsApart b.lost n
+  still_apart reads is = record { inode = reads.lost _ ∙ is.inode; above = λ i. reads.lost _ ∙ is.above i }
 
   -- what is written behind calls that read is written behind none
-  pub writes_behind : (a b c : FilesState S D) (n : ℕ) (head : Header) (at : ℕ) (w : List ℕ) → Reads a b → Writes b c n head at w
+  pub writes_behind : (a b : FilesState S D) {c : FilesState S D} (n : ℕ) {head : Header} {at : ℕ} {w : List ℕ} → Reads a b
+      → Writes b c n head at w
       → Writes a c n head at w
-  writes_behind a b c n head at w reads is = record {
+  writes_behind a b n reads is = record {
     lost = λ x. is.lost x ∙ reads.lost x;
     headers = let more = is.headers in let same = reads.headers in omega (arith, more, same);
     blocks = let more = is.blocks in let same = reads.blocks in omega (arith, more, same);
     fits = λ m m' has fits takes. is.fits m m' (reads.has m m' has) (reads.fits m fits)
-        record { there = takes.there; apart = still_apart a b n reads takes.apart; within = takes.within; header = takes.header };
+        record { there = takes.there; apart = still_apart reads takes.apart; within = takes.within; header = takes.header };
     file = λ m m' keeps has. is.file m m' keeps (reads.has m m' has);
   }

@@ -7,18 +7,18 @@ use Rattle.lfs_files.specs.Looking.{Looks}
 pub looks_none : (d : DeviceState) → Looks d d
 looks_none d = record {
   untouched = record { content = refl; crash = λ c left. left };
-  carries = carries_none d;
+  carries = carries_none;
   time = λ t c le left. inl left;
   told = refl;
 }
 
-pub looks_then : (a b c : DeviceState) → IsLawful a → Looks a b → Looks b c → Looks a c
-looks_then a b c lawful one two = record {
+pub looks_then : {a b c : DeviceState} → IsLawful a → Looks a b → Looks b c → Looks a c
+looks_then {a} {b} {c} lawful one two = record {
   untouched = record {
     content = two.untouched.content ∙ one.untouched.content;
     crash = λ x left. one.untouched.crash x (two.untouched.crash x left);
   };
-  carries = carries_then a b c one.carries two.carries;
+  carries = carries_then one.carries two.carries;
   time = λ t x le left. ⊎_elim
       (λ (before : b.left_since t x). ⊎_elim
       (λ (at_first : a.left_since t x). inl at_first)

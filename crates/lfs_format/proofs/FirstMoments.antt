@@ -31,12 +31,12 @@ no_newest c first second =
 holds_none : (c : Content) (p : ℕ) → cell_at c p ≡ Some (blank 512) → checkpoint_in (bytes_of (cell_at c p)) ≡ None
 holds_none c p is = ap (λ (x : Cell). checkpoint_in (bytes_of x)) is ∙ none_blank
 
-pub clear_none : (c : Content) → AreClear c → newest c ≡ None
-clear_none c clear = no_newest c (holds_none c 0 clear.first) (holds_none c 1 clear.second)
+pub clear_none : {c : Content} → AreClear c → newest c ≡ None
+clear_none {c} clear = no_newest c (holds_none c 0 clear.first) (holds_none c 1 clear.second)
 
 -- the chunk leaves the slots clear
-pub chunk_clear : (version N n : ℕ) (c0 c : Content) → AreClear c0 → HasChunk version N n c0 c → AreClear c
-chunk_clear version N n c0 c clear chunk =
+pub chunk_clear : {version : ℕ} (N : ℕ) {n : ℕ} {c0 c : Content} → AreClear c0 → HasChunk version N n c0 c → AreClear c
+chunk_clear N clear chunk =
     record { first = chunk.others.before 0 (omega arith) ∙ clear.first; second = chunk.others.before 1 (omega arith) ∙ clear.second }
 
 module _ (version N : ℕ) (known : IsVersion version) (count : IsSegmentCount N) (c0 c1 : Content) (long : 2 + 64 * N ≤ length c0)
@@ -48,12 +48,12 @@ module _ (version N : ℕ) (known : IsVersion version) (count : IsSegmentCount N
   bytes = checkpoint_sector (first_checkpoint version N)
 
   -- the chunk, and then the checkpoint
-  pub whole : (c2 : Content) → c2 ≡ put c1 1 bytes → IsNew version N c2
-  whole c2 is = record {
+  pub whole : {c2 : Content} → c2 ≡ put c1 1 bytes → IsNew version N c2
+  whole {c2} is = record {
     known = known;
     count = count;
     size = let same : length c2 ≡ length c1 = ap length is ∙ length-set c1 1 (Some bytes) in omega (arith, room, same);
-    empty_slot = other 0 (λ e. omega (arith, e)) ∙ (chunk_clear version N (usage_blocks N) c0 c1 clear chunk).first;
+    empty_slot = other 0 (λ e. omega (arith, e)) ∙ (chunk_clear N clear chunk).first;
     checkpoint = ap (λ (x : Content). cell_at x 1) is ∙ get_or-set_same c1 1 (Some bytes) None (omega (arith, room));
     summary = other 2 (λ e. omega (arith, e)) ∙ chunk.summary;
     inode = other 3 (λ e. omega (arith, e)) ∙ chunk.inode;
@@ -66,13 +66,13 @@ module _ (version N : ℕ) (known : IsVersion version) (count : IsSegmentCount N
 
   -- the checkpoint's write leaves none or that one
   pub torn : (c2 : Content) → MayWrite 1 bytes c1 c2 → (newest c2 ≡ None) ⊎ IsNew version N c2
-  torn c2 (left_old is) = inl (clear_none c2 (subst AreClear (sym is) (chunk_clear version N (usage_blocks N) c0 c1 clear chunk)))
-  torn c2 (left_new is) = inr (whole c2 is)
+  torn c2 (left_old is) = inl (clear_none (subst AreClear (sym is) (chunk_clear N clear chunk)))
+  torn c2 (left_new is) = inr (whole is)
   torn c2 (left_bad is) = inl (no_newest c2 (holds_none c2 0 first) (ap (λ (x : Cell). checkpoint_in (bytes_of x)) second ∙ none_empty))
     where
       first : cell_at c2 0 ≡ Some (blank 512)
       first = ap (λ (x : Content). cell_at x 0) is ∙ get_or-set_other c1 1 0 None None (λ e. omega (arith, e))
-          ∙ (chunk_clear version N (usage_blocks N) c0 c1 clear chunk).first
+          ∙ (chunk_clear N clear chunk).first
 
       second : cell_at c2 1 ≡ None
       second = ap (λ (x : Content). cell_at x 1) is ∙ get_or-set_same c1 1 None None (omega (arith, room))
@@ -85,7 +85,7 @@ module _ (version N : ℕ) (a b : DeviceState) (cleared : LeavesOnly a b (ComesF
   P = MayStand version N a
 
   pub moments_cleared : LeavesOnly a b P
-  moments_cleared = weaker a b (ComesFrom a MayClearSlots) P (λ x from. inl from) cleared
+  moments_cleared = weaker (ComesFrom a MayClearSlots) P (λ x from. inl from) cleared
 
   -- with the chunk
   module _ (clear : AreClear b.content) (only : Only b.content b) (c : DeviceState)
@@ -94,14 +94,14 @@ module _ (version N : ℕ) (a b : DeviceState) (cleared : LeavesOnly a b (ComesF
     all_clear x left = subst AreClear (sym (only x left)) clear
 
     pub moments_chunked : LeavesOnly a c P
-    moments_chunked = joined a b c P AreClear P moments_cleared (chunked all_clear) (λ x has. has) (λ x has. inr (inl (clear_none x has)))
+    moments_chunked = joined P AreClear P moments_cleared (chunked all_clear) (λ x has. has) (λ x has. inr (inl (clear_none has)))
 
     -- synced
     module _ (s : DeviceState) (still : AllLeft b AreClear → AllLeft c AreClear) (same : IsUntouched c s) (carries : Carries c s)
         (time : Elapses c s) where
       pub moments_synced : LeavesOnly a s P
       moments_synced =
-          goes_on a c s P moments_chunked carries time (λ x left. inr (inl (clear_none x (still all_clear x (same.crash x left)))))
+          goes_on P moments_chunked carries time (λ x left. inr (inl (clear_none (still all_clear x (same.crash x left)))))
 
       -- with the checkpoint, whose write comes from what has the chunk
       pub moments_written : (r : DeviceState) (k : CheckpointValue) → k ≡ first_checkpoint version N → IsVersion version → IsSegmentCount N
@@ -109,7 +109,7 @@ module _ (version N : ℕ) (a b : DeviceState) (cleared : LeavesOnly a b (ComesF
           → HasChunk version N (usage_blocks N) b.content c.content → Only s.content s
           → LeavesOnly s r (ComesFrom s (MayWrite (k.number % 2) (checkpoint_sector k))) → LeavesOnly a r P
       moments_written r k is known count long chunk alone written =
-          joined a s r P (ComesFrom s (MayWrite (k.number % 2) (checkpoint_sector k))) P moments_synced written (λ x has. has) (λ x from.
+          joined P (ComesFrom s (MayWrite (k.number % 2) (checkpoint_sector k))) P moments_synced written (λ x has. has) (λ x from.
           let content : from.0 ≡ c.content = alone from.0 from.1 ∙ same.content in
           let first : MayWrite 1 (checkpoint_sector (first_checkpoint version N)) from.0 x =
           subst (λ (m : CheckpointValue). MayWrite (m.number % 2) (checkpoint_sector m) from.0 x) is from.2 in
@@ -122,36 +122,36 @@ module _ (version N : ℕ) (a b : DeviceState) (cleared : LeavesOnly a b (ComesF
 abbrev Touches : ℕ → DeviceState → DeviceState → Type 0
 Touches n old new = LeavesOnly old new (ComesFrom old (SameOutside 0 n))
 
-left_now : (old new : DeviceState) (Q : Content → Type 0) → IsLawful new → LeavesOnly old new Q → AllLeft new Q
-left_now old new Q lawful leaves x left = leaves.each x (lawful.counts_now old.moment x leaves.later left)
+left_now : (old : DeviceState) {new : DeviceState} (Q : Content → Type 0) → IsLawful new → LeavesOnly old new Q → AllLeft new Q
+left_now old Q lawful leaves x left = leaves.each x (lawful.counts_now old.moment x leaves.later left)
 
-same_then : (n : ℕ) (c d e : Content) → SameOutside 0 n c d → SameOutside 0 n d e → SameOutside 0 n c e
-same_then n c d e one two =
+same_then : (n : ℕ) {c d : Content} (e : Content) → SameOutside 0 n c d → SameOutside 0 n d e → SameOutside 0 n c e
+same_then n e one two =
     record { size = two.size ∙ one.size; before = λ k lt. absurd (omega (arith, lt)); after = λ k le. two.after k le ∙ one.after k le }
 
 touches_then : (n : ℕ) (a b c : DeviceState) → IsLawful b → Touches n a b → Touches n b c → Touches n a c
 touches_then n a b c lawful one two =
-    joined a b c (ComesFrom a (SameOutside 0 n)) (ComesFrom b (SameOutside 0 n)) (ComesFrom a (SameOutside 0 n)) one two (λ x has. has)
+    joined (ComesFrom a (SameOutside 0 n)) (ComesFrom b (SameOutside 0 n)) (ComesFrom a (SameOutside 0 n)) one two (λ x has. has)
     (λ x from.
-    let was = left_now a b (ComesFrom a (SameOutside 0 n)) lawful one from.0 from.1 in
-    (was.0, was.1, same_then n was.0 from.0 x was.2 from.2))
+    let was = left_now a (ComesFrom a (SameOutside 0 n)) lawful one from.0 from.1 in
+    (was.0, was.1, same_then n x was.2 from.2))
 
 touches_write : (n : ℕ) (a b c : DeviceState) (s : ℕ) (bytes : List ℕ) → s < n → IsLawful b → Touches n a b → CrashWrites s bytes b c
     → Carries b c → Elapses b c → Touches n a c
 touches_write n a b c s bytes low lawful one crash carries time =
-    goes_on a b c (ComesFrom a (SameOutside 0 n)) one carries time (λ x left.
+    goes_on (ComesFrom a (SameOutside 0 n)) one carries time (λ x left.
     let from = crash x left in
-    let was = left_now a b (ComesFrom a (SameOutside 0 n)) lawful one from.0 from.1 in
+    let was = left_now a (ComesFrom a (SameOutside 0 n)) lawful one from.0 from.1 in
     (was.0, was.1, write_outside 0 n s bytes (omega arith) (omega (arith, low)) was.0 from.0 x was.2 from.2))
 
 touches_still : (n : ℕ) (a b c : DeviceState) → IsLawful b → Touches n a b → IsUntouched b c → Carries b c → Elapses b c → Touches n a c
 touches_still n a b c lawful one same carries time =
-    goes_on a b c (ComesFrom a (SameOutside 0 n)) one carries time
-    (λ x left. left_now a b (ComesFrom a (SameOutside 0 n)) lawful one x (same.crash x left))
+    goes_on (ComesFrom a (SameOutside 0 n)) one carries time
+    (λ x left. left_now a (ComesFrom a (SameOutside 0 n)) lawful one x (same.crash x left))
 
 touches_slots : (n : ℕ) (a b : DeviceState) → 2 ≤ n → LeavesOnly a b (ComesFrom a MayClearSlots) → Touches n a b
 touches_slots n a b le leaves =
-    weaker a b (ComesFrom a MayClearSlots) (ComesFrom a (SameOutside 0 n)) (λ x from. (from.0, from.1, wider from.2.others)) leaves
+    weaker (ComesFrom a MayClearSlots) (ComesFrom a (SameOutside 0 n)) (λ x from. (from.0, from.1, wider from.2.others)) leaves
   where
     wider : {d x : Content} → SameOutside 0 2 d x → SameOutside 0 n d x
     wider same =
@@ -160,29 +160,29 @@ touches_slots n a b le leaves =
 touches_slot : (n : ℕ) (a b : DeviceState) (s : ℕ) (bytes : List ℕ) → s < n → LeavesOnly a b (ComesFrom a (MayWrite s bytes))
     → Touches n a b
 touches_slot n a b s bytes low leaves =
-    weaker a b (ComesFrom a (MayWrite s bytes)) (ComesFrom a (SameOutside 0 n)) (λ x from.
+    weaker (ComesFrom a (MayWrite s bytes)) (ComesFrom a (SameOutside 0 n)) (λ x from.
     (from.0, from.1, write_outside 0 n s bytes (omega arith) (omega (arith, low)) from.0 from.0 x (same_outside_none 0 n from.0) from.2))
     leaves
 
 -- ---- the steps
 
 -- no block of the first chunk
-pub writes_none : (N : ℕ) (d : DeviceState) → IsLawful d → WritesChunk N d d
-writes_none N d lawful = record {
-  any_moment = λ clear. started d AreClear lawful clear;
+pub writes_none : (N : ℕ) {d : DeviceState} → IsLawful d → WritesChunk N d d
+writes_none N {d} lawful = record {
+  any_moment = λ clear. started AreClear lawful clear;
   left = λ clear. clear;
-  touched = started d (ComesFrom d (SameBehindChunk N)) lawful (λ c left. (c, left, same_outside_none 0 (5 + usage_blocks N) c));
-  carries = carries_none d;
+  touched = started (ComesFrom d (SameBehindChunk N)) lawful (λ c left. (c, left, same_outside_none 0 (5 + usage_blocks N) c));
+  carries = carries_none;
 }
 
 -- and one block more
-pub writes_write : (N : ℕ) (a b c : DeviceState) (s : ℕ) (bytes : List ℕ) → 2 ≤ s → s < 5 + usage_blocks N → IsLawful b → WritesChunk N a b
+pub writes_write : (N : ℕ) {a b c : DeviceState} (s : ℕ) (bytes : List ℕ) → 2 ≤ s → s < 5 + usage_blocks N → IsLawful b → WritesChunk N a b
     → CrashWrites s bytes b c → Carries b c → Elapses b c → WritesChunk N a c
-writes_write N a b c s bytes past low lawful one crash carries time = record {
+writes_write N {a} {b} {c} s bytes past low lawful one crash carries time = record {
   any_moment = λ clear. (run clear).leaves;
   left = λ clear. (run clear).now;
   touched = touches_write (5 + usage_blocks N) a b c s bytes low lawful one.touched crash carries time;
-  carries = carries_then a b c one.carries carries;
+  carries = carries_then one.carries carries;
 }
   where
     run : AllLeft a AreClear → Run a c AreClear
@@ -193,22 +193,23 @@ writes_write N a b c s bytes past low lawful one crash carries time = record {
 pub writes_then : (N : ℕ) (a b c : DeviceState) → IsLawful b → WritesChunk N a b → WritesChunk N b c → WritesChunk N a c
 writes_then N a b c lawful one two = record {
   any_moment = λ clear.
-      joined a b c AreClear AreClear AreClear (one.any_moment clear) (two.any_moment (one.left clear)) (λ x has. has) (λ x has. has);
+      joined AreClear AreClear AreClear (one.any_moment clear) (two.any_moment (one.left clear)) (λ x has. has) (λ x has. has);
   left = λ clear. two.left (one.left clear);
   touched = touches_then (5 + usage_blocks N) a b c lawful one.touched two.touched;
-  carries = carries_then a b c one.carries two.carries;
+  carries = carries_then one.carries two.carries;
 }
 
 -- the slots are cleared
-pub making_cleared : (version N : ℕ) (a b : DeviceState) → LeavesOnly a b (ComesFrom a MayClearSlots) → Carries a b → IsMaking version N a b
-making_cleared version N a b cleared carries = record {
+pub making_cleared : {version : ℕ} (N : ℕ) (a b : DeviceState) → LeavesOnly a b (ComesFrom a MayClearSlots) → Carries a b
+    → IsMaking version N a b
+making_cleared {version} N a b cleared carries = record {
   any_moment = λ keeps. moments_cleared version N a b cleared;
   touched = touches_slots (5 + usage_blocks N) a b (omega arith) cleared;
   carries = carries;
 }
 
 -- then the chunk is written
-module _ (version N : ℕ) (a b c : DeviceState) (lawful : IsLawful b) (cleared : LeavesOnly a b (ComesFrom a MayClearSlots))
+module _ {version N : ℕ} {a b c : DeviceState} (lawful : IsLawful b) (cleared : LeavesOnly a b (ComesFrom a MayClearSlots))
     (clears : Carries a b) (clear : b.keeps_model → AreClear b.content) (only : b.keeps_model → Only b.content b)
     (writes : WritesChunk N b c) where
   pub making_chunked : IsMaking version N a c
@@ -217,7 +218,7 @@ module _ (version N : ℕ) (a b c : DeviceState) (lawful : IsLawful b) (cleared 
         let kept = writes.carries.kept_before keeps in
         moments_chunked version N a b cleared (clear kept) (only kept) c writes.any_moment;
     touched = touches_then (5 + usage_blocks N) a b c lawful (touches_slots (5 + usage_blocks N) a b (omega arith) cleared) writes.touched;
-    carries = carries_then a b c clears writes.carries;
+    carries = carries_then clears writes.carries;
   }
 
   -- it is synced
@@ -228,7 +229,7 @@ module _ (version N : ℕ) (a b c : DeviceState) (lawful : IsLawful b) (cleared 
           let kept = writes.carries.kept_before (carries.kept_before keeps) in
           moments_synced version N a b cleared (clear kept) (only kept) c writes.any_moment s writes.left same carries time;
       touched = touches_still (5 + usage_blocks N) a c s lawful_c making_chunked.touched same carries time;
-      carries = carries_then a c s making_chunked.carries carries;
+      carries = carries_then making_chunked.carries carries;
     }
 
     -- and the checkpoint is written
@@ -247,7 +248,7 @@ module _ (version N : ℕ) (a b c : DeviceState) (lawful : IsLawful b) (cleared 
           long (chunk kept) (alone synced) written;
       touched = touches_then (5 + usage_blocks N) a s r lawful_s making_synced.touched
           (touches_slot (5 + usage_blocks N) s r (k.number % 2) (checkpoint_sector k) (omega arith) written);
-      carries = carries_then a s r making_synced.carries replaces;
+      carries = carries_then making_synced.carries replaces;
     }
 
     -- which makes the volume
@@ -278,7 +279,7 @@ module _ (version N : ℕ) (a b c : DeviceState) (lawful : IsLawful b) (cleared 
         image : r.keeps_model → IsNew version N r.content
         image keeps =
             let long : 2 + 64 * N ≤ length b.content = omega (arith, room, clears.size, lawful.size) in
-            whole version N known count b.content c.content long (clear (was keeps)) (chunk (kept keeps)) r.content (first keeps)
+            whole version N known count b.content c.content long (clear (was keeps)) (chunk (kept keeps)) (first keeps)
 
         others : r.keeps_model → SameBehindChunk N a.content r.content
         others keeps =

@@ -37,9 +37,9 @@ fits_first_names N most =
           (sym (get_or-map-range_with_len first_name 0 n i i no_block below (omega arith))) (placed i (omega (arith, most, below)));
     }
 
-pub addressed : (N n : ℕ) (usage : List ℕ) → n ≡ usage_blocks N → length usage ≡ 16
+pub addressed : (N : ℕ) {n : ℕ} {usage : List ℕ} → n ≡ usage_blocks N → length usage ≡ 16
     → ((k : ℕ) → k < 16 → get_or usage k 0 ≡ cond (nat_lt k n) (5 + k) 0) → usage ≡ map (first_usage_address N) (range_with_len 0 16)
-addressed N n usage is long each =
+addressed N {usage} is long each =
     ext_get_or 0 usage (map (first_usage_address N) (range_with_len 0 16))
     (long ∙ sym (length-map-range_with_len (first_usage_address N) 0 16)) (λ i lt.
     let below : i < 16 = omega (arith, long, lt) in

@@ -34,8 +34,9 @@ slot_set d c s x low long may outside gives = record {
       (cases_eq p s);
 }
 
-pub slots_written : (s : ℕ) → s < 2 → (d c e : Content) → 2 ≤ length d → MayClearSlots d c → MayWrite s (blank 512) c e → MayClearSlots d e
-slots_written s low d c e long may write = go write
+pub slots_written : (s : ℕ) → s < 2 → {d : Content} (c e : Content) → 2 ≤ length d → MayClearSlots d c → MayWrite s (blank 512) c e
+    → MayClearSlots d e
+slots_written s low {d} c e long may write = go write
   where
     outside : SameOutside 0 2 d e
     outside = write_outside 0 2 s (blank 512) (omega arith) (omega (arith, low)) d c e may.others write
@@ -53,27 +54,27 @@ slots_written s low d c e long may write = go write
 abbrev pub Slots : DeviceState → DeviceState → Type 0
 Slots old new = Run old new (ComesFrom old MayClearSlots)
 
-pub slots_start : (d : DeviceState) → IsLawful d → Slots d d
-slots_start d lawful = run_none d (ComesFrom d MayClearSlots) lawful (λ c left. (c, left, slots_none c))
+pub slots_start : {d : DeviceState} → IsLawful d → Slots d d
+slots_start {d} lawful = run_none d (ComesFrom d MayClearSlots) lawful (λ c left. (c, left, slots_none c))
 
-pub slots_write : (old mid new : DeviceState) (s : ℕ) → s < 2 → IsLawful old → 2 ≤ old.size → Slots old mid
+pub slots_write : {old mid new : DeviceState} (s : ℕ) → s < 2 → IsLawful old → 2 ≤ old.size → Slots old mid
     → CrashWrites s (blank 512) mid new → Carries mid new → Elapses mid new → Slots old new
-slots_write old mid new s low lawful room run crash carries time =
+slots_write {old} {mid} {new} s low lawful room run crash carries time =
     run_call old mid new (ComesFrom old MayClearSlots) run carries time
     (all_left_write mid new (ComesFrom old MayClearSlots) (ComesFrom old MayClearSlots) s (blank 512) run.now crash (λ c e from write.
     let long : 2 ≤ length from.0 = omega (arith, room, lawful.sizes from.0 from.1) in
-    (from.0, from.1, slots_written s low from.0 c e long from.2 write)))
+    (from.0, from.1, slots_written s low c e long from.2 write)))
 
 -- ---- the first chunk
 
 here : (c e : Content) (s : ℕ) (b : List ℕ) → e ≡ put c s b → s < length c → cell_at e s ≡ Some b
 here c e s b is low = ap (λ (x : Content). cell_at x s) is ∙ get_or-set_same c s (Some b) None low
 
-there : (c e : Content) (s : ℕ) (b : List ℕ) → e ≡ put c s b → (k : ℕ) → k ≢ s → cell_at e k ≡ cell_at c k
-there c e s b is k other = ap (λ (x : Content). cell_at x k) is ∙ get_or-set_other c s k (Some b) None other
+there : (c : Content) {e : Content} (s : ℕ) (b : List ℕ) → e ≡ put c s b → (k : ℕ) → k ≢ s → cell_at e k ≡ cell_at c k
+there c s b is k other = ap (λ (x : Content). cell_at x k) is ∙ get_or-set_other c s k (Some b) None other
 
-wider : (first n m : ℕ) (d c : Content) → n ≤ m → SameOutside first n d c → SameOutside first m d c
-wider first n m d c le same =
+wider : {first n : ℕ} (m : ℕ) {d : Content} (c : Content) → n ≤ m → SameOutside first n d c → SameOutside first m d c
+wider m c le same =
     record { size = same.size; before = λ k lt. same.before k lt; after = λ k past. same.after k (omega (arith, le, past)) }
 
 -- a later usage block is zeros
@@ -82,19 +83,19 @@ later_uses N zero some = absurd (omega (arith, some))
 later_uses N (suc n) some = sym (unused_spelled N n)
 
 -- and one usage block more
-pub chunk_more : (version N n : ℕ) (c0 c e : Content) → 1 ≤ n → 5 + n < length c0 → HasChunk version N n c0 c
+pub chunk_more : {version : ℕ} (N : ℕ) {n : ℕ} {c0 : Content} (c e : Content) → 1 ≤ n → 5 + n < length c0 → HasChunk version N n c0 c
     → e ≡ put c (5 + n) (blank 512) → HasChunk version N (n + 1) c0 e
-chunk_more version N n c0 c e some room so_far is = record {
+chunk_more N {n} {c0} c e some room so_far is = record {
   others = write_outside 2 (3 + (n + 1)) (5 + n) (blank 512) (omega arith) (omega arith) c0 c e
-      (wider 2 (3 + n) (3 + (n + 1)) c0 c (omega arith) so_far.others) (left_new is);
-  summary = there c e (5 + n) (blank 512) is 2 (λ w. omega (arith, w)) ∙ so_far.summary;
-  inode = there c e (5 + n) (blank 512) is 3 (λ w. omega (arith, w)) ∙ so_far.inode;
-  pointers = there c e (5 + n) (blank 512) is 4 (λ w. omega (arith, w)) ∙ so_far.pointers;
+      (wider (3 + (n + 1)) c (omega arith) so_far.others) (left_new is);
+  summary = there c (5 + n) (blank 512) is 2 (λ w. omega (arith, w)) ∙ so_far.summary;
+  inode = there c (5 + n) (blank 512) is 3 (λ w. omega (arith, w)) ∙ so_far.inode;
+  pointers = there c (5 + n) (blank 512) is 4 (λ w. omega (arith, w)) ∙ so_far.pointers;
   uses = λ j lt. ⊎_elim
       (λ (at : j ≡ n). ap (λ (k : ℕ). cell_at e (5 + k)) at ∙ here c e (5 + n) (blank 512) is
       (let same = so_far.others.size in omega (arith, room, same)) ∙ ap (λ (b : List ℕ). Some b) (later_uses N n some)
       ∙ ap (λ (k : ℕ). Some (usage_sector (first_uses N k))) (sym at))
-      (λ (other : j ≢ n). there c e (5 + n) (blank 512) is (5 + j) (λ w. other (omega (arith, w)))
+      (λ (other : j ≢ n). there c (5 + n) (blank 512) is (5 + j) (λ w. other (omega (arith, w)))
       ∙ so_far.uses j (⊎_elim (λ (low : j < n). low) (λ (high : n ≤ j). absurd (other (omega (arith, lt, high)))) (cases_lt j n)))
       (cases_eq j n);
 }

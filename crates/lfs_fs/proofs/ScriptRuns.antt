@@ -85,10 +85,10 @@ abbrev OneOf : DeviceState → List State → Content → Type 0
 OneOf d ss c = (s : State) × Stands c s × (Left d s ⊎ Contains ss s)
 
 -- where a stop at the start left one state alone, the states of the points are all
-moments_from : (a b : DeviceState) (p : Point) (points : List Point) → LeavesStates a b (left_states (p ∷ points))
+moments_from : {a b : DeviceState} (p : Point) (points : List Point) → LeavesStates a b (left_states (p ∷ points))
     → LeavesOne a (drop_nameless p.state) → LeavesOnly a b (StandsForSome (p ∷ points))
-moments_from a b p points leaves one =
-    weaker a b (OneOf a (left_states (p ∷ points))) (StandsForSome (p ∷ points)) (λ c is. (is.0, each is.0 is.2, is.1)) leaves
+moments_from {a} {b} p points leaves one =
+    weaker (OneOf a (left_states (p ∷ points))) (StandsForSome (p ∷ points)) (λ c is. (is.0, each is.0 is.2, is.1)) leaves
   where
     each : (s : State) → Left a s ⊎ Contains (left_states (p ∷ points)) s → Contains (left_states (p ∷ points)) s
     each s (inl left) = (0, omega arith, sym (left_only a (drop_nameless p.state) s one left))
@@ -109,11 +109,11 @@ module _ (a b c : DeviceState) (p : Point) (points : List Point) (next : Point) 
   more s (inl left) = inl left
   more s (inr of) = inr (was_state (p ∷ points) next s of)
 
-  at_index : (s : State) (k : ℕ) → k < 2 → slice_index_or pair k s ≡ s → Contains all s
-  at_index s zero lt is =
+  at_index : {s : State} (k : ℕ) → k < 2 → slice_index_or pair k s ≡ s → Contains all s
+  at_index zero lt is =
       subst (Contains all) is (was_state (p ∷ points) next (drop_nameless (final p points).state) (final_state p points))
-  at_index s (suc zero) lt is = subst (Contains all) is (next_state (p ∷ points) next)
-  at_index s (suc (suc k)) lt is = absurd (omega arith)
+  at_index (suc zero) lt is = subst (Contains all) is (next_state (p ∷ points) next)
+  at_index (suc (suc k)) lt is = absurd (omega arith)
 
   -- a state that a stop in between might leave is one of the first run's
   then_one : LeavesStates a b so_far_states → (s : State) → Left b s ⊎ Contains pair s → Left a s ⊎ Contains all s
@@ -121,25 +121,25 @@ module _ (a b c : DeviceState) (p : Point) (points : List Point) (next : Point) 
       let was = one.each left.content (lawful.counts_now a.moment left.content one.later left.may_leave) in
       let same : was.0 ≡ s = single_state left.content was.0 s was.1 left.stands in
       subst (λ (t : State). Left a t ⊎ Contains all t) same (more was.0 was.2)
-  then_one one s (inr of) = inr (at_index s of.0 of.1 of.2)
+  then_one one s (inr of) = inr (at_index of.0 of.1 of.2)
 
   leaves_step : LeavesStates a b so_far_states → LeavesStates b c pair → LeavesStates a c all
-  leaves_step one two = joined a b c (OneOf a so_far_states) (OneOf b pair) (OneOf a all) one two (λ x is. (is.0, is.1, more is.0 is.2))
+  leaves_step one two = joined (OneOf a so_far_states) (OneOf b pair) (OneOf a all) one two (λ x is. (is.0, is.1, more is.0 is.2))
       (λ x is. (is.0, is.1, then_one one is.0 is.2))
 
 -- ---- the laws
 
-module _ {D : Type 0} (state : D → DeviceState) (lawful : (d : D) → IsLawful (state d)) where
-  none_at : (v : Mounted D) (p : Point) → IsAt state v p → RanAt state v v [] [] p
-  none_at v p at =
+module _ {D : Type 0} {state : D → DeviceState} (lawful : (d : D) → IsLawful (state d)) where
+  none_at : {v : Mounted D} (p : Point) → IsAt state v p → RanAt state v v [] [] p
+  none_at {v} p at =
       let d : _ = state v.log.device in
-      let leaves : LeavesStates d d (left_states (p ∷ [])) = left_none state d (left_states (p ∷ [])) (lawful v.log.device) at.leaves in
+      let leaves : LeavesStates d d (left_states (p ∷ [])) = left_none state (left_states (p ∷ [])) (lawful v.log.device) at.leaves in
       record {
         points = [];
         run = tt;
         at = at;
         leaves = leaves;
-        moments = moments_from d d p [] leaves;
+        moments = moments_from p [] leaves;
         pending = leaves_first d p;
       }
 
@@ -150,10 +150,10 @@ module _ {D : Type 0} (state : D → DeviceState) (lawful : (d : D) → IsLawful
       (λ refused. absurd (let no = refused.1 in cc))
       serves
 
-  unstuck_more : (answers : List Answer) (answer : Answer) → AreUnstuck answers → (answer ≡ Refuse Stuck → ⊥)
+  unstuck_more : (answers : List Answer) {answer : Answer} → AreUnstuck answers → (answer ≡ Refuse Stuck → ⊥)
       → AreUnstuck (answers ++ answer ∷ [])
-  unstuck_more [] answer those one = (one, tt)
-  unstuck_more (first ∷ answers) answer those one = (those.0, unstuck_more answers answer those.1 one)
+  unstuck_more [] those one = (one, tt)
+  unstuck_more (first ∷ answers) {answer} those one = (those.0, unstuck_more answers those.1 one)
 
   -- a line more, on the volume as the others left it
   serves_more : (old mid new : Mounted D) (lines : List Line) (answers : List Answer) (line : Line) (answer : Answer)
@@ -168,14 +168,14 @@ module _ {D : Type 0} (state : D → DeviceState) (lawful : (d : D) → IsLawful
   -- no line
   pub ran_none : (old : Mounted D) → RunsLines state old old [] []
   ran_none old = record {
-    carries = carries_none (state old.log.device);
+    carries = carries_none;
     segments = λ e. refl;
     through = refl;
     unstuck = tt;
-    model = λ p keeps at. none_at old p at;
+    model = λ p keeps at. none_at p at;
   }
 
-  module _ (old mid new : Mounted D) (lines : List Line) (answers : List Answer) (line : Line) (answer : Answer) where
+  module _ (old mid new : Mounted D) {lines : List Line} {answers : List Answer} (line : Line) (answer : Answer) where
     more_at : (p : Point) (ran : RanAt state old mid lines answers p)
         → StepsLine state (segments_of old) mid new line answer (final p ran.points)
         → RanAt state old new (lines ++ line ∷ []) (answers ++ answer ∷ []) p
@@ -186,12 +186,10 @@ module _ {D : Type 0} (state : D → DeviceState) (lawful : (d : D) → IsLawful
           run = run_more (segments_of old) p lines answers ran.points line answer step.next ran.run step.does;
           at = subst (IsAt state new) (sym (final_more p ran.points step.next)) step.at;
           leaves = leaves;
-          moments = moments_from (state old.log.device) (state new.log.device) p (ran.points ++ step.next ∷ []) leaves;
+          moments = moments_from p (ran.points ++ step.next ∷ []) leaves;
           pending = λ one. subst (λ (calls : List Call). LeavesPrefix (state new.log.device) (p ∷ (ran.points ++ step.next ∷ [])) calls
-              (answers ++ answer ∷ [])) (sym (calls_more lines line))
-              (leaves_more (state mid.log.device) (state new.log.device) (p ∷ ran.points) (map call_of lines) answers
-              (final p ran.points) step.next (call_of line) answer
-              (so_far (segments_of old) p lines answers ran.points ran.run) (lawful new.log.device)
+              (answers ++ answer ∷ [])) (sym (calls_more lines line)) (leaves_more (state mid.log.device) (state new.log.device) answers
+              step.next (call_of line) answer (so_far (segments_of old) p lines answers ran.points ran.run) (lawful new.log.device)
               (ran.pending one) step.leaves step.saves);
         }
 
@@ -200,15 +198,14 @@ module _ {D : Type 0} (state : D → DeviceState) (lawful : (d : D) → IsLawful
         → RunsLines state old new (lines ++ line ∷ []) (answers ++ answer ∷ [])
     ran_more runs serves =
         let carries = line_carries state lawful mid new line answer serves in record {
-          carries = carries_then (state old.log.device) (state mid.log.device) (state new.log.device) runs.carries carries;
+          carries = carries_then runs.carries carries;
           segments = λ now. line_segments state lawful mid new line answer serves now
               ∙ runs.segments (line_running state lawful mid new line answer serves now);
           through = serves_more old mid new lines answers line answer runs.through serves;
-          unstuck = unstuck_more answers answer runs.unstuck (line_unstuck mid new line answer serves);
+          unstuck = unstuck_more answers runs.unstuck (line_unstuck mid new line answer serves);
           model = λ p keeps at. (
               let ran = runs.model p (carries.kept_before keeps) at in
-              more_at p ran
-              (line_steps state lawful mid new line answer (segments_of old) (final p ran.points) runs.segments keeps ran.at serves));
+              more_at p ran (line_steps state lawful mid new line answer (segments_of old) runs.segments keeps ran.at serves));
         }
 
   -- ---- their replies go out
@@ -218,8 +215,8 @@ module _ {D : Type 0} (state : D → DeviceState) (lawful : (d : D) → IsLawful
     runs = ran_none old;
     one_each = refl;
     told = λ p keeps at. record {
-      ran = none_at old p at;
-      kept = λ one. kept_none (state old.log.device) (p ∷ (none_at old p at).points) [] [];
+      ran = none_at p at;
+      kept = λ one. kept_none (state old.log.device) (p ∷ (none_at p at).points) [] [];
     };
   }
 
@@ -237,12 +234,11 @@ module _ {D : Type 0} (state : D → DeviceState) (lawful : (d : D) → IsLawful
         let few : length (map call_of lines) ≡ length lines = length-map lines call_of in
         let pending : (LeavesOne (state old.log.device) (drop_nameless p.state)
         → LeavesPrefix d' (p ∷ (told.ran.points ++ step.next ∷ [])) (map call_of lines ++ call_of line ∷ []) (answers ++ answer ∷ [])) =
-        λ one. leaves_more (state mid.log.device) d' (p ∷ told.ran.points) (map call_of lines) answers (final p told.ran.points) step.next
+        λ one. leaves_more (state mid.log.device) d' answers step.next
         (call_of line) answer so (lawful new.log.device) (told.ran.pending one) step.leaves step.saves in record {
-          ran = more_at old mid new lines answers line answer p told.ran step;
+          ran = more_at old mid new line answer p told.ran step;
           kept = λ one. subst (λ (calls : List Call). AreKeptSince d' (p ∷ (told.ran.points ++ step.next ∷ [])) calls
-              (answers ++ answer ∷ []) (clocks ++ d'.moment ∷ [])) (sym (calls_more lines line))
-              (kept_told d' (p ∷ (told.ran.points ++ step.next ∷ [])) (map call_of lines ++ call_of line ∷ [])
+              (answers ++ answer ∷ []) (clocks ++ d'.moment ∷ [])) (sym (calls_more lines line)) (kept_told d'
               (answers ++ answer ∷ []) clocks (lawful new.log.device)
               (omega (arith, length-append answers (answer ∷ []), length-append (map call_of lines) (call_of line ∷ []), so.answers_length))
               (omega (arith, length-append (map call_of lines) (call_of line ∷ []), few, long))
@@ -254,10 +250,10 @@ module _ {D : Type 0} (state : D → DeviceState) (lawful : (d : D) → IsLawful
     pub tells_more : TellsLines state old mid lines answers clocks → ServesLine state mid new line answer
         → TellsLines state old new (lines ++ line ∷ []) (answers ++ answer ∷ []) (clocks ++ d'.moment ∷ [])
     tells_more tells serves = record {
-      runs = ran_more old mid new lines answers line answer tells.runs serves;
+      runs = ran_more old mid new line answer tells.runs serves;
       one_each = (let long = tells.one_each in omega (arith, length-append clocks (d'.moment ∷ []), length-append lines (line ∷ []), long));
       told = λ p keeps at. (
           let told = tells.told p ((line_carries state lawful mid new line answer serves).kept_before keeps) at in
           told_at tells.one_each p told (line_steps state lawful mid new line answer (segments_of old)
-          (final p told.ran.points) tells.runs.segments keeps told.ran.at serves));
+          tells.runs.segments keeps told.ran.at serves));
     }

@@ -13,8 +13,8 @@ use Rattle.lfs_model.proofs.Committed.{nothing_dropped}
 use Rattle.lfs_fs.specs.Mounting.{MountsAt}
 
 -- what a content stands for, under another name of the state
-stands_as : (c : Content) (s t : State) → t ≡ s → Stands c s → Stands c t
-stands_as c s t same is = record {
+stands_as : {c : Content} {s t : State} → t ≡ s → Stands c s → Stands c t
+stands_as same is = record {
   checkpoint = is.checkpoint;
   log = is.log;
   found = is.found;
@@ -25,12 +25,12 @@ stands_as c s t same is = record {
 }
 
 -- while no commit failed, what a stop leaves has the number of the acknowledged checkpoint
-numbered : {D : Type 0} (state : D → DeviceState) (v : Mounted D) (p : Point) → IsAt state v p → p.halted ≡ false
+numbered : {D : Type 0} (state : D → DeviceState) (v : Mounted D) {p : Point} → IsAt state v p → p.halted ≡ false
     → AllLeft (state v.log.device) (IsNumbered p.number)
-numbered state v p at on c left =
+numbered state v {p} at on c left =
     let r : Runs state v p.state = at.running (sym at.halted ∙ on) in
     let holds = r.is.holds in
-    let is = settled state v.log r.checkpoint r.saved r.present holds in
+    let is = settled state holds in
     (r.checkpoint, (is.each c left).newest, at.number ∙ sym holds.number)
 
 module _ {D : Type 0} (state : D → DeviceState) (d : D) (lawful : IsLawful (state d)) (v : Fs D) (new : Mounted D) (lines : List Line)
@@ -54,7 +54,7 @@ module _ {D : Type 0} (state : D → DeviceState) (d : D) (lawful : IsLawful (st
 
   -- the state that is found is the one that the volume is in
   stands : Stands (state d).content at.point.state
-  stands = stands_as (state d).content found.0 at.point.state at.same found.1
+  stands = stands_as at.same found.1
 
   -- after the mount a stop leaves it alone
   alone : LeavesOne (state (seen v).log.device) (drop_nameless at.point.state)
@@ -70,16 +70,14 @@ module _ {D : Type 0} (state : D → DeviceState) (d : D) (lawful : IsLawful (st
 
   -- the volume knows the checkpoint by which the content stands
   same_checkpoint : running.checkpoint ≡ stands.checkpoint
-  same_checkpoint = Some-injective running.checkpoint stands.checkpoint
-      (sym (settled state (seen v).log running.checkpoint running.saved running.present running.is.holds).newest
-      ∙ ap newest untouched.content ∙ stands.found)
+  same_checkpoint = Some-injective (sym (settled state running.is.holds).newest ∙ ap newest untouched.content ∙ stands.found)
 
   abbrev Leaves : Content → Type 0
   Leaves = StandsForSome (at.point ∷ ran.points)
 
   -- what a stop meanwhile leaves, by what one before might have left
   moments_by : (P : Content → Type 0) → AllLeft (state d) P → LeavesOnly (state d) (state new.log.device) (λ c. P c ⊎ Leaves c)
-  moments_by P was = joined (state d) (state (seen v).log.device) (state new.log.device) (state d).may_leave Leaves
+  moments_by P was = joined (state d).may_leave Leaves
       (λ c. P c ⊎ Leaves c) moment (ran.moments alone)
       (λ c left. inl (was c left)) (λ c some. inr some)
 
@@ -107,15 +105,14 @@ module _ {D : Type 0} (state : D → DeviceState) (d : D) (lawful : IsLawful (st
     unstuck = runs.unstuck;
     failures_before = at.at.failures ∙ no_failure;
     failures_after = ran.at.failures;
-    number_after = numbered state new (final at.point ran.points) ran.at;
+    number_after = numbered state new ran.at;
     moments = moments_by (state d).may_leave (λ c left. left);
     pending = ran.pending alone;
     continues = goes_on_from;
   }
 
-module _ {D : Type 0} (state : D → DeviceState) (d : D) (lawful : IsLawful (state d)) (v : Fs D) (new : Mounted D) (lines : List Line)
-    (answers : List Answer)
-    (finds : FindsState state d v)
+module _ {D : Type 0} {state : D → DeviceState} (d : D) (lawful : IsLawful (state d)) (v : Fs D) {new : Mounted D} {lines : List Line}
+    {answers : List Answer} (finds : FindsState state d v)
     (durable : (state (seen v).log.device).keeps_model → Only (state d).content (state (seen v).log.device))
     (untouched : IsUntouched (state d) (state (seen v).log.device))
     (carries : Carries (state d) (state (seen v).log.device))
@@ -126,10 +123,10 @@ module _ {D : Type 0} (state : D → DeviceState) (d : D) (lawful : IsLawful (st
   uses_volume runs keeps = uses_by state d lawful v new lines answers finds durable untouched carries moment no_failure runs keeps
       (λ p is. runs.model p keeps is)
 
-  pub uses_told : (clocks : List ℕ) → TellsLines state (seen v) new lines answers clocks → (state new.log.device).keeps_model
+  pub uses_told : {clocks : List ℕ} → TellsLines state (seen v) new lines answers clocks → (state new.log.device).keeps_model
       → UsesTold (state d) (state new.log.device) lines answers clocks
   unfolding uses_by
-  uses_told clocks tells keeps =
+  uses_told tells keeps =
       let rans : ((p : Point) → IsAt state (seen v) p → RanAt state (seen v) new lines answers p) = λ p is. (tells.told p keeps is).ran in
       let mounted = at state d lawful v new lines answers finds durable untouched carries moment no_failure tells.runs keeps rans in
       record {

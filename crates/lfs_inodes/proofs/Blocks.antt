@@ -25,8 +25,8 @@ use Rattle.lfs_inodes.proofs.Codes.{code_entry, entry_of_code}
 cmp_less : (a b : ℕ) → a < b → nat_cmp a b ≡ Less
 cmp_less a b lt = grind (arith, nat_tests)
 
-cmp_equal : (a b : ℕ) → a ≡ b → nat_cmp a b ≡ Equal
-cmp_equal a b e = grind (arith, nat_tests)
+cmp_equal : {a b : ℕ} → a ≡ b → nat_cmp a b ≡ Equal
+cmp_equal e = grind (arith, nat_tests)
 
 cmp_greater : (a b : ℕ) → b < a → nat_cmp a b ≡ Greater
 cmp_greater a b lt = grind (arith, nat_tests)
@@ -36,7 +36,7 @@ less_is a b h =
     ⊎_elim
     (λ (lt : a < b). lt)
     (λ (le : b ≤ a). ⊎_elim
-    (λ (e : a ≡ b). absurd (subst (λ r. T (is_lt r)) (cmp_equal a b e) h))
+    (λ (e : a ≡ b). absurd (subst (λ r. T (is_lt r)) (cmp_equal e) h))
     (λ (ne : a ≡ b → ⊥). absurd (subst (λ r. T (is_lt r)) (cmp_greater a b (omega arith)) h))
     (cases_eq a b))
     (cases_lt a b)
@@ -64,8 +64,8 @@ pub find_none : (es : Blocks) (c : ℕ) → ((j : ℕ) → j < length es → num
 find_none [] c away = refl
 find_none (e ∷ es) c away = find_more e es c (away 0 (omega arith)) ∙ find_none es c (λ j lt. away (suc j) (omega arith))
 
-pub find_gap : (es : Blocks) (c i : ℕ) → IsGapFor es c i → find nat_cmp c es ≡ None
-find_gap es c i gap = find_none es c (λ j lt same. ⊎_elim
+pub find_gap : {es : Blocks} {c i : ℕ} → IsGapFor es c i → find nat_cmp c es ≡ None
+find_gap {es} {c} {i} gap = find_none es c (λ j lt same. ⊎_elim
     (λ (early : j < i). let b = gap.before j early in omega arith)
     (λ (late : i ≤ j). let a = gap.after j late lt in omega arith)
     (cases_lt j i))
@@ -78,7 +78,7 @@ find_at_first (e ∷ es) c (suc i) lt is before =
     find_more e es c (λ h. let b = before 0 (omega arith) in omega arith)
     ∙ find_at_first es c i (omega arith) is (λ j l. before (suc j) (omega arith))
 
-module _ (es : Blocks) (sorted : T (is_sorted nat_cmp es)) (c i : ℕ) (is : HasNumberAt es c i) where
+module _ {es : Blocks} (sorted : T (is_sorted nat_cmp es)) (c i : ℕ) (is : HasNumberAt es c i) where
   pub lower : (j : ℕ) → j < i → number_at es j < c
   lower j lt = let r = rises es sorted j i lt is.within in let n = is.number in omega arith
 
@@ -93,15 +93,14 @@ put_at_first : (es : Blocks) (c : ℕ) (v : List ℕ) (i : ℕ) → i < length e
     → put nat_cmp c v es ≡ set es i (c, v)
 put_at_first [] c v i lt is before = absurd (omega arith)
 put_at_first (e ∷ es) c v zero lt is before =
-    ap (λ r. by_order r ((c, v) ∷ e ∷ es) ((e.0, v) ∷ es) (e ∷ put nat_cmp c v es)) (cmp_equal c e.0 (sym is))
-    ∙ ap (λ (n : ℕ). (n, v) ∷ es) is
+    ap (λ r. by_order r ((c, v) ∷ e ∷ es) ((e.0, v) ∷ es) (e ∷ put nat_cmp c v es)) (cmp_equal (sym is)) ∙ ap (λ (n : ℕ). (n, v) ∷ es) is
 put_at_first (e ∷ es) c v (suc i) lt is before =
     order_more c v e es (before 0 (omega arith))
     ∙ ap (λ (xs : Blocks). e ∷ xs) (put_at_first es c v i (omega arith) is (λ j l. before (suc j) (omega arith)))
 
-pub put_at : (es : Blocks) → T (is_sorted nat_cmp es) → (c : ℕ) (v : List ℕ) (i : ℕ) → HasNumberAt es c i
+pub put_at : {es : Blocks} → T (is_sorted nat_cmp es) → (c : ℕ) (v : List ℕ) (i : ℕ) → HasNumberAt es c i
     → put nat_cmp c v es ≡ set es i (c, v)
-put_at es sorted c v i is = put_at_first es c v i is.within is.number (lower es sorted c i is)
+put_at {es} sorted c v i is = put_at_first es c v i is.within is.number (lower sorted c i is)
 
 put_gap_at : (es : Blocks) (c : ℕ) (v : List ℕ) (i : ℕ) → i ≤ length es → ((j : ℕ) → j < i → number_at es j < c)
     → ((j : ℕ) → i ≤ j → j < length es → c < number_at es j) → put nat_cmp c v es ≡ insert es i (c, v)
@@ -114,8 +113,8 @@ put_gap_at (e ∷ es) c v (suc i) le before after =
     ∙ ap (λ (xs : Blocks). e ∷ xs)
     (put_gap_at es c v i (omega arith) (λ j l. before (suc j) (omega arith)) (λ j l r. after (suc j) (omega arith) (omega arith)))
 
-pub put_gap : (es : Blocks) (c : ℕ) (v : List ℕ) (i : ℕ) → IsGapFor es c i → put nat_cmp c v es ≡ insert es i (c, v)
-put_gap es c v i gap = put_gap_at es c v i gap.within gap.before gap.after
+pub put_gap : {es : Blocks} {c : ℕ} (v : List ℕ) (i : ℕ) → IsGapFor es c i → put nat_cmp c v es ≡ insert es i (c, v)
+put_gap {es} {c} v i gap = put_gap_at es c v i gap.within gap.before gap.after
 
 without_more : (e : ℕ × List ℕ) (es : Blocks) (c : ℕ) → (e.0 ≡ c → ⊥) → without nat_cmp c (e ∷ es) ≡ e ∷ without nat_cmp c es
 without_more e es c ne = ap (λ b. cond (not b) (e ∷ without nat_cmp c es) (without nat_cmp c es)) (cmp_other c e.0 (λ h. ne (sym h)))
@@ -129,8 +128,8 @@ without_none [] c away = refl
 without_none (e ∷ es) c away = without_more e es c (away 0 (omega arith))
     ∙ ap (λ (xs : Blocks). e ∷ xs) (without_none es c (λ j lt. away (suc j) (omega arith)))
 
-pub without_gap : (es : Blocks) (c i : ℕ) → IsGapFor es c i → without nat_cmp c es ≡ es
-without_gap es c i gap = without_none es c (λ j lt same. ⊎_elim
+pub without_gap : {es : Blocks} {c i : ℕ} → IsGapFor es c i → without nat_cmp c es ≡ es
+without_gap {es} {c} {i} gap = without_none es c (λ j lt same. ⊎_elim
     (λ (early : j < i). let b = gap.before j early in omega arith)
     (λ (late : i ≤ j). let a = gap.after j late lt in omega arith)
     (cases_lt j i))
@@ -145,8 +144,8 @@ without_at_place (e ∷ es) c (suc i) h lt is =
     without_more e es c (λ same. let r = rises (e ∷ es) h 0 (suc i) (omega arith) lt in let s : number_at es i ≡ c = is in omega arith)
     ∙ ap (λ (xs : Blocks). e ∷ xs) (without_at_place es c i (T_right (below_all nat_cmp e.0 es) _ h) (omega arith) is)
 
-pub without_at : (es : Blocks) → T (is_sorted nat_cmp es) → (c i : ℕ) → HasNumberAt es c i → without nat_cmp c es ≡ remove es i
-without_at es sorted c i is = without_at_place es c i sorted is.within is.number
+pub without_at : {es : Blocks} → T (is_sorted nat_cmp es) → (c i : ℕ) → HasNumberAt es c i → without nat_cmp c es ≡ remove es i
+without_at {es} sorted c i is = without_at_place es c i sorted is.within is.number
 
 -- ---- the order stays
 pub sorted_put : (es : Blocks) (c : ℕ) (v : List ℕ) → T (is_sorted nat_cmp es) → T (is_sorted nat_cmp (put nat_cmp c v es))
@@ -173,13 +172,13 @@ pub count_altered : (es : Blocks) (c : ℕ) (f : List ℕ → List ℕ) → T (i
 count_altered es c f h = same_count es c f h (find nat_cmp c es) refl
 
 -- ---- the same, as the log sees it
-module _ (es : Blocks) (c : ℕ) (is : IsCode c) where
+module _ (es : Blocks) {c : ℕ} (is : IsCode c) where
   -- what the entry of a number has is what stands at the number
   pub entry_found : blocks_in es (entry_at c) ≡ find nat_cmp c es
   entry_found = ap (λ (n : ℕ). find nat_cmp n es) (code_entry c is)
 
   others_differ : (y : Entry) → (y ≡ entry_at c → ⊥) → code y ≡ c → ⊥
-  others_differ y ne same = ne (entry_of_code y c is same)
+  others_differ y ne same = ne (entry_of_code y is same)
 
   find_put_at : (v : List ℕ) (q : ℕ) → find nat_cmp q (put nat_cmp c v es) ≡ cond (eq_by_cmp nat_cmp q c) (Some v) (find nat_cmp q es)
   find_put_at v q = find-put nat_cmp nat_cmp_total q c v es

@@ -17,8 +17,8 @@ placed_at (suc zero) c is k = let file = k.file in let at = k.leaf_index (omega 
 placed_at (suc (suc zero)) c is k = let file = k.file in let at = k.no_index (omega arith) in ((omega arith, omega arith), at)
 placed_at (suc (suc (suc r))) c is k = let file = k.file in let at = k.no_index (omega arith) in ((omega arith, omega arith), at)
 
-pub placed : (c : ℕ) → IsCode c → IsPlaced (kind_by (c / 134217728)) (c / 32768 % 4096) (c % 32768)
-placed c = placed_at (c / 134217728) c refl
+pub placed : {c : ℕ} → IsCode c → IsPlaced (kind_by (c / 134217728)) (c / 32768 % 4096) (c % 32768)
+placed {c} = placed_at (c / 134217728) c refl
 
 -- ---- what is named, and what isn't
 pub fits_is : (file index most : ℕ) → 1 ≤ file → file ≤ 4095 → index ≤ most → fits file index most ≡ true
@@ -112,8 +112,8 @@ code_is (Map j) small = absurd (omega arith)
 code_is (Usage j) small = absurd (omega arith)
 
 -- an entry has the number of a key where it is the key's
-pub entry_of_code : (x : Entry) (c : ℕ) → IsCode c → code x ≡ c → x ≡ entry_at c
-entry_of_code x c k same = let small = k.small in sym (entry_code x (omega arith)) ∙ ap entry_at same
+pub entry_of_code : (x : Entry) {c : ℕ} → IsCode c → code x ≡ c → x ≡ entry_at c
+entry_of_code x k same = let small = k.small in sym (entry_code x (omega arith)) ∙ ap entry_at same
 
 -- ---- a block has a lower number than the block that points to it
 pub code_below : (x : Entry) → (parent x ≡ x → ⊥) → code x < 4294967296 → code x < code (parent x)

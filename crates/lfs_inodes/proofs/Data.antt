@@ -85,9 +85,9 @@ unfolding data_count
 no_data t none = ap (sum_by one) none
 
 -- ---- the first, one that is patched, and one that leaves
-pub first_data : (t : TableValue) → T (is_sorted nat_cmp t.blocks) → (c : ℕ) → HasNumberAt t.blocks c 0 → 1 ≤ data_count t
+pub first_data : (t : TableValue) → T (is_sorted nat_cmp t.blocks) → {c : ℕ} → HasNumberAt t.blocks c 0 → 1 ≤ data_count t
     → is_data_code c ≡ true
-first_data t sorted c at some = by_kind (is_data_code c) refl
+first_data t sorted {c} at some = by_kind (is_data_code c) refl
   where
     by_kind : (b : Bool) → is_data_code c ≡ b → is_data_code c ≡ true
     by_kind true is = is
@@ -96,31 +96,32 @@ first_data t sorted c at some = by_kind (is_data_code c) refl
         let few = lacks_data t sorted 0 (λ lt. ap is_data_code number ∙ is) in
         absurd (omega (arith, few, some))
 
-same_number : (es : Blocks) (c i : ℕ) (v : List ℕ) → HasNumberAt es c i → one (get_or es i (0, [])) ≡ one (c, v)
-same_number es c i v at = let number = at.number in ap (λ (n : ℕ). cond {A = ℕ} (is_data_code n) 1 0) number
+same_number : {es : Blocks} (c i : ℕ) (v : List ℕ) → HasNumberAt es c i → one (get_or es i (0, [])) ≡ one (c, v)
+same_number c i v at = let number = at.number in ap (λ (n : ℕ). cond {A = ℕ} (is_data_code n) 1 0) number
 
-put_keeps : (es : Blocks) → T (is_sorted nat_cmp es) → (c i : ℕ) (v : List ℕ) → HasNumberAt es c i
+put_keeps : {es : Blocks} → T (is_sorted nat_cmp es) → (c i : ℕ) (v : List ℕ) → HasNumberAt es c i
     → sum_by one (put nat_cmp c v es) ≡ sum_by one es
-put_keeps es sorted c i v at =
-    let now = ap (sum_by one) (put_at es sorted c v i at) in
+put_keeps {es} sorted c i v at =
+    let now = ap (sum_by one) (put_at sorted c v i at) in
     let changed = sum_by-set one es i (c, v) (0, []) at.within in
-    let same = same_number es c i v at in
+    let same = same_number c i v at in
     omega (arith, now, changed, same)
 
-pub data_patched : (t t' : TableValue) → T (is_sorted nat_cmp t.blocks) → (c i : ℕ) (f : List ℕ → List ℕ) → HasNumberAt t.blocks c i
+pub data_patched : (t : TableValue) {t' : TableValue} → T (is_sorted nat_cmp t.blocks) → {c i : ℕ} (f : List ℕ → List ℕ)
+    → HasNumberAt t.blocks c i
     → t' ≡ record t { blocks = altered f c t.blocks } → data_count t' ≡ data_count t
 unfolding data_count
-data_patched t t' sorted c i f at is =
+data_patched t sorted {c} {i} f at is =
     ap (λ (u : TableValue). sum_by one u.blocks) is
-    ∙ ap (λ (o : Option (List ℕ)). sum_by one (altered_as o f c t.blocks)) (find_at t.blocks sorted c i at)
-    ∙ put_keeps t.blocks sorted c i (f (get_or t.blocks i (0, [])).1) at
+    ∙ ap (λ (o : Option (List ℕ)). sum_by one (altered_as o f c t.blocks)) (find_at sorted c i at)
+    ∙ put_keeps sorted c i (f (get_or t.blocks i (0, [])).1) at
 
-pub data_removed : (t t' : TableValue) → T (is_sorted nat_cmp t.blocks) → (c i : ℕ) → HasNumberAt t.blocks c i
+pub data_removed : (t : TableValue) {t' : TableValue} → T (is_sorted nat_cmp t.blocks) → (c i : ℕ) → HasNumberAt t.blocks c i
     → t' ≡ record t { blocks = without nat_cmp c t.blocks } → is_data_code c ≡ true → data_count t' + 1 ≡ data_count t
 unfolding data_count
-data_removed t t' sorted c i at is kind =
+data_removed t sorted c i at is kind =
     let now = ap (λ (u : TableValue). sum_by one u.blocks) is in
-    let left = ap (sum_by one) (without_at t.blocks sorted c i at) in
+    let left = ap (sum_by one) (without_at sorted c i at) in
     let gone = sum_by-remove one t.blocks i (0, []) at.within in
     let number = at.number in
     let counted : one (get_or t.blocks i (0, [])) ≡ 1 = ap (λ (n : ℕ). cond {A = ℕ} (is_data_code n) 1 0) number

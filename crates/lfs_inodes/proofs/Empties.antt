@@ -24,10 +24,10 @@ place_of (e ∷ es) c v found = ⊎_elim
 abbrev pub LeadsAt : TableValue → ℕ → Type 0
 LeadsAt t j = (x : Entry) (b : List ℕ) → number_at t.blocks j ≡ code x → blocks_of t x ≡ Some b → IsPointers x → HasPointer b
 
-pub leads_at : (t : TableValue) (j c : ℕ) → IsCode c → HasNumberAt t.blocks c j
+pub leads_at : (t : TableValue) {j c : ℕ} → IsCode c → HasNumberAt t.blocks c j
     → ((b : List ℕ) → blocks_of t (entry_at c) ≡ Some b → IsPointers (entry_at c) → HasPointer b) → LeadsAt t j
-leads_at t j c is at leads x b number there pointers =
-    let same : x ≡ entry_at c = entry_of_code x c is (sym number ∙ at.number) in
+leads_at t {c} is at leads x b number there pointers =
+    let same : x ≡ entry_at c = entry_of_code x is (sym number ∙ at.number) in
     leads b (ap (blocks_of t) (sym same) ∙ there) (subst IsPointers same pointers)
 
 pub all_lead : (t : TableValue) → ((j : ℕ) → j < length t.blocks → LeadsAt t j) → IsTight (blocks_of t)

@@ -27,14 +27,14 @@ use Rattle.lfs_inodes.proofs.Blocks.{changed_without}
 abbrev mark : ℕ → ℕ → ℕ
 mark x n = cond (x == n) 1 0
 
-hit : (x n : ℕ) → x ≡ n → mark x n ≡ 1
-hit x n e = grind (arith, nat_tests)
+hit : {x n : ℕ} → x ≡ n → mark x n ≡ 1
+hit e = grind (arith, nat_tests)
 
 miss : (x n : ℕ) → (x ≡ n → ⊥) → mark x n ≡ 0
 miss x n ne = grind (arith, nat_tests)
 
 missed : (x n : ℕ) → mark x n ≡ 0 → x ≡ n → ⊥
-missed x n z e = let h = hit x n e in omega arith
+missed x n z e = let h = hit e in omega arith
 
 pub times-append : (n : ℕ) (xs ys : List ℕ) → times n (xs ++ ys) ≡ times n xs + times n ys
 times-append n [] ys = omega arith
@@ -45,8 +45,8 @@ times-insert n x xs zero = refl
 times-insert n x [] (suc i) = refl
 times-insert n x (y ∷ xs) (suc i) = let r = times-insert n x xs i in omega arith
 
-pub times_last : (xs ys : List ℕ) (x : ℕ) → xs ≡ ys ++ x ∷ [] → 1 ≤ times x xs
-times_last xs ys x is = let e = ap (times x) is ∙ times-append x ys (x ∷ []) in let one = hit x x refl in omega arith
+pub times_last : {xs : List ℕ} (ys : List ℕ) (x : ℕ) → xs ≡ ys ++ x ∷ [] → 1 ≤ times x xs
+times_last ys x is = let e = ap (times x) is ∙ times-append x ys (x ∷ []) in let one = hit {x = x} {n = x} refl in omega arith
 
 map-insert : {X Y : Type 0} (f : X → Y) (xs : List X) (i : ℕ) (x : X) → map f (insert xs i x) ≡ insert (map f xs) i (f x)
 map-insert f xs zero x = refl
@@ -65,14 +65,14 @@ length-entries (p ∷ ps) bs = ap suc (length-entries ps bs)
 
 times_here : (ps : List Place) (i : ℕ) (p : Place) → i < length ps → p ≡ get_or ps i p → 1 ≤ times p.spot (spots ps)
 times_here [] i p lt is = absurd (omega arith)
-times_here (q ∷ ps) zero p lt is = let h = hit q.spot p.spot (ap (λ (x : Place). x.spot) (sym is)) in omega arith
+times_here (q ∷ ps) zero p lt is = let h = hit (ap (λ (x : Place). x.spot) (sym is)) in omega arith
 times_here (q ∷ ps) (suc i) p lt is = let r = times_here ps i p (omega arith) is in omega arith
 
-times_left : (n : ℕ) (ps : List Place) (i : ℕ) (p : Place) → i < length ps → p ≡ get_or ps i p
+times_left : (n : ℕ) (ps : List Place) (i : ℕ) {p : Place} → i < length ps → p ≡ get_or ps i p
     → times n (spots ps) ≡ cond (p.spot == n) 1 0 + times n (spots (remove ps i))
-times_left n [] i p lt is = absurd (omega arith)
-times_left n (q ∷ ps) zero p lt is = ap (λ (x : Place). cond (x.spot == n) 1 0 + times n (spots ps)) (sym is)
-times_left n (q ∷ ps) (suc i) p lt is = let r = times_left n ps i p (omega arith) is in omega arith
+times_left n [] i lt is = absurd (omega arith)
+times_left n (q ∷ ps) zero lt is = ap (λ (x : Place). cond (x.spot == n) 1 0 + times n (spots ps)) (sym is)
+times_left n (q ∷ ps) (suc i) {p} lt is = let r = times_left n ps i (omega arith) is in omega arith
 
 -- ---- a block of the arena is written
 same_value : (bs : List (List ℕ)) (s : ℕ) (v : List ℕ) (q : Place) → (q.spot ≡ s → ⊥) → entry_in (set bs s v) q ≡ entry_in bs q
@@ -88,21 +88,20 @@ written : (ps : List Place) (bs : List (List ℕ)) (i : ℕ) (p : Place) (v : Li
     → entries_in ps (set bs p.spot v) ≡ set (entries_in ps bs) i (p.key.code, v)
 written [] bs i p v lt is once low = absurd (omega arith)
 written (q ∷ ps) bs zero p v lt is once low =
-    let h = hit q.spot p.spot (ap (λ (x : Place). x.spot) (sym is)) in
+    let h = hit (ap (λ (x : Place). x.spot) (sym is)) in
     ap₂ (λ (e : ℕ × List ℕ) (es : Blocks). e ∷ es)
     (ap (λ (x : Place). entry_in (set bs p.spot v) x) (sym is) ∙ ap (λ (b : List ℕ). (p.key.code, b)) (get_or-set_same bs p.spot v [] low))
     (kept ps bs p.spot v (omega arith))
 written (q ∷ ps) bs (suc i) p v lt is once low =
     let there = times_here ps i p (omega arith) is in
-    ap₂ (λ (e : ℕ × List ℕ) (es : Blocks). e ∷ es)
-    (same_value bs p.spot v q (λ e. let h = hit q.spot p.spot e in omega arith))
+    ap₂ (λ (e : ℕ × List ℕ) (es : Blocks). e ∷ es) (same_value bs p.spot v q (λ e. let h = hit e in omega arith))
     (written ps bs i p v (omega arith) is (omega arith) low)
 
-number_is : (ps : List Place) (bs : List (List ℕ)) (i : ℕ) (p : Place) → i < length ps → p ≡ get_or ps i p
+number_is : (ps : List Place) (bs : List (List ℕ)) (i : ℕ) {p : Place} → i < length ps → p ≡ get_or ps i p
     → get_or (entries_in ps bs) i (0, []) ≡ entry_in bs p
-number_is [] bs i p lt is = absurd (omega arith)
-number_is (q ∷ ps) bs zero p lt is = ap (entry_in bs) (sym is)
-number_is (q ∷ ps) bs (suc i) p lt is = number_is ps bs i p (omega arith) is
+number_is [] bs i lt is = absurd (omega arith)
+number_is (q ∷ ps) bs zero lt is = ap (entry_in bs) (sym is)
+number_is (q ∷ ps) bs (suc i) {p} lt is = number_is ps bs i (omega arith) is
 
 none_if : (n s : ℕ) → n ≤ s → one_below n s ≡ 0
 none_if n s le = grind (arith, nat_tests)
@@ -117,7 +116,7 @@ kept_below [] bs v none = refl
 kept_below (q ∷ ps) bs v none =
     let low : q.spot < length bs = ⊎_elim
     (λ (lt : q.spot < length bs). lt)
-    (λ (le : length bs ≤ q.spot). let z = none q.spot le in let one = hit q.spot q.spot refl in absurd (omega arith))
+    (λ (le : length bs ≤ q.spot). let z = none q.spot le in let one = hit {x = q.spot} {n = q.spot} refl in absurd (omega arith))
     (cases_lt q.spot (length bs)) in
     ap₂ (λ (e : ℕ × List ℕ) (es : Blocks). e ∷ es)
     (ap (λ (b : List ℕ). (q.key.code, b)) (get_or_append_left bs (v ∷ []) [] q.spot low))
@@ -132,33 +131,33 @@ neither false false none = (refl, refl)
 neither false true none = absurd cc
 neither true b none = absurd cc
 
-tight_changed : (old new : Dirty) (x : Entry) (value : Option (List ℕ)) → ChangesTo old new x value
+tight_changed : {old : Dirty} (new : Dirty) {x : Entry} {value : Option (List ℕ)} → ChangesTo old new x value
     → ((v : List ℕ) → value ≡ Some v → IsPointers x → HasPointer v) → IsTight old → IsTight new
-tight_changed old new x value change leads tight y v there is = ⊎_elim
+tight_changed new {x} change leads tight y v there is = ⊎_elim
     (λ (here : y ≡ x). leads v (sym (ap new here ∙ change.own) ∙ there) (subst IsPointers here is))
     (λ (away : y ≡ x → ⊥). tight y v (sym (change.others y away) ∙ there) is)
     (same_entry y x)
 
-tight_put : (es : Blocks) (c : ℕ) (v : List ℕ) → IsCode c → (IsPointers (entry_at c) → HasPointer v) → IsTight (blocks_in es)
+tight_put : (es : Blocks) {c : ℕ} (v : List ℕ) → IsCode c → (IsPointers (entry_at c) → HasPointer v) → IsTight (blocks_in es)
     → IsTight (blocks_in (put nat_cmp c v es))
-tight_put es c v is leads =
-    tight_changed _ _ (entry_at c) (Some v) (changed_put es c is v) (λ w same on. let e : v ≡ w = cc in subst HasPointer e (leads on))
+tight_put es {c} v is leads =
+    tight_changed _ (changed_put es is v) (λ w same on. let e : v ≡ w = cc in subst HasPointer e (leads on))
 
 tight_without : (es : Blocks) (c : ℕ) → IsCode c → IsTight (blocks_in es) → IsTight (blocks_in (without nat_cmp c es))
-tight_without es c is = tight_changed _ _ (entry_at c) None (changed_without es c is) (λ w none on. absurd cc)
+tight_without es c is = tight_changed _ (changed_without es is) (λ w none on. absurd cc)
 
-module _ (ps : List Place) (bs : List (List ℕ)) (spare : List ℕ) (most room : ℕ) (caps : Capacities)
+module _ {ps : List Place} {bs : List (List ℕ)} {spare : List ℕ} {most room : ℕ} {caps : Capacities}
     (h : IsTableOf ps bs spare most room caps) where
   pub few : length (entries_in ps bs) ≤ length bs
   few = let l = length-entries ps bs in let s = h.shared in omega arith
 
   -- ---- at a place that has a block
-  module _ (i : ℕ) (p : Place) (lt : i < length ps) (is : p ≡ get_or ps i p) where
+  module _ (i : ℕ) {p : Place} (lt : i < length ps) (is : p ≡ get_or ps i p) where
     pub spot_low : p.spot < length bs
     spot_low = let t = times_here ps i p lt is in let o = h.once p.spot in low_if (length bs) p.spot (omega arith)
 
     pub place_is : get_or (entries_in ps bs) i (0, []) ≡ entry_in bs p
-    place_is = number_is ps bs i p lt is
+    place_is = number_is ps bs i lt is
 
     once_here : times p.spot (spots ps) ≤ 1
     once_here = let o = h.once p.spot in let c = cond_le p.spot (length bs) in omega arith
@@ -166,7 +165,7 @@ module _ (ps : List Place) (bs : List (List ℕ)) (spare : List ℕ) (most room 
         cond_le : (s n : ℕ) → one_below n s ≤ 1
         cond_le s n = grind (arith, nat_tests)
 
-    module _ (c : ℕ) (at : HasNumberAt (entries_in ps bs) c i) where
+    module _ {c : ℕ} (at : HasNumberAt (entries_in ps bs) c i) where
       key_is : p.key.code ≡ c
       key_is = ap (λ (e : ℕ × List ℕ). e.0) (sym place_is) ∙ at.number
 
@@ -174,8 +173,7 @@ module _ (ps : List Place) (bs : List (List ℕ)) (spare : List ℕ) (most room 
       pub written_is : (v : List ℕ) → entries_in ps (set bs p.spot v) ≡ put nat_cmp c v (entries_in ps bs)
       written_is v =
           written ps bs i p v lt is once_here spot_low
-          ∙ ap (λ (k : ℕ). set (entries_in ps bs) i (k, v)) key_is
-          ∙ sym (put_at (entries_in ps bs) h.sorted c v i at)
+          ∙ ap (λ (k : ℕ). set (entries_in ps bs) i (k, v)) key_is ∙ sym (put_at h.sorted c v i at)
 
       pub held_written : (v : List ℕ) → IsTableOf ps (set bs p.spot v) spare most room caps
       held_written v =
@@ -195,7 +193,7 @@ module _ (ps : List Place) (bs : List (List ℕ)) (spare : List ℕ) (most room 
 
       -- it goes, and its spot is spare
       pub removed_is : entries_in (remove ps i) bs ≡ without nat_cmp c (entries_in ps bs)
-      removed_is = map-remove (entry_in bs) ps i ∙ sym (without_at (entries_in ps bs) h.sorted c i at)
+      removed_is = map-remove (entry_in bs) ps i ∙ sym (without_at h.sorted c i at)
 
       pub held_removed : (spare' : List ℕ) → spare' ≡ spare ++ p.spot ∷ [] → IsTableOf (remove ps i) bs spare' most room caps
       held_removed spare' now =
@@ -207,7 +205,7 @@ module _ (ps : List Place) (bs : List (List ℕ)) (spare : List ℕ) (most room 
             sorted = subst (λ (es : Blocks). T (is_sorted nat_cmp es)) (sym removed_is) (sorted_without (entries_in ps bs) c h.sorted);
             once = λ n.
                 let o = h.once n in
-                let t = times_left n ps i p lt is in
+                let t = times_left n ps i lt is in
                 let u = ap (times n) now ∙ times-append n spare (p.spot ∷ []) in
                 omega arith;
             shared = omega arith;
@@ -229,14 +227,14 @@ module _ (ps : List Place) (bs : List (List ℕ)) (spare : List ℕ) (most room 
     spare_low =
         let o = h.once p.spot in
         let t = spare_here p.spot in
-        let m = hit p.spot p.spot refl in
+        let m = hit {x = p.spot} {n = p.spot} refl in
         low_if (length bs) p.spot (omega arith)
 
     unused : times p.spot (spots ps) ≡ 0
     unused =
         let o = h.once p.spot in
         let t = spare_here p.spot in
-        let m = hit p.spot p.spot refl in
+        let m = hit {x = p.spot} {n = p.spot} refl in
         let k : one_below (length bs) p.spot ≡ 1 = cond-true _ 1 0 (lt-ltb p.spot (length bs) spare_low) in
         omega arith
 
@@ -245,8 +243,7 @@ module _ (ps : List Place) (bs : List (List ℕ)) (spare : List ℕ) (most room 
       inserted_is =
           map-insert (entry_in (set bs p.spot v)) ps i p
           ∙ ap₂ (λ (es : Blocks) (x : List ℕ). insert es i (p.key.code, x)) (kept ps bs p.spot v unused)
-          (get_or-set_same bs p.spot v [] spare_low)
-          ∙ sym (put_gap (entries_in ps bs) p.key.code v i gap)
+          (get_or-set_same bs p.spot v [] spare_low) ∙ sym (put_gap v i gap)
 
       pub held_inserted : length ps < most → IsTableOf (insert ps i p) (set bs p.spot v) spare' most room caps
       held_inserted more =
@@ -288,8 +285,7 @@ module _ (ps : List Place) (bs : List (List ℕ)) (spare : List ℕ) (most room 
       added_is =
           map-insert (entry_in (bs ++ v ∷ [])) ps i p
           ∙ ap₂ (λ (es : Blocks) (x : List ℕ). insert es i (p.key.code, x)) (kept_below ps bs v high)
-          (get_or_push bs v [] p.spot (sym last))
-          ∙ sym (put_gap (entries_in ps bs) p.key.code v i gap)
+          (get_or_push bs v [] p.spot (sym last)) ∙ sym (put_gap v i gap)
 
       pub held_added : length ps < most → IsTableOf (insert ps i p) (bs ++ v ∷ []) [] most room caps
       held_added more =
@@ -320,11 +316,11 @@ module _ (ps : List Place) (bs : List (List ℕ)) (spare : List ℕ) (most room 
             room_for_spare = h.room_for_spare;
           }
 
-pub wider : (ps : List Place) (bs : List (List ℕ)) (spare : List ℕ) (most room : ℕ) (caps caps' : Capacities)
+pub wider : {ps : List Place} {bs : List (List ℕ)} {spare : List ℕ} {most room : ℕ} {caps : Capacities} (caps' : Capacities)
     → IsTableOf ps bs spare most room caps
     → caps.for_places ≤ caps'.for_places → caps.for_arena ≤ caps'.for_arena → caps.for_spare ≤ caps'.for_spare
     → IsTableOf ps bs spare most room caps'
-wider ps bs spare most room caps caps' h places arena spots =
+wider caps' h places arena spots =
     let p = h.room_for_places in
     let a = h.room_for_arena in
     let s = h.room_for_spare in
@@ -359,22 +355,22 @@ numbers_of_keys (p ∷ ps) bs (suc j) lt = numbers_of_keys ps bs j (omega arith)
 abbrev pub value_of : Capacity → List Place → List (List ℕ) → TableValue
 value_of most ps bs = record { blocks = entries_in ps bs; capacity = most }
 
-pub small_value : (most : Capacity) (ps : List Place) (bs : List (List ℕ)) (t : TableValue) → value_of most ps bs ≡ t → (j : ℕ)
+pub small_value : (most : Capacity) (ps : List Place) (bs : List (List ℕ)) {t : TableValue} → value_of most ps bs ≡ t → (j : ℕ)
     → j < length t.blocks → number_at t.blocks j < 4294967296
-small_value most ps bs t view =
+small_value most ps bs view =
     subst (λ (u : TableValue). (j : ℕ) → j < length u.blocks → number_at u.blocks j < 4294967296) view (numbers_small ps bs)
 
-pub codes_value : (most : Capacity) (ps : List Place) (bs : List (List ℕ)) (t : TableValue) → value_of most ps bs ≡ t → (j : ℕ)
+pub codes_value : (most : Capacity) (ps : List Place) (bs : List (List ℕ)) {t : TableValue} → value_of most ps bs ≡ t → (j : ℕ)
     → j < length t.blocks → IsCode (number_at t.blocks j)
-codes_value most ps bs t view =
+codes_value most ps bs view =
     subst (λ (u : TableValue). (j : ℕ) → j < length u.blocks → IsCode (number_at u.blocks j)) view (numbers_of_keys ps bs)
 
-pub at_value : (most : Capacity) (ps : List Place) (bs : List (List ℕ)) (t : TableValue) → value_of most ps bs ≡ t → (i : ℕ) (p : Place)
+pub at_value : (most : Capacity) (ps : List Place) (bs : List (List ℕ)) {t : TableValue} → value_of most ps bs ≡ t → (i : ℕ) {p : Place}
     → i < length ps → p ≡ get_or ps i p → HasNumberAt t.blocks p.key.code i
-at_value most ps bs t view i p lt is =
+at_value most ps bs view i {p} lt is =
     let l = length-entries ps bs in
     subst (λ (u : TableValue). HasNumberAt u.blocks p.key.code i) view
-    (record { within = omega arith; number = ap (λ (e : ℕ × List ℕ). e.0) (number_is ps bs i p lt is) })
+    (record { within = omega arith; number = ap (λ (e : ℕ × List ℕ). e.0) (number_is ps bs i lt is) })
 
 module _ (ps : List Place) (bs : List (List ℕ)) (spare : List ℕ) (most room : ℕ) (caps : Capacities)
     (h : IsTableOf ps bs spare most room caps) (t : TableValue) (view : value_of (record { limit = most; room = room }) ps bs ≡ t) where
@@ -389,16 +385,15 @@ module _ (ps : List Place) (bs : List (List ℕ)) (spare : List ℕ) (most room 
     inside = let l = length-entries ps bs in let w = here.within in omega arith
 
     pub low_at : p.spot < length bs
-    low_at = spot_low ps bs spare most room caps h i p inside is
+    low_at = spot_low h i inside is
 
     pub found_at : find nat_cmp c t.blocks ≡ Some (get_or bs p.spot [])
     found_at =
-        subst (λ (u : TableValue). find nat_cmp c u.blocks ≡ Some (get_or bs p.spot [])) view
-        (find_at (entries_in ps bs) h.sorted c i here
-        ∙ ap (λ (e : ℕ × List ℕ). Some e.1) (place_is ps bs spare most room caps h i p inside is))
+        subst (λ (u : TableValue). find nat_cmp c u.blocks ≡ Some (get_or bs p.spot [])) view (find_at h.sorted c i here
+        ∙ ap (λ (e : ℕ × List ℕ). Some e.1) (place_is h i inside is))
 
     pub held_at : (v : List ℕ) → IsTableOf ps (set bs p.spot v) spare most room caps
-    held_at v = held_written ps bs spare most room caps h i p inside is c here v
+    held_at v = held_written h i inside is here v
 
     pub put_value : (v : List ℕ)
         → value_of (record { limit = most; room = room }) ps (set bs p.spot v) ≡ record t { blocks = put nat_cmp c v t.blocks }
@@ -406,13 +401,13 @@ module _ (ps : List Place) (bs : List (List ℕ)) (spare : List ℕ) (most room 
         subst (λ (u : TableValue). value_of (record { limit = most; room = room }) ps (set bs p.spot v)
         ≡ record u { blocks = put nat_cmp c v u.blocks }) view
         (λ k. record {
-          blocks = written_is ps bs spare most room caps h i p inside is c here v k;
+          blocks = written_is h i inside is here v k;
           capacity = record { limit = most; room = room };
         })
 
-    pub altered_value : (f : List ℕ → List ℕ) (v : List ℕ) → v ≡ f (get_or bs p.spot [])
+    pub altered_value : (f : List ℕ → List ℕ) {v : List ℕ} → v ≡ f (get_or bs p.spot [])
         → value_of (record { limit = most; room = room }) ps (set bs p.spot v) ≡ record t { blocks = altered f c t.blocks }
-    altered_value f v now =
+    altered_value f {v} now =
         put_value v
         ∙ ap (λ (w : List ℕ). record t { blocks = put nat_cmp c w t.blocks }) now
         ∙ ap (λ o. record t { blocks = altered_as o f c t.blocks }) (sym found_at)
@@ -420,25 +415,25 @@ module _ (ps : List Place) (bs : List (List ℕ)) (spare : List ℕ) (most room 
     pub tight_at : IsCode c → (v : List ℕ) → (IsPointers (entry_at c) → HasPointer v) → IsTight (blocks_in (entries_in ps bs))
         → IsTight (blocks_in (entries_in ps (set bs p.spot v)))
     tight_at formed v leads tight = subst (λ (es : Blocks). IsTight (blocks_in es))
-        (sym (written_is ps bs spare most room caps h i p inside is c here v)) (tight_put (entries_in ps bs) c v formed leads tight)
+        (sym (written_is h i inside is here v)) (tight_put (entries_in ps bs) v formed leads tight)
 
     pub tight_left : IsCode c → IsTight (blocks_in (entries_in ps bs)) → IsTight (blocks_in (entries_in (remove ps i) bs))
     tight_left formed tight = subst (λ (es : Blocks). IsTight (blocks_in es))
-        (sym (removed_is ps bs spare most room caps h i p inside is c here)) (tight_without (entries_in ps bs) c formed tight)
+        (sym (removed_is h i inside is here)) (tight_without (entries_in ps bs) c formed tight)
 
     pub held_left : (spare' : List ℕ) → spare' ≡ spare ++ p.spot ∷ [] → IsTableOf (remove ps i) bs spare' most room caps
-    held_left = held_removed ps bs spare most room caps h i p inside is c here
+    held_left = held_removed h i inside is here
 
     pub removed_value : value_of (record { limit = most; room = room }) (remove ps i) bs ≡ record t { blocks = without nat_cmp c t.blocks }
     removed_value =
         subst (λ (u : TableValue). value_of (record { limit = most; room = room }) (remove ps i) bs
         ≡ record u { blocks = without nat_cmp c u.blocks }) view
         (λ k. record {
-          blocks = removed_is ps bs spare most room caps h i p inside is c here k;
+          blocks = removed_is h i inside is here k;
           capacity = record { limit = most; room = room };
         })
 
-  module _ (c i : ℕ) (gap : IsGapFor t.blocks c i) where
+  module _ {c i : ℕ} (gap : IsGapFor t.blocks c i) where
     gap_here : IsGapFor (entries_in ps bs) c i
     gap_here = subst (λ (u : TableValue). IsGapFor u.blocks c i) (sym view) gap
 
@@ -449,7 +444,7 @@ module _ (ps : List Place) (bs : List (List ℕ)) (spare : List ℕ) (most room 
       place_left : length ps < most
       place_left =
           let r : length (entries_in ps bs) < most =
-          subst (λ (u : TableValue). length u.blocks < u.capacity.limit) (sym view) (left (find_gap t.blocks c i gap)) in
+          subst (λ (u : TableValue). length u.blocks < u.capacity.limit) (sym view) (left (find_gap gap)) in
           let l = length-entries ps bs in
           omega arith
 
@@ -469,26 +464,23 @@ module _ (ps : List Place) (bs : List (List ℕ)) (spare : List ℕ) (most room 
       held_put left = ⊎_elim
           (λ (old : (spare ≡ spare' ++ p.spot ∷ []) × (bs' ≡ set bs p.spot v)).
           subst (λ (b : List (List ℕ)). IsTableOf (insert ps i p) b spare' most room caps) (sym old.1)
-          (held_inserted ps bs spare most room caps h spare' p old.0 i gap_key v (place_left left)))
+          (held_inserted h spare' p old.0 i gap_key v (place_left left)))
           (λ (new : (spare ≡ []) × (spare' ≡ []) × (p.spot ≡ length bs) × (bs' ≡ bs ++ v ∷ [])).
           subst (λ (b : List (List ℕ)). IsTableOf (insert ps i p) b spare' most room caps) (sym new.3)
           (subst (λ (x : List ℕ). IsTableOf (insert ps i p) (bs ++ v ∷ []) x most room caps) (sym new.1)
-          (held_added ps bs spare most room caps h new.0 p new.2 v i gap_key (place_left left))))
-          stores
+          (held_added h new.0 p new.2 v i gap_key (place_left left)))) stores
 
       stored_is : entries_in (insert ps i p) bs' ≡ put nat_cmp p.key.code v (entries_in ps bs)
       stored_is = ⊎_elim
           (λ (old : (spare ≡ spare' ++ p.spot ∷ []) × (bs' ≡ set bs p.spot v)).
-          ap (entries_in (insert ps i p)) old.1 ∙ inserted_is ps bs spare most room caps h spare' p old.0 i gap_key v)
+          ap (entries_in (insert ps i p)) old.1 ∙ inserted_is h spare' p old.0 i gap_key v)
           (λ (new : (spare ≡ []) × (spare' ≡ []) × (p.spot ≡ length bs) × (bs' ≡ bs ++ v ∷ [])).
-          ap (entries_in (insert ps i p)) new.3 ∙ added_is ps bs spare most room caps h new.0 p new.2 v i gap_key)
-          stores
+          ap (entries_in (insert ps i p)) new.3 ∙ added_is h new.0 p new.2 v i gap_key) stores
 
       pub tight_more : (IsPointers (entry_at c) → HasPointer v) → IsTight (blocks_in (entries_in ps bs))
           → IsTight (blocks_in (entries_in (insert ps i p) bs'))
       tight_more leads tight =
-          subst (λ (es : Blocks). IsTight (blocks_in es)) (sym stored_is)
-          (tight_put (entries_in ps bs) p.key.code v p.key.formed
+          subst (λ (es : Blocks). IsTight (blocks_in es)) (sym stored_is) (tight_put (entries_in ps bs) v p.key.formed
           (subst (λ (n : ℕ). IsPointers (entry_at n) → HasPointer v) (sym key) leads) tight)
 
       pub inserted_value : value_of (record { limit = most; room = room }) (insert ps i p) bs'

@@ -11,14 +11,14 @@ use Rattle.lfs_inodes.specs.Blocks.{TableValue, blocks_of, number_at}
 use Rattle.lfs_inodes.proofs.Blocks.{find_none}
 use Rattle.lfs_inodes.proofs.Codes.{entry_code}
 
-file_by : (r f i : ℕ) → file_of (entry_by (kind_by r) f i) ≡ Some f
-file_by zero f i = refl
-file_by (suc zero) f i = refl
-file_by (suc (suc zero)) f i = refl
-file_by (suc (suc (suc r))) f i = refl
+file_by : (r : ℕ) {f : ℕ} (i : ℕ) → file_of (entry_by (kind_by r) f i) ≡ Some f
+file_by zero i = refl
+file_by (suc zero) i = refl
+file_by (suc (suc zero)) i = refl
+file_by (suc (suc (suc r))) i = refl
 
 pub file_at : (c : ℕ) → file_of (entry_at c) ≡ Some (c / 32768 % 4096)
-file_at c = file_by (c / 134217728) (c / 32768 % 4096) (c % 32768)
+file_at c = file_by (c / 134217728) (c % 32768)
 
 pub file_named : (c n : ℕ) → c / 32768 % 4096 ≡ n → file_of (entry_at c) ≡ Some n
 file_named c n is = file_at c ∙ ap Some is
@@ -35,14 +35,14 @@ pub record LeavesFrom (old new : TableValue) (goes stays : Entry → Type 0) (at
   pub few : length new.blocks ≤ length old.blocks
   pub capacity : new.capacity ≡ old.capacity
 
-module _ (goes stays : Entry → Type 0) where
+module _ {goes stays : Entry → Type 0} where
   -- it goes
-  pub leaves_out : ((x : Entry) → goes x → stays x → ⊥) → (old mid new : TableValue) (at a : ℕ) → suc a ≡ at
+  pub leaves_out : ((x : Entry) → goes x → stays x → ⊥) → {old mid new : TableValue} {at a : ℕ} → suc a ≡ at
       → LeavesFrom old mid goes stays at → goes (entry_at (number_at mid.blocks a))
       → new ≡ record mid { blocks = remove mid.blocks a }
       → ChangesTo (blocks_of mid) (blocks_of new) (entry_at (number_at mid.blocks a)) None
       → ((j : ℕ) → j < length new.blocks → IsCode (number_at new.blocks j)) → LeavesFrom old new goes stays a
-  leaves_out apart old mid new at a next was on is change codes = record {
+  leaves_out apart {mid} {new} {a} next was on is change codes = record {
     kept = λ x st. change.others x (λ here. apart x (subst goes (sym here) on) st) ∙ was.kept x st;
     away = λ j le lt now.
         was.away (j + 1) (omega (arith, le, next)) (omega (arith, lt, less)) (subst (λ (n : ℕ). goes (entry_at n)) (above j le) now);
@@ -64,9 +64,9 @@ module _ (goes stays : Entry → Type 0) where
           ∙ ap (λ (e : ℕ × List ℕ). e.0) (get_or-remove_above mid.blocks a (0, []) j le inside)
 
   -- at the first place none is left
-  pub leaves_ends : (old new : TableValue) (at : ℕ) → at ≤ 0 → LeavesFrom old new goes stays at → (x : Entry) → goes x
+  pub leaves_ends : {old new : TableValue} {at : ℕ} → at ≤ 0 → LeavesFrom old new goes stays at → (x : Entry) → goes x
       → blocks_of new x ≡ None
-  leaves_ends old new at first was x on = find_none new.blocks (code x) (λ j lt same.
+  leaves_ends {new} first was x on = find_none new.blocks (code x) (λ j lt same.
       let is = was.codes j lt in
       let small = is.small in
       let named : entry_at (code x) ≡ x = entry_code x (omega (arith, small, same)) in

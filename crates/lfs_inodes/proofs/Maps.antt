@@ -24,7 +24,7 @@ unfolding word
 word_of_pointers ns i fits low = sym (get_or-run read32 4 128 0 (pointer_sector ns) i 0 low
     ∙ ap (λ (k : ℕ). read32 k (pointer_sector ns)) (omega arith)) ∙ ap (λ (xs : List ℕ). get_or xs i 0) (pointers_back ns fits)
 
-module _ (v : MapValue) (j : ℕ) (ns : List ℕ) (fits : FitsPointers ns)
+module _ {v : MapValue} {j : ℕ} {ns : List ℕ} (fits : FitsPointers ns)
     (each : (i : ℕ) → i < 128 → get_or ns i 0 ≡ shown_in v (128 * j + i)) where
   pub spells_shown : (i : ℕ) × (i < 128) × (0 < get_or ns i 0) → SpellsShown v j (pointer_sector ns)
   spells_shown some = record {
@@ -33,8 +33,8 @@ module _ (v : MapValue) (j : ℕ) (ns : List ℕ) (fits : FitsPointers ns)
     some = (some.0, some.1, (let is = word_of_pointers ns some.0 fits some.1 in let s = some.2 in omega arith));
   }
 
-  pub spelled_shown : (bytes : List ℕ) → bytes ≡ pointer_sector ns → (i : ℕ) × (i < 128) × (0 < get_or ns i 0) → SpellsShown v j bytes
-  spelled_shown bytes is some = rw is (spells_shown some)
+  pub spelled_shown : {bytes : List ℕ} → bytes ≡ pointer_sector ns → (i : ℕ) × (i < 128) × (0 < get_or ns i 0) → SpellsShown v j bytes
+  spelled_shown is some = rw is (spells_shown some)
 
 -- words are numbers of 32 bits
 pub are32_of : (ns : List ℕ) → ((i : ℕ) → Fits w32 (slice_index_or ns i 0)) → (i : ℕ) → get_or ns i 0 < 2 ^ 32
@@ -47,13 +47,13 @@ shown_one : (b : Bool) (a : ℕ) → cond b 0 a ≡ cond (not b) a 0
 shown_one true a = refl
 shown_one false a = refl
 
-module _ (v : MapValue) (m : LogMap) (t : Tables) (is : IsMapOf v m t) where
+module _ {v : MapValue} (m : LogMap) (t : Tables) (is : IsMapOf v m t) where
   pub shown_is : (n : ℕ) → n < 4096 → shown m t.at (Inode n) ≡ shown_in v n
   shown_is n few = ap (λ (b : Bool). cond (not b) (t.at (Inode n)) 0) (is.hidden n few)
       ∙ ap (λ (a : ℕ). cond (not (is_hidden_in v n)) a 0) (is.inodes n few) ∙ sym (shown_one (is_hidden_in v n) (address_in v n))
 
-  pub spells_map : (j : ℕ) (bytes : List ℕ) → j < 32 → SpellsShown v j bytes → AreSettled m t j → SpellsMap m t j bytes
-  spells_map j bytes low s settled = record {
+  pub spells_map : {j : ℕ} {bytes : List ℕ} → j < 32 → SpellsShown v j bytes → AreSettled m t j → SpellsMap m t j bytes
+  spells_map {j} low s settled = record {
     settled = settled;
     long = s.long;
     spells = λ i lt. s.spells i lt ∙ sym (shown_is (128 * j + i) (omega arith));
@@ -65,9 +65,9 @@ all_default zero k x = refl
 all_default (suc n) zero x = refl
 all_default (suc n) (suc k) x = all_default n k x
 
-pub empty_map : (n : ℕ) (xs : List ℕ) (hs : List Bool) → xs ≡ replicate n 0 → hs ≡ replicate n false
+pub empty_map : (n : ℕ) {xs : List ℕ} {hs : List Bool} → xs ≡ replicate n 0 → hs ≡ replicate n false
     → IsEmptyMap record { addresses = xs; hidden = hs; blocks = replicate 32 0 }
-empty_map n xs hs a h = record {
+empty_map n {xs} a h = record {
   addresses = λ k. ap (λ (ys : List ℕ). get_or ys k 0) a ∙ all_default n k 0;
   hidden = λ k. ap (λ (xs : List Bool). get_or xs k false) h ∙ all_default n k false;
   blocks = λ k. all_default 32 k 0;

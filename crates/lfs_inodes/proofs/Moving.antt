@@ -33,8 +33,8 @@ not_below es sorted c v is =
 abbrev pub AreSmall : Blocks → Type 0
 AreSmall es = (j : ℕ) → j < length es → number_at es j < 4294967296
 
-pub named : (es : Blocks) → AreSmall es → (c : ℕ) (v : List ℕ) → find nat_cmp c es ≡ Some v → c < 4294967296
-named es small c v is =
+pub named : (es : Blocks) → AreSmall es → (c : ℕ) {v : List ℕ} → find nat_cmp c es ≡ Some v → c < 4294967296
+named es small c is =
     ⊎_elim
     (λ (lt : c < 4294967296). lt)
     (λ (le : 4294967296 ≤ c).
@@ -43,13 +43,13 @@ named es small c v is =
     (cases_lt c 4294967296)
 
 pub are_of_files : (es : Blocks) → AreSmall es → (x : Entry) (v : List ℕ) → blocks_in es x ≡ Some v → IsOfFile x
-are_of_files es small x v is = subst IsOfFile (entry_code x (named es small (code x) v is)) (of_file (code x))
+are_of_files es small x v is = subst IsOfFile (entry_code x (named es small (code x) is)) (of_file (code x))
 
 module _ (es : Blocks) (sorted : T (is_sorted nat_cmp es)) (small : AreSmall es) (c : ℕ) (k : IsCode c) (at : HasNumberAt es c 0) where
   none_below : (y : Entry) (v : List ℕ) → parent y ≡ entry_at c → blocks_in es y ≡ Some v → (y ≡ entry_at c → ⊥) → ⊥
   none_below y v above there ne =
       let least = not_below es sorted (code y) v there in
-      let b = code_below y (λ own. ne (sym own ∙ above)) (named es small (code y) v there) in
+      let b = code_below y (λ own. ne (sym own ∙ above)) (named es small (code y) there) in
       let up : code (parent y) ≡ c = ap code above ∙ code_entry c k in
       let n = at.number in
       omega arith
@@ -57,18 +57,18 @@ module _ (es : Blocks) (sorted : T (is_sorted nat_cmp es)) (small : AreSmall es)
   pub first_is_lowest : IsLowest (blocks_in es) (entry_at c)
   first_is_lowest = record {
     bytes = (get_or es 0 (0, [])).1;
-    there = entry_found es c k ∙ find_at es sorted c 0 at;
+    there = entry_found es k ∙ find_at sorted c 0 at;
     lowest = λ y v above there. ⊎_elim (λ (same : y ≡ entry_at c). same)
         (λ (ne : y ≡ entry_at c → ⊥). absurd (none_below y v above there ne)) (same_entry y (entry_at c));
   }
 
 -- ---- what leaves was there
-pub differ : (c d : ℕ) → IsCode c → IsCode d → c < d → entry_at c ≡ entry_at d → ⊥
-differ c d is at lt same = let e = sym (code_entry c is) ∙ ap code same ∙ code_entry d at in omega arith
+pub differ : {c d : ℕ} → IsCode c → IsCode d → c < d → entry_at c ≡ entry_at d → ⊥
+differ {c} {d} is at lt same = let e = sym (code_entry c is) ∙ ap code same ∙ code_entry d at in omega arith
 
-pub one_less : (mid new : Blocks) (c n : ℕ) (v : List ℕ) → find nat_cmp c mid ≡ Some v
+pub one_less : (mid new : Blocks) (c : ℕ) {n : ℕ} {v : List ℕ} → find nat_cmp c mid ≡ Some v
     → cond (is_some (find nat_cmp c mid)) 1 0 + length new ≡ length mid → length mid ≡ n → length new + 1 ≡ n
-one_less mid new c n v found count same =
+one_less mid new c found count same =
     let flip : length new + 1 ≡ 1 + length new = omega arith in
     let one : length new + 1 ≡ length mid = flip ∙ ap (λ (o : Option (List ℕ)). cond (is_some o) 1 0 + length new) (sym found) ∙ count in
     one ∙ same
@@ -84,35 +84,35 @@ pub record IsSameAt (now mid : TableValue) (c : ℕ) : Type 0 where
   pub count : length mid.blocks ≡ length now.blocks
   pub room : mid.capacity ≡ now.capacity
 
-pub same_self : (now mid : TableValue) (c : ℕ) → mid ≡ now → IsSameAt now mid c
-same_self now mid c same = record {
+pub same_self : {now mid : TableValue} (c : ℕ) → mid ≡ now → IsSameAt now mid c
+same_self c same = record {
   found = ap (λ (t : TableValue). find nat_cmp c t.blocks) same;
   count = ap (λ (t : TableValue). length t.blocks) same;
   room = ap (λ (t : TableValue). t.capacity) same;
 }
 
-pub same_patched : (now mid new : TableValue) (c d : ℕ) (o : Option (List ℕ)) → IsCode c → IsCode d → c < d → mid ≡ new
+pub same_patched : (now : TableValue) {mid new : TableValue} {c d : ℕ} {o : Option (List ℕ)} → IsCode c → IsCode d → c < d → mid ≡ new
     → length new.blocks ≡ length now.blocks → new.capacity ≡ now.capacity
     → ChangesTo (blocks_of now) (blocks_of new) (entry_at d) o → IsSameAt now mid c
-same_patched now mid new c d o is at lt same count room changes = record {
+same_patched now {new} {c} {d} is at lt same count room changes = record {
   found =
       ap (λ (t : TableValue). find nat_cmp c t.blocks) same
-      ∙ sym (entry_found new.blocks c is) ∙ changes.others (entry_at c) (differ c d is at lt) ∙ entry_found now.blocks c is;
+      ∙ sym (entry_found new.blocks is) ∙ changes.others (entry_at c) (differ is at lt) ∙ entry_found now.blocks is;
   count = ap (λ (t : TableValue). length t.blocks) same ∙ count;
   room = ap (λ (t : TableValue). t.capacity) same ∙ room;
 }
 
-pub still_room : (now mid : TableValue) (c : ℕ) → IsSameAt now mid c → (find nat_cmp c now.blocks ≡ None
+pub still_room : {now mid : TableValue} {c : ℕ} → IsSameAt now mid c → (find nat_cmp c now.blocks ≡ None
     → length now.blocks < now.capacity.limit) → find nat_cmp c mid.blocks ≡ None → length mid.blocks < mid.capacity.limit
-still_room now mid c same room none =
+still_room same room none =
     let r = room (sym same.found ∙ none) in
     let n = same.count in
     let m = ap (λ (k : Capacity). k.limit) same.room in
     omega arith
 
-pub still_counts : (now mid : TableValue) (c n : ℕ) → IsSameAt now mid c
+pub still_counts : {now mid : TableValue} {c : ℕ} (n : ℕ) → IsSameAt now mid c
     → n ≡ cond (is_some (find nat_cmp c mid.blocks)) (length mid.blocks) (length mid.blocks + 1)
     → n ≡ cond (is_some (find nat_cmp c now.blocks)) (length now.blocks) (length now.blocks + 1)
-still_counts now mid c n same is =
+still_counts {now} {mid} {c} n same is =
     is ∙ ap (λ (o : Option (List ℕ)). cond (is_some o) (length mid.blocks) (length mid.blocks + 1)) same.found
     ∙ ap (λ (k : ℕ). cond (is_some (find nat_cmp c now.blocks)) k (k + 1)) same.count

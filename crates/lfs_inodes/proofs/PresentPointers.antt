@@ -13,8 +13,8 @@ use Rattle.lfs_model.proofs.Entries.{data_parent_high}
 use Rattle.lfs_inodes.specs.Present.{present, leaf_now, data_now, PresentIsLaid}
 use Rattle.lfs_inodes.proofs.Places.{word_none}
 
-in_memory : (content : Content) (dirty : Dirty) (x : Entry) (a : ℕ) → a ≡ 1 → present content dirty x a ≡ bytes_of (dirty x)
-in_memory content dirty x a e = cond-true _ _ _ (is_one a e)
+in_memory : (content : Content) (dirty : Dirty) (x : Entry) {a : ℕ} → a ≡ 1 → present content dirty x a ≡ bytes_of (dirty x)
+in_memory content dirty x {a} e = cond-true _ _ _ (is_one a e)
   where
     is_one : (a : ℕ) → a ≡ 1 → (a == 1) ≡ true
     is_one a e = grind (arith, nat_tests)
@@ -25,7 +25,7 @@ on_device content dirty x a ne = cond-false _ _ _ (not_one a ne)
     not_one : (a : ℕ) → (a ≡ 1 → ⊥) → (a == 1) ≡ false
     not_one a ne = grind (arith, nat_tests)
 
-module _ (content : Content) (m : LogMap) (M : Memory) (o : ℕ) (dirty : Dirty) (laid : IsLaid content m M o)
+module _ {content : Content} {m : LogMap} (M : Memory) {o : ℕ} {dirty : Dirty} (laid : IsLaid content m M o)
     (cached : IsCached dirty M) where
   -- the block of an entry of a file is what memory has
   pub present_is : (x : Entry) → IsOfFile x → 0 < M.at x → present content dirty x (M.at x) ≡ M.bytes x
@@ -33,7 +33,7 @@ module _ (content : Content) (m : LogMap) (M : Memory) (o : ℕ) (dirty : Dirty)
       ⊎_elim
       (λ (one : M.at x ≡ 1).
       let f = cached.found x file one in
-      in_memory content dirty x (M.at x) one ∙ ap bytes_of f.1 ∙ sym (cached.cached x f.0 f.1).2)
+      in_memory content dirty x one ∙ ap bytes_of f.1 ∙ sym (cached.cached x f.0 f.1).2)
       (λ (ne : M.at x ≡ 1 → ⊥). on_device content dirty x (M.at x) ne ∙ laid.there x (omega arith))
       (cases_eq (M.at x) 1)
 
@@ -93,4 +93,4 @@ module _ (content : Content) (m : LogMap) (M : Memory) (o : ℕ) (dirty : Dirty)
         (cases_lt i 112)
 
 pub present_is_laid : PresentIsLaid
-present_is_laid content m M o dirty laid cached n i some low = data_is content m M o dirty laid cached n some i low
+present_is_laid content m M o dirty laid cached n i some low = data_is M laid cached n some i low

@@ -96,18 +96,18 @@ module _ {X : Type 0} (xs : List X) where
 abbrev pub index_of : ℕ → List Place → IndexValue
 index_of n xs = record { items = reverse xs; capacity = n }
 
-pub inserted : (n : ℕ) (xs : List Place) (v : IndexValue) → index_of n xs ≡ v → (i : ℕ) (p : Place) → i ≤ length v.items
+pub inserted : (n : ℕ) (xs : List Place) {v : IndexValue} → index_of n xs ≡ v → (i : ℕ) (p : Place) → i ≤ length v.items
     → (m : ℕ) → m ≡ length xs → (ys : List Place) → ys ≡ insert xs (m - i) p → reverse ys ≡ insert v.items i p
-inserted n xs v view i p le m all ys is =
+inserted n xs view i p le m all ys is =
     subst (λ (u : IndexValue). i ≤ length u.items → reverse ys ≡ insert u.items i p) view
     (λ few.
     let l = length-reverse xs in
     ap reverse (is ∙ ap (λ (k : ℕ). insert xs (k - i) p) all) ∙ reverse-insert xs i p (omega (arith, l, few)))
     le
 
-pub removed : (n : ℕ) (xs : List Place) (v : IndexValue) → index_of n xs ≡ v → (i : ℕ) → i < length v.items → (d : Place)
-    → (m : ℕ) → m ≡ length xs → (ys : List Place) → ys ≡ remove xs (m - 1 - i) → reverse ys ≡ remove v.items i
-removed n xs v view i lt d m all ys is =
+pub removed : (n : ℕ) (xs : List Place) {v : IndexValue} → index_of n xs ≡ v → (i : ℕ) → i < length v.items → (d : Place)
+    → (m : ℕ) → m ≡ length xs → {ys : List Place} → ys ≡ remove xs (m - 1 - i) → reverse ys ≡ remove v.items i
+removed n xs view i lt d m all {ys} is =
     subst (λ (u : IndexValue). i < length u.items → reverse ys ≡ remove u.items i) view
     (λ few.
     let l = length-reverse xs in

@@ -78,9 +78,9 @@ IsSearched v k r = record {
   missing : AreRising v.items → IfErr r (λ at. IsGapIn v.items k (length v.items - at));
 }
 
-pub searched_in : (n : ℕ) (xs : List Place) (v : IndexValue) → index_of n xs ≡ v → (ys : List Place) → ys ≡ xs → (m k : ℕ) → m ≡ k
+pub searched_in : (n : ℕ) {xs : List Place} {v : IndexValue} → index_of n xs ≡ v → {ys : List Place} → ys ≡ xs → {m k : ℕ} → m ≡ k
     → (r : Result ℕ ℕ) → IsSearchInRange r (length ys) → IsBinarySearchResult (λ (p : Place). nat_cmp m p.key.code) ys r → IsSearched v k r
-searched_in n xs v view ys same m k is r within answer =
+searched_in n view {ys} same {m} {k} is r within answer =
     subst (λ (u : IndexValue). IsSearched u k r) (ap (index_of n) same ∙ view)
     (subst (λ (l : ℕ). IsSearched (index_of n ys) l r) is (searched ys m r within answer))
 
@@ -117,8 +117,8 @@ number_found ps bs c i h =
     let w = h.within in
     record { within = omega (arith, l, w); number = number_of_place ps bs i some_place w ∙ h.number some_place }
 
-gap_found : (ps : List Place) (bs : List (List ℕ)) (c i : ℕ) → IsGapIn ps c i → IsGapFor (entries_in ps bs) c i
-gap_found ps bs c i h =
+gap_found : (ps : List Place) (bs : List (List ℕ)) (c : ℕ) {i : ℕ} → IsGapIn ps c i → IsGapFor (entries_in ps bs) c i
+gap_found ps bs c h =
     let l = length-entries ps bs in
     let w = h.within in
     record {
@@ -133,11 +133,11 @@ gap_found ps bs c i h =
           omega (arith, e, a);
     }
 
-module _ (most : Capacity) (ps : List Place) (bs : List (List ℕ)) (t : TableValue) (view : value_of most ps bs ≡ t) (c : ℕ) where
+module _ (most : Capacity) (ps : List Place) (bs : List (List ℕ)) {t : TableValue} (view : value_of most ps bs ≡ t) (c : ℕ) where
   pub found_in : (r : Result ℕ ℕ) → IfOk r (HasKeyAt ps c) → IfOk r (HasNumberAt t.blocks c)
   found_in (Ok at) h = subst (λ (u : TableValue). HasNumberAt u.blocks c at) view (number_found ps bs c at h)
   found_in (Err at) h = tt
 
   pub missing_in : (r : Result ℕ ℕ) → IfErr r (IsGapIn ps c) → IfErr r (IsGapFor t.blocks c)
   missing_in (Ok at) h = tt
-  missing_in (Err at) h = subst (λ (u : TableValue). IsGapFor u.blocks c at) view (gap_found ps bs c at h)
+  missing_in (Err at) h = subst (λ (u : TableValue). IsGapFor u.blocks c at) view (gap_found ps bs c h)

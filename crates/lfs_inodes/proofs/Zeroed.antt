@@ -69,18 +69,18 @@ module _ (first : ℕ) (x : Entry) where
   none_zeroed None = refl
   none_zeroed (Some b) = ap Some (sym (zeroed_none first b))
 
-  pub zeroes_first : (old : Dirty) → ChangesTo old old x (option_map (zeroed first 0) (old x))
-  zeroes_first old = record { own = none_zeroed (old x); others = λ y ne. refl }
+  pub zeroes_first : {old : Dirty} → ChangesTo old old x (option_map (zeroed first 0) (old x))
+  zeroes_first {old} = record { own = none_zeroed (old x); others = λ y ne. refl }
 
   one_zeroed : (n : ℕ) (o : Option (List ℕ))
       → option_map (patched (first + n) 0) (option_map (zeroed first n) o) ≡ option_map (zeroed first (n + 1)) o
   one_zeroed n None = refl
   one_zeroed n (Some b) = let e : suc n ≡ n + 1 = omega arith in ap Some (sym (zeroed_next first n b) ∙ ap (λ (n : ℕ). zeroed first n b) e)
 
-  pub zeroes_next : (old mid new : Dirty) (n : ℕ) → ChangesTo old mid x (option_map (zeroed first n) (old x))
+  pub zeroes_next : {old mid new : Dirty} (n : ℕ) → ChangesTo old mid x (option_map (zeroed first n) (old x))
       → ChangesTo mid new x (option_map (patched (first + n) 0) (mid x))
       → ChangesTo old new x (option_map (zeroed first (n + 1)) (old x))
-  zeroes_next old mid new n was now = record {
+  zeroes_next {old} n was now = record {
     own = now.own ∙ ap (option_map (patched (first + n) 0)) was.own ∙ one_zeroed n (old x);
     others = λ y ne. now.others y ne ∙ was.others y ne;
   }

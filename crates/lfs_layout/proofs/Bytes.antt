@@ -27,8 +27,7 @@ module _ (at n : ℕ) (s : List ℕ) (room : at + n ≤ length s) where
       let long = length-part at n s room in
       let is : k ≡ at + (k - at) = omega (arith, low) in
       ap (λ (j : ℕ). get_or s j 0) is
-      ∙ sym (get_or-part at n s (k - at) (omega (arith, low, high)))
-      ∙ each_of_zeros (part at n s) n e (k - at) (omega (arith, long, low, high))
+      ∙ sym (get_or-part at n s (k - at) (omega (arith, low, high))) ∙ each_of_zeros n e (k - at) (omega (arith, long, low, high))
 
   pub zero_part : ((k : ℕ) → at ≤ k → k < at + n → get_or s k 0 ≡ 0) → part at n s ≡ zeros n
   zero_part each =
@@ -54,14 +53,15 @@ little_at n at s =
     ∙ ap number_of (take_all n (take n (drop at s)) (omega (arith, length-take n (drop at s))))
 
 -- the numbers that were read from src are spelled by it
-pub words_of_read : (src dst : List ℕ) → length src ≡ 4 * length dst → IsBytes src → IsRead little_number 4 src dst → words dst ≡ src
+pub words_of_read : {src : List ℕ} (dst : List ℕ) → length src ≡ 4 * length dst → IsBytes src → IsRead little_number 4 src dst
+    → words dst ≡ src
 unfolding words
-words_of_read src [] long fits read = sym (nil_from_length src long)
-words_of_read src (d ∷ ds) long fits read =
+words_of_read {src} [] long fits read = sym (nil_from_length src long)
+words_of_read {src} (d ∷ ds) long fits read =
     let first : d ≡ number_of (take 4 src) = read 0 (omega arith) ∙ little_is 4 src in
     let short : length (take 4 src) ≡ 4 = length-take-le 4 src (omega arith) in
     let front : le32 d ≡ take 4 src = ap le32 first ∙ le32_of_number (take 4 src) short (λ i. taken_fits 4 src fits i) in
-    let rest : words ds ≡ drop 4 src = words_of_read (drop 4 src) ds (omega (arith, length-drop 4 src))
+    let rest : words ds ≡ drop 4 src = words_of_read {src = drop 4 src} ds (omega (arith, length-drop 4 src))
     (λ i. rw (get_or-drop 4 src i 0) (fits (4 + i)))
     (λ k lt. read (suc k) (omega arith)
     ∙ ap (little_number 4) (ap (λ (m : ℕ). drop m src) (omega arith) ∙ sym (drop-drop (4 * k) 4 src))) in
@@ -73,8 +73,7 @@ words_at at n s ns long fits room many read =
     let e = part_cut at (4 * n) s in
     let there : IsRead little_number 4 (part at (4 * n) s) ns = λ k lt. read k lt
     ∙ ap (λ (b : List ℕ). little_number 4 (drop (4 * k) b)) e in
-    words_of_read (part at (4 * n) s) ns (length-part at (4 * n) s (omega arith) ∙ ap (λ (m : ℕ). 4 * m) (sym many))
-    (part_fits at (4 * n) s fits) there
+    words_of_read ns (length-part at (4 * n) s (omega arith) ∙ ap (λ (m : ℕ). 4 * m) (sym many)) (part_fits at (4 * n) s fits) there
 
 pub words_fit : (n at : ℕ) (s ns : List ℕ) → IsBytes s → IsRead little_number 4 (take n (drop at s)) ns → Are32 ns
 unfolding Are32
@@ -87,9 +86,9 @@ words_fit n at s ns fits read i = elim (cases_lt i (length ns)) [
 ]
 
 -- an array that is read at a place holds the numbers there
-pub numbers_read : (at n : ℕ) (s ns : List ℕ) → length s ≡ 512 → IsBytes s → at + 4 * n ≤ 512 → length ns ≡ n
+pub numbers_read : (at n : ℕ) (s : List ℕ) {ns : List ℕ} → length s ≡ 512 → IsBytes s → at + 4 * n ≤ 512 → length ns ≡ n
     → IsRead little_number 4 (take (at + 4 * n - at) (drop at s)) ns → ns ≡ numbers n at s
-numbers_read at n s ns long fits room many read =
+numbers_read at n s {ns} long fits room many read =
     words_inj ns (numbers n at s) (many ∙ sym (length-run read32 4 n at s)) (words_fit (at + 4 * n - at) at s ns fits read)
     (numbers_fit n at s fits (omega arith))
     (words_at at n s ns long fits room many read ∙ sym (words_of_numbers n at s fits (omega arith)))

@@ -18,7 +18,7 @@ record Splices (at n : ℕ) (field b new : List ℕ) : Type 0 where
   own : part at n new ≡ field
   others : (k m : ℕ) → k + m ≤ length b → (k + m ≤ at) ⊎ (at + n ≤ k) → part k m new ≡ part k m b
 
-module _ (at n : ℕ) (field b new : List ℕ) (size : length field ≡ n) (room : at + n ≤ length b)
+module _ (at n : ℕ) (field b : List ℕ) {new : List ℕ} (size : length field ≡ n) (room : at + n ≤ length b)
     (is : new ≡ take at b ++ field ++ drop (at + n) b) where
   front : length (take at b) ≡ at
   front = omega (arith, length-take at b)
@@ -80,19 +80,19 @@ module _ (at n : ℕ) (field b new : List ℕ) (size : length field ≡ n) (room
   splices = record { long = length_spliced; own = part_own; others = part_other }
 
 -- ---- the three fields of an entry, one after the other
-module _ (e : ℕ) (u : SegmentUse) (b with_used with_live new : List ℕ) (low : e < 64) (long : length b ≡ 512)
+module _ (e : ℕ) (u : SegmentUse) (b : List ℕ) {with_used with_live new : List ℕ} (low : e < 64) (long : length b ≡ 512)
     (used : with_used ≡ take (2 * (4 * e)) b ++ le16 u.used ++ drop (2 * (4 * e) + 2) b)
     (live : with_live ≡ take (2 * (4 * e + 1)) with_used ++ le16 u.live ++ drop (2 * (4 * e + 1) + 2) with_used)
     (age : new ≡ take (4 * (2 * e + 1)) with_live ++ le32 u.age ++ drop (4 * (2 * e + 1) + 4) with_live) where
   first : Splices (2 * (4 * e)) 2 (le16 u.used) b with_used
-  first = splices (2 * (4 * e)) 2 (le16 u.used) b with_used (length-le16 u.used) (omega arith) used
+  first = splices (2 * (4 * e)) 2 (le16 u.used) b (length-le16 u.used) (omega arith) used
 
   second : Splices (2 * (4 * e + 1)) 2 (le16 u.live) with_used with_live
-  second = let l = first.long in splices (2 * (4 * e + 1)) 2 (le16 u.live) with_used with_live (length-le16 u.live) (omega arith) live
+  second = let l = first.long in splices (2 * (4 * e + 1)) 2 (le16 u.live) with_used (length-le16 u.live) (omega arith) live
 
   third : Splices (4 * (2 * e + 1)) 4 (le32 u.age) with_live new
   third = let l = first.long in let m = second.long in
-      splices (4 * (2 * e + 1)) 4 (le32 u.age) with_live new (length-le32 u.age) (omega arith) age
+      splices (4 * (2 * e + 1)) 4 (le32 u.age) with_live (length-le32 u.age) (omega arith) age
 
   -- what stands before or past the entry is as it was
   part_away : (k m : ℕ) → k + m ≤ 512 → (k + m ≤ 8 * e) ⊎ (8 * e + 8 ≤ k) → part k m new ≡ part k m b

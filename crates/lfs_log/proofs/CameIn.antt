@@ -25,8 +25,8 @@ use Rattle.lfs_log.proofs.TableEntries.{one_came}
 pub on_way : (x : Entry) → IsOnWay x x
 on_way x = (0, refl)
 
-pub way_above : (x up y : Entry) → up ≡ parent x → IsOnWay up y → IsOnWay x y
-way_above x up y named is = (suc is.0, is.1 ∙ ap (climb is.0) named)
+pub way_above : (x : Entry) {up : Entry} (y : Entry) → up ≡ parent x → IsOnWay up y → IsOnWay x y
+way_above x y named is = (suc is.0, is.1 ∙ ap (climb is.0) named)
 
 pub one_way : (v v' : LogMemory) (x : Entry) → BringsOne v v' x → BringsWay v v' x
 one_way v v' x one y there = ⊎_elim (λ (was : IsInMemory v y). inl was) (λ (own : y ≡ x). inr (0, own)) (one y there)
@@ -34,19 +34,19 @@ one_way v v' x one y there = ⊎_elim (λ (was : IsInMemory v y). inl was) (λ (
 pub lacks_own : (v : LogMemory) (x : Entry) → (IsInMemory v x → ⊥) → LacksOnWay v x
 lacks_own v x out = (x, on_way x, out)
 
-pub lacks_above : (v : LogMemory) (x up : Entry) → up ≡ parent x → LacksOnWay v up → LacksOnWay v x
-lacks_above v x up named lacks = (lacks.0, way_above x up lacks.0 named lacks.1, lacks.2)
+pub lacks_above : (v : LogMemory) (x : Entry) {up : Entry} → up ≡ parent x → LacksOnWay v up → LacksOnWay v x
+lacks_above v x {up} named lacks = (lacks.0, way_above x lacks.0 named lacks.1, lacks.2)
 
-pub way_then : (v v' v'' : LogMemory) (x up : Entry) → up ≡ parent x → BringsWay v v' up → BringsOne v' v'' x → BringsWay v v'' x
-way_then v v' v'' x up named one two y there = ⊎_elim
+pub way_then : (v v' v'' : LogMemory) (x : Entry) {up : Entry} → up ≡ parent x → BringsWay v v' up → BringsOne v' v'' x → BringsWay v v'' x
+way_then v v' v'' x {up} named one two y there = ⊎_elim
     (λ (was : IsInMemory v' y).
-    ⊎_elim (λ (before : IsInMemory v y). inl before) (λ (way : IsOnWay up y). inr (way_above x up y named way)) (one y was))
+    ⊎_elim (λ (before : IsInMemory v y). inl before) (λ (way : IsOnWay up y). inr (way_above x y named way)) (one y was))
     (λ (own : y ≡ x). inr (0, own))
     (two y there)
 
-pub way_only : (v v' : LogMemory) (x up : Entry) → up ≡ parent x → BringsWay v v' up → BringsWay v v' x
-way_only v v' x up named one y there =
-    ⊎_elim (λ (was : IsInMemory v y). inl was) (λ (way : IsOnWay up y). inr (way_above x up y named way)) (one y there)
+pub way_only : (v v' : LogMemory) (x : Entry) {up : Entry} → up ≡ parent x → BringsWay v v' up → BringsWay v v' x
+way_only v v' x {up} named one y there =
+    ⊎_elim (λ (was : IsInMemory v y). inl was) (λ (way : IsOnWay up y). inr (way_above x y named way)) (one y there)
 
 -- a block of data has none below it
 no_data_above : (x y : Entry) → y ≡ parent x → IsDataBlock y → ⊥
@@ -168,11 +168,11 @@ still_out v v' x same none there =
     let bad : None ≡ Some there.0 = sym none ∙ sym (ap (λ (t : TableValue). blocks_of t x) same) ∙ there.1 in
     absurd (cc)
 
-pub brings_one : (v v' : LogMemory) (c : ℕ) → IsCode c → IsInOrder v.dirty → IsInOrder v'.dirty → blocks_of v.dirty (entry_at c) ≡ None
+pub brings_one : (v v' : LogMemory) {c : ℕ} → IsCode c → IsInOrder v.dirty → IsInOrder v'.dirty → blocks_of v.dirty (entry_at c) ≡ None
     → ((x : Entry) → IsInMemory v x → IsInMemory v' x) → IsInMemory v' (entry_at c)
     → length v'.dirty.blocks ≤ length v.dirty.blocks + 1 → BringsOne v v' (entry_at c)
-brings_one v v' c formed order order' none stay inside few =
-    one_came v.dirty v'.dirty c order order' formed stay inside (still_out v v (entry_at c) refl none) few
+brings_one v v' {c} formed order order' none stay inside few =
+    one_came c order order' formed stay inside (still_out v v (entry_at c) refl none) few
 
 -- ---- in one of some segments
 in_list : (vs : List ℕ) (i : ℕ) → i < length vs → IsIn vs (get_or vs i 0)

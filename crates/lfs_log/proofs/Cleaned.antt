@@ -31,7 +31,7 @@ use Rattle.lfs_log.specs.Cleaning.{AreCleanable, AreEmptied, Crowds, Empties, Ov
 use Rattle.lfs_log.specs.Relocating.{Relocates, VacatesAll}
 
 -- ---- nothing lives where no block stands
-module _ (a b : DeviceState) (v v' : LogMemory) (vs : List ℕ) (one : Relocates a b v v') (vacates : VacatesAll a b v v' vs (length vs))
+module _ {a b : DeviceState} {v v' : LogMemory} (vs : List ℕ) (one : Relocates a b v v') (vacates : VacatesAll a b v v' vs (length vs))
     (victims : AreCleanable v.usage vs) where
   emptied_there : (k : CheckpointValue) (m0 m : LogMap) → b.keeps_model → IsLoose a v k m0 m → AreEmptied v'.usage vs
   emptied_there k m0 m keeps is i lt =
@@ -51,22 +51,22 @@ module _ (a b : DeviceState) (v v' : LogMemory) (vs : List ℕ) (one : Relocates
   pub not_emptied : (AreEmptied v'.usage vs → ⊥) → FailsFromDevice a b v
   not_emptied never k m0 m keeps is = absurd (never (emptied_there k m0 m keeps is))
 
-pub empties : (a b : DeviceState) (v v' v'' : LogMemory) (vs : List ℕ) → Relocates a b v v' → AreEmptied v'.usage vs → Tightens v' v''
+pub empties : {a b : DeviceState} {v v' v'' : LogMemory} {vs : List ℕ} → Relocates a b v v' → AreEmptied v'.usage vs → Tightens v' v''
     → Empties a b v v'' vs
-empties a b v v' v'' vs one emptied go = record {
+empties {a} {b} {v} {v'} {v''} {vs} one emptied go = record {
   looks = one.looks;
   memory = go.stays.memory one.memory;
   segments = go.stays.segments ∙ one.segments;
   clean = go.stays.clean ∙ one.clean;
   chunk = ap (λ (c : Chunk). c.names) (go.stays.chunk ∙ one.chunk);
   emptied = subst (λ (u : UsageTable). AreEmptied u vs) (sym go.usage) emptied;
-  log = λ k m0 m keeps is. tightened_log b v' v'' k m0 m go (one.gathers.traces k m0 m keeps (loose a v k m0 m is)).0;
+  log = λ k m0 m keeps is. tightened_log k m go (one.gathers.traces k m0 m keeps (loose a v k m0 m is)).0;
 }
 
 -- a table by its parts
-table_by : (t : TableValue) (bs : Blocks) (limit : ℕ) → t.blocks ≡ bs → t.capacity.limit ≡ limit
+table_by : (t : TableValue) {bs : Blocks} (limit : ℕ) → t.blocks ≡ bs → t.capacity.limit ≡ limit
     → t ≡ record { blocks = bs; capacity = record { limit = limit; room = t.capacity.room } }
-table_by t bs limit blocks same =
+table_by t {bs} limit blocks same =
     ap (λ (b : Blocks). record t { blocks = b }) blocks ∙ ap (λ (n : ℕ). by_limit n) same
   where
     by_limit : ℕ → TableValue
@@ -77,9 +77,9 @@ abbrev pub beside : LogMemory → TableValue → Chunk → LogMemory
 beside v t c = record { map = v.map; usage = v.usage; dirty = t; chunk = c }
 
 -- with tables that are copies of its own
-pub by_tables : (P : LogMemory → Type 0) (v : LogMemory) (map : MapValue) (usage : UsageTable) (t : TableValue) (c : Chunk) → map ≡ v.map
+pub by_tables : (P : LogMemory → Type 0) (v : LogMemory) {map : MapValue} {usage : UsageTable} (t : TableValue) (c : Chunk) → map ≡ v.map
     → usage ≡ v.usage → P (record { map = map; usage = usage; dirty = t; chunk = c }) → P (beside v t c)
-by_tables P v map usage t c same_map same_usage is =
+by_tables P v {map} {usage} t c same_map same_usage is =
     subst (λ (u : UsageTable). P (record { map = v.map; usage = u; dirty = t; chunk = c })) same_usage
     (subst (λ (m : MapValue). P (record { map = m; usage = usage; dirty = t; chunk = c })) same_map is)
 
@@ -99,8 +99,8 @@ module _ (v : LogMemory) (t : TableValue) (c : Chunk) (same : t.blocks ≡ v.dir
       (subst (λ (o : Option (List Entry)). Running d (blocks_of v.dirty) (tables_of v) k m0 m (segment_in c) o) begun.1
       (subst (λ (s : ℕ). Running d (blocks_of v.dirty) (tables_of v) k m0 m s (chunk_in v.chunk)) begun.0 is))
 
-  pub log_beside : (d : DeviceState) (k : CheckpointValue) (m0 m : LogMap) → IsLog d v k m0 m → IsLog d (beside v t c) k m0 m
-  log_beside d k m0 m is = record {
+  pub log_beside : {d : DeviceState} (k : CheckpointValue) {m0 : LogMap} (m : LogMap) → IsLog d v k m0 m → IsLog d (beside v t c) k m0 m
+  log_beside {d} k {m0} m is = record {
     running = running_beside d k m0 m is.running;
     hidden = is.hidden;
     segments = is.segments;
@@ -111,28 +111,29 @@ module _ (v : LogMemory) (t : TableValue) (c : Chunk) (same : t.blocks ≡ v.dir
   loose_beside d k m0 m is =
       record { running = running_beside d k m0 m is.running; hidden = is.hidden; segments = is.segments }
 
-  pub empties_beside : (a b : DeviceState) (v' : LogMemory) (vs : List ℕ) → Empties a b (beside v t c) v' vs → Empties a b v v' vs
-  empties_beside a b v' vs one = record {
+  pub empties_beside : (a : DeviceState) {b : DeviceState} {v' : LogMemory} {vs : List ℕ} → Empties a b (beside v t c) v' vs
+      → Empties a b v v' vs
+  empties_beside a one = record {
     looks = one.looks;
     memory = one.memory;
     segments = one.segments;
     clean = one.clean;
     chunk = one.chunk ∙ closed ∙ sym ended;
     emptied = one.emptied;
-    log = λ k m0 m keeps is. one.log k m0 m keeps (log_beside a k m0 m is);
+    log = λ k m0 m keeps is. one.log k m0 m keeps (log_beside k m is);
   }
 
   pub fails_beside : (a b : DeviceState) → FailsFromDevice a b (beside v t c) → FailsFromDevice a b v
   fails_beside a b failed k m0 m keeps is = failed k m0 m keeps (loose_beside a k m0 m is)
 
-  pub overfills : (a b : DeviceState) (most : ℕ) (w : LogMemory) (vs : List ℕ) → t.capacity.limit ≡ most
+  pub overfills : (a b : DeviceState) {most : ℕ} {w : LogMemory} {vs : List ℕ} → t.capacity.limit ≡ most
       → Crowds a b (beside v t c) w vs → Overfills a b v vs most
-  overfills a b most w vs limit one = record {
+  overfills a b {most} {w} {vs} limit one = record {
     room = t.capacity.room;
     chunk = c;
     closed = closed;
     after = w;
-    crowds = subst (λ (t : TableValue). Crowds a b (beside v t c) w vs) (table_by t v.dirty.blocks most same limit) one;
+    crowds = subst (λ (t : TableValue). Crowds a b (beside v t c) w vs) (table_by t most same limit) one;
   }
 
 -- ---- how many were emptied
@@ -159,17 +160,17 @@ pub emptied_least : (t : UsageTable) (vs : List ℕ) → AreApart vs → ((i : �
     → AreEmptied t vs → length vs ≤ emptied_in t.segments
 unfolding emptied_in no_test
 emptied_least t vs apart low emptied =
-    let gained = count_gained vs no_test (λ s. is_emptied (get_or t.segments s no_segment)) (length t.segments) apart
+    let gained = count_gained vs {p = no_test} {q = λ s. is_emptied (get_or t.segments s no_segment)} (length t.segments) apart
     (in_each (λ s. s < length t.segments) vs low)
     (in_each (λ s. (no_test s ≡ false) × (is_emptied (get_or t.segments s no_segment) ≡ true)) vs
-    (λ i lt. (refl, passes t (get_or vs i 0) (emptied i lt))))
+    (λ i lt. (refl, passes t (emptied i lt))))
     (λ s lt on. let bad : false ≡ true = on in absurd (cc)) in
     let none = none_pass (length t.segments) in
     omega (arith, gained, none)
 
 -- what was emptied is clean once the checkpoint is acknowledged
-pub emptied_clean : (t t' : UsageTable) (s : ℕ) → Releases t t' → IsEmptied t s → used_of t' s ≡ 0
-emptied_clean t t' s go is =
+pub emptied_clean : {t t' : UsageTable} (s : ℕ) → Releases t t' → IsEmptied t s → used_of t' s ≡ 0
+emptied_clean {t} s go is =
     ap (λ (n : SegmentNumbers). n.used) (go.each s)
     ∙ cond-true (is_empty (get_or t.segments s no_segment)) 0 (used_of t s)
     (ap₂ (λ (a b : Bool). a && b) (eq-eqb _ 0 is.live) (eq-eqb _ 0 is.held))

@@ -18,12 +18,12 @@ use Rattle.lfs_memory.proofs.Rooms.{room_none, room_some}
 use Rattle.lfs_log.specs.Early.{GoesEarly, IsBegunFresh, IsFresh, WritesChunks, blocks_due}
 
 -- nothing begins behind a segment that has room for no more than a summary
-none_behind : (t : UsageTable) (s : ℕ) → t.last ≡ Some s → used_of t s ≡ 64 → room_behind t t.last ≡ 0
-none_behind t s last full = ap (room_behind t) last ∙ ap (λ (n : ℕ). cond {A = ℕ} (nat_lt n 63) 1 0) full
+none_behind : (t : UsageTable) {s : ℕ} → t.last ≡ Some s → used_of t s ≡ 64 → room_behind t t.last ≡ 0
+none_behind t last full = ap (room_behind t) last ∙ ap (λ (n : ℕ). cond {A = ℕ} (nat_lt n 63) 1 0) full
 
 -- and one may, where there is more
-some_behind : (t : UsageTable) (s : ℕ) → t.last ≡ Some s → used_of t s ≤ 62 → room_behind t t.last ≡ 0 → ⊥
-some_behind t s last room none =
+some_behind : (t : UsageTable) {s : ℕ} → t.last ≡ Some s → used_of t s ≤ 62 → room_behind t t.last ≡ 0 → ⊥
+some_behind t {s} last room none =
     let one = ap (room_behind t) last in
     let yes : cond {A = ℕ} (nat_lt (used_of t s) 63) 1 0 ≡ 1 = search (arith, room) in
     omega (arith, one, yes, none)
@@ -38,7 +38,7 @@ module _ (v v' : LogMemory) (name : BlockNameValue) (lives : Bool) (age place : 
   taken : length v.chunk.names ≡ 0 → TakesSegment v.usage p.middle v'.chunk.segment age
   taken none = ⊎_elim
       (λ (takes : TakesSegment v.usage p.middle v'.chunk.segment age). takes)
-      (λ (goes : GoesOn v.usage p.middle v'.chunk.segment age). absurd (some_behind v.usage v'.chunk.segment
+      (λ (goes : GoesOn v.usage p.middle v'.chunk.segment age). absurd (some_behind v.usage
       (sym (p.noted.last ∙ goes.last) ∙ p.opened.last) goes.room (fresh.closed (no_names v.chunk.names none))))
       (p.begun none)
 
@@ -51,7 +51,7 @@ module _ (v v' : LogMemory) (name : BlockNameValue) (lives : Bool) (age place : 
 
   early_middle : early_in p.middle.segments ≡ early_in v.usage.segments
   early_middle = ⊎_elim
-      (λ (none : length v.chunk.names ≡ 0). early_taken v.usage p.middle v'.chunk.segment age (taken none))
+      (λ (none : length v.chunk.names ≡ 0). early_taken (taken none))
       (λ (some : 0 < length v.chunk.names). ap (λ (t : UsageTable). early_in t.segments) (p.went_on some).0)
       (zero_or_more (length v.chunk.names))
 
@@ -69,26 +69,26 @@ module _ (v v' : LogMemory) (name : BlockNameValue) (lives : Bool) (age place : 
   placed_early =
       let inside = p.opened.inside in
       let size = p.noted.size in
-      let noted = early_noted p.middle v'.usage v'.chunk.segment lives (omega (arith, inside, size)) kept_middle p.noted in
+      let noted = early_noted lives (omega (arith, inside, size)) kept_middle p.noted in
       let same = early_middle in
       omega (arith, noted, same)
 
 -- A chunk that is full is sealed: behind it none begins.
-pub sealed_fresh : (v v' : LogMemory) → IsMemoryUpTo 63 v → 0 < length v.chunk.names → v.chunk.start + length v.chunk.names ≡ 63
+pub sealed_fresh : {v v' : LogMemory} → IsMemoryUpTo 63 v → 0 < length v.chunk.names → v.chunk.start + length v.chunk.names ≡ 63
     → v'.usage ≡ v.usage → v'.chunk.names ≡ [] → IsFresh v'
-sealed_fresh v v' memory some full same ended = record {
+sealed_fresh {v} {v'} memory some full same ended = record {
   closed = λ _. (
       let last = ap (λ (u : UsageTable). u.last) same ∙ (memory.opened some).last in
       let opened = (memory.opened some).used in
       let used : used_of v'.usage v.chunk.segment ≡ 64 = ap (λ (u : UsageTable). used_of u v.chunk.segment) same ∙ opened
       ∙ omega (arith, full) in
-      none_behind v'.usage v.chunk.segment last used);
+      none_behind v'.usage last used);
   begun = λ more. absurd (let none = ap length ended in omega (arith, more, none));
 }
 
 -- one that isn't goes on
-pub begun_fresh : (v : LogMemory) → IsBegunFresh v → IsFresh v
-begun_fresh v is = record {
+pub begun_fresh : {v : LogMemory} → IsBegunFresh v → IsFresh v
+begun_fresh is = record {
   closed = λ none. absurd (let some = is.0 in let zero = ap length none in omega (arith, some, zero));
   begun = λ _. is.1;
 }
@@ -101,10 +101,11 @@ begun_same v v' usage chunk is = (
 )
 
 -- A block went out, and perhaps the summary of its chunk.
-pub goes_early : (v v' v'' : LogMemory) → IsFresh v'' → length v'.dirty.blocks + 1 ≡ length v.dirty.blocks → v''.dirty ≡ v'.dirty
+pub goes_early : {v : LogMemory} (v' : LogMemory) {v'' : LogMemory} → IsFresh v'' → length v'.dirty.blocks + 1 ≡ length v.dirty.blocks
+    → v''.dirty ≡ v'.dirty
     → v''.usage ≡ v'.usage
     → early_in v'.usage.segments ≡ early_in v.usage.segments + 1 → GoesEarly v v'' 1
-goes_early v v' v'' fresh fewer dirty usage early =
+goes_early v' fresh fewer dirty usage early =
     let blocks = ap (λ (t : TableValue). length t.blocks) dirty in
     let same = ap (λ (u : UsageTable). early_in u.segments) usage in
     record {
@@ -114,8 +115,8 @@ goes_early v v' v'' fresh fewer dirty usage early =
     }
 
 -- one after the other
-pub early_then : (a b c : LogMemory) (n l : ℕ) → GoesEarly a b n → GoesEarly b c l → GoesEarly a c (n + l)
-early_then a b c n l first second =
+pub early_then : {a b c : LogMemory} (n l : ℕ) → GoesEarly a b n → GoesEarly b c l → GoesEarly a c (n + l)
+early_then n l first second =
     let one = first.fewer in
     let two = second.fewer in
     record {
@@ -124,8 +125,8 @@ early_then a b c n l first second =
       due = second.due ∙ first.due;
     }
 
-pub early_none : (v : LogMemory) → IsFresh v → GoesEarly v v 0
-early_none v fresh = record { fresh = fresh; fewer = omega arith; due = refl }
+pub early_none : {v : LogMemory} → IsFresh v → GoesEarly v v 0
+early_none fresh = record { fresh = fresh; fewer = omega arith; due = refl }
 
 -- ---- the next chunk begins in a clean segment
 abbrev pub Ended : UsageTable → UsageTable
@@ -134,7 +135,7 @@ Ended t = record t { last = None }
 ended_now : (d : DeviceState) (v : LogMemory) → IsLawful d → IsMemory v → v.chunk.names ≡ []
     → Goes d d v (record v { usage = Ended v.usage }) 0
 ended_now d v lawful memory closed =
-    let same = goes_none d v lawful memory in
+    let same = goes_none v lawful memory in
     record {
       carries = same.carries;
       memory = record {
@@ -152,13 +153,13 @@ ended_now d v lawful memory closed =
       quiet = same.quiet;
     }
 
-pub ended_goes : (d : DeviceState) (v : LogMemory) (u : UsageTable) → u ≡ Ended v.usage → IsLawful d → IsMemory v → v.chunk.names ≡ []
+pub ended_goes : {d : DeviceState} (v : LogMemory) {u : UsageTable} → u ≡ Ended v.usage → IsLawful d → IsMemory v → v.chunk.names ≡ []
     → Goes d d v (record v { usage = u }) 0
-ended_goes d v u is lawful memory closed =
+ended_goes {d} v is lawful memory closed =
     subst (λ (t : UsageTable). Goes d d v (record v { usage = t }) 0) (sym is) (ended_now d v lawful memory closed)
 
-pub ended_fresh : (v : LogMemory) (u : UsageTable) → u ≡ Ended v.usage → v.chunk.names ≡ [] → IsFresh (record v { usage = u })
-ended_fresh v u is closed = subst (λ (t : UsageTable). IsFresh (record v { usage = t })) (sym is) (record {
+pub ended_fresh : (v : LogMemory) {u : UsageTable} → u ≡ Ended v.usage → v.chunk.names ≡ [] → IsFresh (record v { usage = u })
+ended_fresh v is closed = subst (λ (t : UsageTable). IsFresh (record v { usage = t })) (sym is) (record {
   closed = λ _. refl;
   begun = λ some. absurd (let none = ap length closed in omega (arith, some, none));
 })
@@ -175,9 +176,9 @@ one_segment v v' closed room =
     omega (arith, none, few, room)
 
 -- the orders that it gave, by those that were due
-pub chunk_told : (v v' : LogMemory) (u : UsageTable) (t t' n : ℕ) → u ≡ Ended v.usage → v.chunk.names ≡ [] → room_of v ≤ room_of v' + 63
+pub chunk_told : (v v' : LogMemory) {u : UsageTable} (t t' n : ℕ) → u ≡ Ended v.usage → v.chunk.names ≡ [] → room_of v ≤ room_of v' + 63
     → t' + clean_in v'.usage.segments ≤ t + due_in v.chunk u + clean_in u.segments + n → t' ≤ t + n + 1
-chunk_told v v' u t t' n is closed room due =
+chunk_told v v' {u} t t' n is closed room due =
     let one = one_segment v v' closed room in
     let gone : due_in v.chunk u ≡ 0 = ap (λ (names : List BlockNameValue). cond {A = ℕ} (length names == 0) (room_behind u u.last) 1) closed
     ∙ ap (λ (w : UsageTable). room_behind w w.last) is in
@@ -185,18 +186,18 @@ chunk_told v v' u t t' n is closed room due =
     omega (arith, one, gone, same, due)
 
 -- as many blocks are unsaved: those that left memory are counted where they stand
-pub chunk_due : (v v' v'' : LogMemory) (u : UsageTable) → u ≡ Ended v.usage → v''.dirty ≡ v'.dirty → v''.usage ≡ v'.usage
+pub chunk_due : (v v' v'' : LogMemory) {u : UsageTable} → u ≡ Ended v.usage → v''.dirty ≡ v'.dirty → v''.usage ≡ v'.usage
     → blocks_due v' ≡ length v.dirty.blocks + early_in u.segments → blocks_due v'' ≡ blocks_due v
-chunk_due v v' v'' u is dirty usage due =
+chunk_due v v' v'' is dirty usage due =
     let blocks = ap (λ (t : TableValue). length t.blocks) dirty in
     let after = ap (λ (w : UsageTable). early_in w.segments) usage in
     let before = ap (λ (w : UsageTable). early_in w.segments) is in
     omega (arith, blocks, after, before, due)
 
 -- ---- chunk after chunk
-pub chunks_none : (d : DeviceState) (v : LogMemory) → IsLawful d → IsMemory v → v.chunk.names ≡ [] → WritesChunks d d v v
-chunks_none d v lawful memory closed = record {
-  goes = (0, goes_none d v lawful memory);
+pub chunks_none : {d : DeviceState} {v : LogMemory} → IsLawful d → IsMemory v → v.chunk.names ≡ [] → WritesChunks d d v v
+chunks_none {d} {v} lawful memory closed = record {
+  goes = (0, goes_none v lawful memory);
   closed = closed;
   capacity = refl;
   fewer = omega arith;
@@ -206,17 +207,17 @@ chunks_none d v lawful memory closed = record {
   told = omega arith;
 }
 
-pub chunks_more : (a b c : DeviceState) (u v w : LogMemory) (n : ℕ) → WritesChunks a b u v → Goes b c v w n → w.chunk.names ≡ []
+pub chunks_more : {a b c : DeviceState} {u v w : LogMemory} (n : ℕ) → WritesChunks a b u v → Goes b c v w n → w.chunk.names ≡ []
     → w.dirty.capacity ≡ v.dirty.capacity
     → length w.dirty.blocks + 63 ≡ length v.dirty.blocks → data_count w.dirty + 63 ≡ data_count v.dirty → blocks_due w ≡ blocks_due v
     → clean_in v.usage.segments ≤ clean_in w.usage.segments + 1 → length c.told ≤ length b.told + 64 → WritesChunks a c u w
-chunks_more a b c u v w n before goes closed capacity fewer gone due taken told =
+chunks_more {a} {b} {c} {u} {v} {w} n before goes closed capacity fewer gone due taken told =
     let more = before.fewer in
     let alone = before.only_data in
     let took = before.taken in
     let gave = before.told in
     record {
-      goes = (before.goes.0 + n, goes_then 62 62 a b c u v w before.goes.0 n before.goes.1 goes);
+      goes = (before.goes.0 + n, goes_then before.goes.1 goes);
       closed = closed;
       capacity = capacity ∙ before.capacity;
       fewer = omega (arith, more, fewer);

@@ -21,11 +21,11 @@ use Rattle.lfs_log.specs.Held.{Held, IsReadyToSave, NothingWaits, WaitsForPass, 
 use Rattle.lfs_log.proofs.Unsaved.{none_left}
 
 module _ {D : Type 0} (state : D → DeviceState) where
-  pub writes_early : (h h' : Held D) → WritesChunks (state h.device) (state h'.device) h.memory h'.memory → h'.number ≡ h.number
+  pub writes_early : {h : Held D} (h' : Held D) → WritesChunks (state h.device) (state h'.device) h.memory h'.memory → h'.number ≡ h.number
       → h'.version ≡ h.version → h'.upgraded ≡ h.upgraded → h'.saved ≡ h.saved → h'.halted ≡ false
       → (h' ≡ h) ⊎ (reserve_of (length h'.memory.usage.segments) ≤ clean_in h'.memory.usage.segments)
       → (data_count h.memory.dirty < full_chunk → h' ≡ h) → WritesEarly state (seen h) (seen h')
-  writes_early h h' c number version upgraded saved running reserve idle = record {
+  writes_early {h} h' c number version upgraded saved running reserve idle = record {
     carries = c.goes.1.carries;
     running = running;
     number = number;
@@ -42,7 +42,7 @@ module _ {D : Type 0} (state : D → DeviceState) where
     idle = λ few. ap seen (idle few);
     rest = rest_early;
     taken = c.taken;
-    emptied = emptied_stay h.memory.usage h'.memory.usage c.goes.1.segments c.goes.1.emptied;
+    emptied = emptied_stay c.goes.1.segments c.goes.1.emptied;
     told = c.told;
     no_failure = c.goes.1.no_failure;
     holds = λ k m0 m keeps is. record {
@@ -77,7 +77,7 @@ module _ {D : Type 0} (state : D → DeviceState) where
     number = number;
     cause = λ k m0 m keeps is. stops.cause k m0 m keeps is.log;
     left = λ k m0 m keeps is map c left. inl (settled_stands (state h'.device) k m0 (stops.settled k m0 m keeps is.log) c left);
-    moment = λ k m0 m keeps is map. weaker (state h.device) (state h'.device) (λ x. StandsOn k.segments x m0)
+    moment = λ k m0 m keeps is map. weaker (λ x. StandsOn k.segments x m0)
         (StandsForOn k.segments m0 (dropped m)) (λ x h. inl h) (stops.quiet k m0 m keeps is.log);
   }
 

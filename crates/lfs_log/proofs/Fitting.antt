@@ -116,7 +116,7 @@ module _ (d : DeviceState) (v : LogMemory) (k : CheckpointValue) (m0 m : LogMap)
       (λ x pointers one. absurd (not_one x (pointers_of_file x pointers) one))
       parts.metas parts.meta_apart
       (λ x there. (let own = parts.meta_each x there in (own.1, let up = (stand x own.0).0 in omega (arith, up)))) in
-      let datas = segments_counted d.content m is.running.memory (segment_in v.chunk) is.running.laid (load_of v.usage)
+      let datas = segments_counted m is.running.laid (load_of v.usage)
       (λ s. let l = is.running.tables.live s in let h = is.running.tables.held s in omega (arith, l, h))
       vs parts.datas parts.data_apart
       (λ x there. (let own = parts.data_each x there in let here = stand x own.0 in (here.0, here.1 own.1))) in
@@ -124,33 +124,32 @@ module _ (d : DeviceState) (v : LogMemory) (k : CheckpointValue) (m0 m : LogMap)
       omega (arith, metas, datas, sum)
 
 -- No more blocks are wanted in memory than the victims hold, with all inodes and blocks of pointers.
-crowd_fits : (d d' : DeviceState) (v w : LogMemory) (k : CheckpointValue) (m0 m : LogMap) (vs : List ℕ) → d'.keeps_model
+crowd_fits : (d : DeviceState) {d' : DeviceState} {v w : LogMemory} (k : CheckpointValue) (m0 m : LogMap) (vs : List ℕ) → d'.keeps_model
     → IsLoose d v k m0 m → IsLogMap m → v.dirty.blocks ≡ [] → Crowds d d' v w vs
     → v.dirty.capacity.limit < sum_by (load_of v.usage) vs + meta_in m
-crowd_fits d d' v w k m0 m vs keeps is map nothing one =
+crowd_fits d {v} {w} k m0 m vs keeps is map nothing one =
     let wanted = one.misses in
     let came : (x : Entry) → IsIn (entries w.dirty) x → StandsWhere (IsAmong vs) is.running.memory x = λ x there. ⊎_elim
     (λ (was : IsInMemory v x). absurd (none_inside d v k m0 m is map nothing x was))
-    (λ (stood : StandsWhere (IsAmong vs) is.running.memory x). stood)
-    (one.came k m0 m keeps is x (has_entry w.dirty one.order x there)) in
+    (λ (stood : StandsWhere (IsAmong vs) is.running.memory x). stood) (one.came k m0 m keeps is x (has_entry one.order x there)) in
     let fit = blocks_fit d v k m0 m is map nothing vs (wanted.block ∷ entries w.dirty)
-    (λ there. wanted.outside (has_entry w.dirty one.order wanted.block there), apart_entries w.dirty one.order)
+    (λ there. wanted.outside (has_entry one.order wanted.block there), apart_entries one.order)
     (λ x there. ⊎_elim (λ (here : x ≡ wanted.block). subst IsOfFile (sym here) wanted.file)
     (λ (later : IsIn (entries w.dirty) x). file_entry w.dirty x later) there)
     (λ x there. ⊎_elim
     (λ (here : x ≡ wanted.block). subst (StandsWhere (IsAmong vs) is.running.memory) (sym here) (wanted.stood k m0 m keeps is))
     (λ (later : IsIn (entries w.dirty) x). came x later)
     there) in
-    let count = count_entries w.dirty one.order in
+    let count = count_entries one.order in
     let limit = ap (λ (c : Capacity). c.limit) one.relocates.capacity in
     let full = one.full in
     omega (arith, fit, count, limit, full)
 
 -- so where memory beside the log's is overfilled
-pub overfilled : (d d' : DeviceState) (v : LogMemory) (k : CheckpointValue) (m0 m : LogMap) (vs : List ℕ) (most : ℕ) → d'.keeps_model
+pub overfilled : {d d' : DeviceState} {v : LogMemory} (k : CheckpointValue) (m0 m : LogMap) (vs : List ℕ) {most : ℕ} → d'.keeps_model
     → IsLog d v k m0 m → IsLogMap m → v.dirty.blocks ≡ [] → v.chunk.names ≡ [] → Overfills d d' v vs most
     → most < sum_by (load_of v.usage) vs + meta_in m
-overfilled d d' v k m0 m vs most keeps is map nothing closed over =
+overfilled {d} {d'} {v} k m0 m vs {most} keeps is map nothing closed over =
     let t : TableValue = record { blocks = v.dirty.blocks; capacity = record { limit = most; room = over.room } } in
-    crowd_fits d d' (limited v most over.room over.chunk) over.after k m0 m vs keeps
+    crowd_fits d k m0 m vs keeps
     (loose_beside v t over.chunk refl closed over.closed d k m0 m (loose d v k m0 m is)) map nothing over.crowds

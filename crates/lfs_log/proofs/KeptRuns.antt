@@ -9,8 +9,8 @@ use Rattle.lfs_memory.proofs.PointerRuns.{run_still}
 use Rattle.lfs_log.specs.Keeping.{KeepsPass}
 use Rattle.lfs_log.specs.Held.{HoldsUnlessHalted, IsReadyToPass, WaitsForPass, WaitsUnlessSaved}
 
-ready_still : (a b : DeviceState) (v pass : LogMemory) → Looks a b → IsReadyToPass a v pass → IsReadyToPass b v pass
-ready_still a b v pass looks is =
+ready_still : {a b : DeviceState} {v pass : LogMemory} → Looks a b → IsReadyToPass a v pass → IsReadyToPass b v pass
+ready_still looks is =
     let size = looks.carries.size in
     let room = is.running.room in
     record {
@@ -26,27 +26,26 @@ ready_still a b v pass looks is =
     }
 
 -- what was relocated is, from now on, what a pass makes of its memory
-pub pass_still : (a b : DeviceState) (v pass pass' : LogMemory) (upgraded saved halted relocated relocated' : Bool)
+pub pass_still : {a b : DeviceState} {v pass pass' : LogMemory} (upgraded saved halted relocated relocated' : Bool)
     (kept : Option PointerRun) → Looks a b → KeepsPass v pass pass' → WaitsForPass v pass' relocated'
     → HoldsUnlessHalted a v pass halted × KeepsRun a v kept × WaitsUnlessSaved v upgraded saved × WaitsForPass v pass relocated
     → HoldsUnlessHalted b v pass' halted × KeepsRun b v kept × WaitsUnlessSaved v upgraded saved × WaitsForPass v pass' relocated'
-pass_still a b v pass pass' upgraded saved halted relocated relocated' kept looks keeps waits is = (
+pass_still {a} {b} {v} {pass} upgraded saved halted relocated relocated' kept looks keeps waits is = (
   (λ on.
-      let still = ready_still a b v pass looks (is.0 on) in
+      let still = ready_still looks (is.0 on) in
       let reserved = still.prepared.reserved in
       let room = keeps.room in
       record {
         running = still.running;
         prepared = record { segments = keeps.segments; closed = keeps.closed; reserved = omega (arith, reserved, room) };
       }),
-  run_still a b v kept looks is.1,
+  run_still v kept looks is.1,
   is.2,
   waits,
 )
 
-pub kept_still : (a b : DeviceState) (v pass : LogMemory) (upgraded saved halted relocated : Bool) (kept : Option PointerRun)
-    → Looks a b
+pub kept_still : {a b : DeviceState} (v pass : LogMemory) (upgraded saved halted relocated : Bool) (kept : Option PointerRun) → Looks a b
     → HoldsUnlessHalted a v pass halted × KeepsRun a v kept × WaitsUnlessSaved v upgraded saved × WaitsForPass v pass relocated
     → HoldsUnlessHalted b v pass halted × KeepsRun b v kept × WaitsUnlessSaved v upgraded saved × WaitsForPass v pass relocated
-kept_still a b v pass upgraded saved halted relocated kept looks is =
-    ((λ on. ready_still a b v pass looks (is.0 on)), run_still a b v kept looks is.1, is.2, is.3)
+kept_still {a} {b} v pass upgraded saved halted relocated kept looks is =
+    ((λ on. ready_still looks (is.0 on)), run_still v kept looks is.1, is.2, is.3)

@@ -18,13 +18,13 @@ use Rattle.lfs_model.proofs.Decoding.{value_found}
 use Rattle.lfs_memory.specs.Removing.{without_file}
 
 -- an inode on a device has a link
-links_some : (version n : ℕ) (b : List ℕ) → IsInode version n b → 1 ≤ (header b).links
+links_some : {version : ℕ} (n : ℕ) {b : List ℕ} → IsInode version n b → 1 ≤ (header b).links
 unfolding inode_in header
-links_some version n b is =
+links_some n {b} is =
     let found = value_found inode_of may_be_inode inode_sector b is.value is.spelt in
     leb-true 1 (inode_of b).links (and_parts _ _ (and_parts _ _ (and_parts _ _ found.1).1).0).0
 
-module _ (c : Content) (k : CheckpointValue) (m : LogMap) (sized : IsSized c) (st : StandsAt c k m) where
+module _ {c : Content} {k : CheckpointValue} (m : LogMap) (sized : IsSized c) (st : StandsAt c k m) where
   formed : IsLogMap m
   formed = (decoding c k m sized st).0
 
@@ -40,7 +40,7 @@ module _ (c : Content) (k : CheckpointValue) (m : LogMap) (sized : IsSized c) (s
       sym (st.holds.header n ∙ cond-true (nat_lt 0 (address c k (Inode n))) _ _ (lt-ltb 0 (address c k (Inode n)) lt)) ∙ is in
       let same : header (block c (address c k (Inode n))) ≡ h = cc in
       let one : 1 ≤ (header (block c (address c k (Inode n)))).links =
-      links_some (layout_version k) n (block c (address c k (Inode n))) (st.holds.stages.inodes.formed n lt) in
+      links_some n (st.holds.stages.inodes.formed n lt) in
       let links = ap (λ (x : Header). x.links) same in
       omega (arith, one, links))
       (cases_eq (address c k (Inode n)) 0)

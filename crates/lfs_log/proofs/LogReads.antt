@@ -23,26 +23,26 @@ use Rattle.lfs_log.proofs.Unsaved.{kept_saved}
 
 module _ {D : Type 0} (state : D → DeviceState) where
   -- ---- what is acknowledged
-  pub settled : (h : LogState D) (k : CheckpointValue) (m0 m : LogMap) → Holds state h k m0 m → IsSettled (state h.device) k m0
-  settled h k m0 m is = is.log.running.settled
+  pub settled : {h : LogState D} {k : CheckpointValue} {m0 m : LogMap} → Holds state h k m0 m → IsSettled (state h.device) k m0
+  settled is = is.log.running.settled
 
-  pub acknowledged : (h : LogState D) (k : CheckpointValue) (m0 m : LogMap) → Holds state h k m0 m
+  pub acknowledged : {h : LogState D} {k : CheckpointValue} {m0 m : LogMap} → Holds state h k m0 m
       → AllLeft (state h.device) (λ c. StandsOn k.segments c m0)
-  acknowledged h k m0 m is = settled_stands (state h.device) k m0 (settled h k m0 m is)
+  acknowledged {h} {k} {m0} {m} is = settled_stands (state h.device) k m0 (settled is)
 
   -- the log map is one that blocks spell: its data blocks are as long as sectors, and its headers are those of inodes
-  pub map_long : (h : LogState D) (k : CheckpointValue) (m0 m : LogMap) → Holds state h k m0 m → (n : ℕ) → AreLong m n
-  map_long h k m0 m is = let running = is.log.running in laid_long (state h.device).content m running.memory _ running.laid
+  pub map_long : (h : LogState D) (k : CheckpointValue) {m0 : LogMap} (m : LogMap) → Holds state h k m0 m → (n : ℕ) → AreLong m n
+  map_long h k m is = let running = is.log.running in laid_long (state h.device).content m running.memory _ running.laid
 
-  pub map_headers : (h : LogState D) (k : CheckpointValue) (m0 m : LogMap) → Holds state h k m0 m → (n : ℕ) (x : Header)
+  pub map_headers : (h : LogState D) (k : CheckpointValue) {m0 : LogMap} (m : LogMap) → Holds state h k m0 m → (n : ℕ) (x : Header)
       → m.header n ≡ Some x → IsHeaderOf n x
-  map_headers h k m0 m is = let running = is.log.running in laid_headers (state h.device).content m running.memory _ running.laid
+  map_headers h k m is = let running = is.log.running in laid_headers (state h.device).content m running.memory _ running.laid
 
   -- a log that holds a map has as many segments as a volume may have, and so has each that isn't halted
-  pub segment_count : (h : LogState D) (k : CheckpointValue) (m0 m : LogMap) → IsLawful (state h.device) → Holds state h k m0 m
+  pub segment_count : {h : LogState D} {k : CheckpointValue} {m0 m : LogMap} → IsLawful (state h.device) → Holds state h k m0 m
       → IsSegmentCount h.segments
-  segment_count h k m0 m lawful is =
-      let fits = ((newest_fits (state h.device).content lawful.now).0 k).0 (settled h k m0 m is).newest in
+  segment_count {h} {k} {m0} {m} lawful is =
+      let fits = ((newest_fits (state h.device).content lawful.now).0 k).0 (settled is).newest in
       subst IsSegmentCount is.segments fits.held.fits.segments
 
   pub whole_count : (h : LogState D) → IsWhole h → h.halted ≡ false → IsSegmentCount h.segments
@@ -50,10 +50,10 @@ module _ {D : Type 0} (state : D → DeviceState) where
       subst IsSegmentCount (sym (whole.segments ∙ ap (λ (t : UsageTable). length t.segments) whole.usage)) (whole.memory running).count
 
   -- a device that is looked at leaves what is acknowledged
-  pub looks_leave : (h : LogState D) (d : DeviceState) (k : CheckpointValue) (m0 m : LogMap) → IsLawful (state h.device)
+  pub looks_leave : {h : LogState D} {d : DeviceState} {k : CheckpointValue} {m0 : LogMap} (m : LogMap) → IsLawful (state h.device)
       → Looks (state h.device) d → Holds state h k m0 m → LeavesOnly (state h.device) d (λ c. StandsOn k.segments c m0)
-  looks_leave h d k m0 m lawful looks is =
-      looks_quiet (state h.device) d h.inner k m0 m lawful looks (loose (state h.device) h.inner k m0 m is.log)
+  looks_leave {h} {d} {k} {m0} m lawful looks is =
+      looks_quiet d k m0 m lawful looks (loose (state h.device) h.inner k m0 m is.log)
 
   -- ---- calls that only read
   pub rest_reads : (a b : LogState D) → Reads state a b → IsAtRest a → IsAtRest b
@@ -64,16 +64,16 @@ module _ {D : Type 0} (state : D → DeviceState) where
       let segments = reads.segments in
       let clean = reads.clean in
       record {
-        nothing = kept_saved a b rest.nothing (omega (arith, waiting)) reads.upgraded untaken;
+        nothing = kept_saved rest.nothing (omega (arith, waiting)) reads.upgraded untaken;
         untaken = untaken;
         many = omega (arith, many, segments, clean);
       }
 
-  pub held_still : (a b : LogState D) (k : CheckpointValue) (m0 m : LogMap) → Reads state a b → Holds state a k m0 m → Holds state b k m0 m
-  held_still a b k m0 m reads is = record {
+  pub held_still : {a b : LogState D} {k : CheckpointValue} {m0 m : LogMap} → Reads state a b → Holds state a k m0 m → Holds state b k m0 m
+  held_still {a} {b} {k} {m0} {m} reads is = record {
     log = subst (λ (v : LogMemory). IsLog (state b.device) v k m0 m) (sym reads.inner)
-        (let s = still_log (state a.device) (state b.device) a.inner k m0 m reads.looks (loose (state a.device) a.inner k m0 m is.log) in
-        tight_again (state b.device) a.inner k m0 m s is.log.tight);
+        (let s = still_log reads.looks (loose (state a.device) a.inner k m0 m is.log) in
+        tight_again s is.log.tight);
     segments = is.segments ∙ sym reads.segments;
     number = is.number ∙ sym reads.number;
     version = is.version ∙ sym reads.version;
@@ -101,9 +101,9 @@ module _ {D : Type 0} (state : D → DeviceState) where
     inner = refl;
   }
 
-  pub reads_more : (a b c : LogState D) → IsLawful (state a.device) → Reads state a b → Reads state b c → Reads state a c
-  reads_more a b c lawful one two = record {
-    looks = looks_then (state a.device) (state b.device) (state c.device) lawful one.looks two.looks;
+  pub reads_more : {a b c : LogState D} → IsLawful (state a.device) → Reads state a b → Reads state b c → Reads state a c
+  reads_more {a} {b} {c} lawful one two = record {
+    looks = looks_then lawful one.looks two.looks;
     halted = two.halted ∙ one.halted;
     number = two.number ∙ one.number;
     version = two.version ∙ one.version;
@@ -120,8 +120,8 @@ module _ {D : Type 0} (state : D → DeviceState) where
     inner = two.inner ∙ one.inner;
   }
 
-  pub fault_more : (a b c : LogState D) → Reads state a b → IsReadFault state b c → IsReadFault state a c
-  fault_more a b c one failed k m0 m keeps is =
-      let rose = failed k m0 m keeps (held_still a b k m0 m one is) in
+  pub fault_more : {a b : LogState D} (c : LogState D) → Reads state a b → IsReadFault state b c → IsReadFault state a c
+  fault_more {a} {b} c one failed k m0 m keeps is =
+      let rose = failed k m0 m keeps (held_still one is) in
       let before = one.looks.carries.failures in
       omega (arith, rose, before)

@@ -40,10 +40,9 @@ pub map_of : (map : MapValue) (usage : UsageTable) (m : LogMap) → AreHidden ma
 map_of map usage m hidden = record { inodes = λ n lt. refl; hidden = hidden; blocks = λ j lt. refl }
 
 -- with no block of a file in memory, each inode has an address on the device
-pub settled_inodes : (d : DeviceState) (dirty : Dirty) (t : Tables) (k : CheckpointValue) (m0 m : LogMap) (seg : ℕ)
-    (chunk : Option (List Entry)) → Running d dirty t k m0 m seg chunk
-    → ((x : Entry) → dirty x ≡ None) → (j : ℕ) → AreSettled m t j
-settled_inodes d dirty t k m0 m seg chunk w none j i lt one =
+pub settled_inodes : (d : DeviceState) {dirty : Dirty} (t : Tables) (k : CheckpointValue) {m0 : LogMap} (m : LogMap) {seg : ℕ}
+    {chunk : Option (List Entry)} → Running d dirty t k m0 m seg chunk → ((x : Entry) → dirty x ≡ None) → (j : ℕ) → AreSettled m t j
+settled_inodes d t k m w none j i lt one =
     let n = 128 * j + i in
     let at : t.at (Inode n) ≡ 1 = those_one (is_shown m (Inode n)) (t.at (Inode n)) one in
     let found = w.cached.found (Inode n) (n, refl) (w.tables.at (Inode n) refl ∙ at) in
@@ -54,10 +53,10 @@ settled_inodes d dirty t k m0 m seg chunk w none j i lt one =
     those_one false a is = absurd (omega (arith, is))
 
 -- the addresses in the tables, as a block of the map changes its own
-map_table : (map map' : MapValue) (usage usage' : UsageTable) (j place : ℕ) → IsBlockAt map map' j place
+map_table : {map map' : MapValue} (usage usage' : UsageTable) (j : ℕ) {place : ℕ} → IsBlockAt map map' j place
     → ((i : ℕ) → (tables_by map' usage').at (Usage i) ≡ (tables_by map usage).at (Usage i))
     → IsAddressed (tables_by map usage) (tables_by map' usage') (Map j) place
-map_table map map' usage usage' j place sets same = record { own = λ up. sets.block.own; others = others }
+map_table {map} {map'} usage usage' j sets same = record { own = λ up. sets.block.own; others = others }
   where
     others : (y : Entry) → parent y ≡ y → (y ≡ Map j → ⊥) → (tables_by map' usage').at y ≡ (tables_by map usage).at y
     others (Data n i) up ne = refl
@@ -71,7 +70,7 @@ hidden_still : (map map' : MapValue) (m : LogMap) → map'.hidden ≡ map.hidden
 hidden_still map map' m same hidden n lt = hidden n lt ∙ ap (λ (l : List Bool). get_or l n false) (sym same)
 
 -- one that shows no inode
-module _ (d : DeviceState) (v : LogMemory) (j : ℕ) (map' : MapValue) (sets : IsBlockAt v.map map' j 0) (wanted : block_in v.map j ≡ 1)
+module _ {d : DeviceState} (v : LogMemory) (j : ℕ) (map' : MapValue) (sets : IsBlockAt v.map map' j 0) (wanted : block_in v.map j ≡ 1)
     (memory : IsMemory v) (lawful : IsLawful d)
     (none : (m : LogMap) (t : Tables) → IsMapOf v.map m t → (i : ℕ) → i < 128 → shown m t.at (Inode (128 * j + i)) ≡ 0) where
   abbrev pub dropped_memory : LogMemory
@@ -83,7 +82,7 @@ module _ (d : DeviceState) (v : LogMemory) (j : ℕ) (map' : MapValue) (sets : I
         (chunk_in v.chunk) j is.running wanted
         (none m (tables_of v) (map_of v.map v.usage m is.hidden))
         (record {
-          at = map_table v.map map' v.usage v.usage j 0 sets (λ i. refl);
+          at = map_table v.usage v.usage j sets (λ i. refl);
           used = λ i. refl;
           live = λ i. refl;
           held = λ i. refl;
@@ -98,20 +97,21 @@ module _ (d : DeviceState) (v : LogMemory) (j : ℕ) (map' : MapValue) (sets : I
 
   pub drop_goes : Goes d d v dropped_memory 1
   drop_goes = record {
-    carries = carries_none d;
+    carries = carries_none;
     memory = record { count = memory.count; opened = memory.opened; short = memory.short; usages = memory.usages; few = memory.few };
     segments = refl;
     room = omega arith;
     no_failure = refl;
     emptied = λ s is. is;
     log = λ k m0 m keeps is. dropped_log k m0 m is;
-    quiet = λ k m0 m keeps is. started d (λ c. StandsOn k.segments c m0) lawful (settled_stands d k m0 is.running.settled);
+    quiet = λ k m0 m keeps is. started (λ c. StandsOn k.segments c m0) lawful (settled_stands d k m0 is.running.settled);
   }
 
 -- one that is written
-module _ (v v' : LogMemory) (name : BlockNameValue) (age place : ℕ) (memory : IsMemory v) (p : Places v v' name true age place) (j : ℕ)
+module _ (v : LogMemory) {v' : LogMemory} (name : BlockNameValue) {age place : ℕ} (memory : IsMemory v)
+    (p : Places v v' name true age place) {j : ℕ}
     (map' : MapValue) (sets : IsBlockAt v.map map' j place)
-    (d d' : DeviceState) (bytes : List ℕ) (crash : CrashWrites place bytes d d') (carries : Carries d d') (time : Elapses d d')
+    {d d' : DeviceState} {bytes : List ℕ} (crash : CrashWrites place bytes d d') (carries : Carries d d') (time : Elapses d d')
     (lawful : IsLawful d)
     (is_put : d'.keeps_model → d'.content ≡ put d.content place bytes) (named : entry_of name ≡ Map j) (wanted : block_in v.map j ≡ 1)
     (spells : (m : LogMap) (t : Tables) → IsMapOf v.map m t → AreSettled m t j → SpellsMap m t j bytes) (empty : (x : Entry)
@@ -121,42 +121,37 @@ module _ (v v' : LogMemory) (name : BlockNameValue) (age place : ℕ) (memory : 
 
   log : (k : CheckpointValue) (m0 m : LogMap) → d'.keeps_model → IsLog d v k m0 m → IsLog d' after_map k m0 m
   log k m0 m keeps is =
-      let same_place = place_is v v' name true age place memory p in
+      let same_place = place_is memory p in
       let es = entries_of v.chunk in
-      let t = before v v' name true age place memory p in
-      let running = begun v v' name true age place memory p d k m0 m is in
+      let t = before memory p in
+      let running = begun memory p is in
       let next = map_stepping d d' (blocks_of v.dirty) t (tables_by map' v'.usage) k m0 m v'.chunk.segment es j bytes
-      running (room_left v v' name true age place memory p) wanted
-      (spells m t (map_of v.map p.middle m is.hidden)
-      (settled_inodes d (blocks_of v.dirty) t k m0 m v'.chunk.segment (Some es) running empty j))
-      (subst (λ (n : ℕ). IsWritten d d' n bytes) same_place (record { content = is_put keeps; crash = crash }))
-      (noted v v' name true age place memory p d k m0 m is (Map j) map' refl
-      (map_table v.map map' p.middle v'.usage j place sets p.noted.blocks.address)) in
+      running (room_left memory p) wanted (spells m t (map_of v.map p.middle m is.hidden) (settled_inodes d t k m running empty j))
+      (subst (λ (n : ℕ). IsWritten d d' n bytes) same_place (record { content = is_put keeps; crash = crash })) (noted memory p is map' refl
+      (map_table p.middle v'.usage j sets p.noted.blocks.address)) in
       record {
-        running = as_chunk d' (blocks_of v.dirty) (tables_by map' v'.usage) k m0 m v'.chunk.segment (segment_in v'.chunk)
-            (Some (es ++ Map j ∷ [])) (chunk_in v'.chunk)
-            (sym (segment_after v v' name true age place memory p))
-            (sym (opened_after v v' name true age place memory p ∙ ap (λ (e : Entry). Some (es ++ e ∷ [])) named)) next;
+        running = as_chunk (sym (segment_after memory p))
+            (sym (opened_after memory p ∙ ap (λ (e : Entry). Some (es ++ e ∷ [])) named)) next;
         hidden = hidden_still v.map map' m sets.hidden is.hidden;
-        segments = segments_same v v' name true age place memory p ∙ is.segments;
+        segments = segments_same memory p ∙ is.segments;
         tight = is.tight;
       }
 
   pub map_goes : d'.failures ≡ d.failures → GoesUpTo 63 d d' v after_map 1
   map_goes no_failure = record {
     carries = carries;
-    memory = memory_after v v' name true age place memory p map' v.dirty refl;
-    segments = segments_same v v' name true age place memory p;
-    room = let r = takes_place v v' name true age place memory p in omega (arith, r);
+    memory = memory_after memory p map' v.dirty refl;
+    segments = segments_same memory p;
+    room = let r = takes_place memory p in omega (arith, r);
     no_failure = no_failure;
-    emptied = placed_emptied v v' name true age place memory p;
+    emptied = placed_emptied memory p;
     log = log;
-    quiet = quiet_step v v' name true age place memory p d d' bytes crash carries time lawful (λ keeps. left_new (is_put keeps));
+    quiet = quiet_step memory p {bytes = bytes} crash carries time lawful (λ keeps. left_new (is_put keeps));
   }
 
 -- a map has no more than 32 blocks
-pub maps_out : (map : MapValue) → IsMap map → ((j : ℕ) → j < 32 → block_in map j ≡ 1 → ⊥) → AreMapsOut map
-maps_out map long known j one = ⊎_elim
+pub maps_out : {map : MapValue} → IsMap map → ((j : ℕ) → j < 32 → block_in map j ≡ 1 → ⊥) → AreMapsOut map
+maps_out {map} long known j one = ⊎_elim
     (λ (low : j < 32). known j low one)
     (λ (high : 32 ≤ j). let past = get_or_past map.blocks j 0 (let l = long.blocks in omega (arith, l, high)) in
     absurd (omega (arith, past, one)))

@@ -45,9 +45,9 @@ use Rattle.lfs_memory.specs.segments.Early.{AreUntaken}
 use Rattle.lfs_memory.proofs.Opened.{closed_segment, closed_chunk, as_chunk}
 
 -- ---- the newest checkpoint
-one_checkpoint : (d : DeviceState) (m : LogMap) (k : CheckpointValue) → (is : StandsLog d.content m) → newest d.content ≡ Some k
+one_checkpoint : (d : DeviceState) (m : LogMap) {k : CheckpointValue} → (is : StandsLog d.content m) → newest d.content ≡ Some k
     → is.checkpoint ≡ k
-one_checkpoint d m k is newest = some_is is.checkpoint k (sym is.newest ∙ newest)
+one_checkpoint d m {k} is newest = some_is is.checkpoint k (sym is.newest ∙ newest)
   where
     some_is : (a b : CheckpointValue) → Some a ≡ Some b → a ≡ b
     some_is a b e = cc
@@ -56,8 +56,8 @@ one_checkpoint d m k is newest = some_is is.checkpoint k (sym is.newest ∙ newe
 abbrev by_numbers : ℕ → ℕ → ℕ → SegmentNumbers
 by_numbers used live age = record { used = used; live = live; held = 0; age = age; kept = used }
 
-module _ (c : Content) (k : CheckpointValue) (fits : FitsCheckpoint k) (m : LogMap) (st : StandsAt c k m) (map : MapValue)
-    (usage : UsageTable)
+module _ {c : Content} {k : CheckpointValue} (fits : FitsCheckpoint k) {m : LogMap} (st : StandsAt c k m) {map : MapValue}
+    {usage : UsageTable}
     (usages : IsUsageUpTo ((k.segments + 63) / 64) k.segments usage) (says : SaysUsage c k ((k.segments + 63) / 64) usage)
     (maps : IsMapUpTo 32 map) (tells : SaysMap c k 32 map) where
   no_map : (j : ℕ) → 32 ≤ j → get_or k.map j 0 ≡ 0
@@ -166,7 +166,7 @@ module _ (d d' : DeviceState) (lawful : IsLawful d') (lawful_first : IsLawful d)
         let most : k.segments ≤ 1024 = fits.segments.most in
         let to : d.content ≡ d'.content = sym looks.untouched.content in
         starting d' (tables_of v) k m 1024 most (are_sized d'.content lawful.now) (settled st)
-        (mounted_tables d'.content k fits m (subst (λ (c : Content). StandsAt c k m) to st) v.map v.usage
+        (mounted_tables fits (subst (λ (c : Content). StandsAt c k m) to st)
         usages (subst (λ (c : Content). SaysUsage c k ((k.segments + 63) / 64) v.usage) to
         (subst (SaysUsage d.content k ((k.segments + 63) / 64)) (sym usage) (has keeps).held.says.usage))
         maps (subst (λ (c : Content). SaysMap c k 32 v.map) to (subst (SaysMap d.content k 32) (sym map) (has keeps).held.says.map)))
@@ -177,8 +177,7 @@ module _ (d d' : DeviceState) (lawful : IsLawful d') (lawful_first : IsLawful d)
         let none : length v.chunk.names ≡ 0 = ap length chunk in
         let w = subst (λ (bs : Blocks). Running d' (blocks_in bs) (tables_of v) k m m 1024 None) (sym dirty) (running st) in
         record {
-          running = as_chunk d' (blocks_of v.dirty) (tables_of v) k m m 1024 (segment_in v.chunk) None (chunk_in v.chunk)
-              (sym (closed_segment v.chunk none)) (sym (closed_chunk v.chunk none)) w;
+          running = as_chunk (sym (closed_segment v.chunk none)) (sym (closed_chunk v.chunk none)) w;
           hidden = λ n low. (mounting d.content k m (let most = fits.segments.most in omega (arith, most))
               (are_sized d.content lawful_first.now) st).2 n ∙ sym (maps.hidden n);
           segments = usages.size;
@@ -190,8 +189,7 @@ module _ (d d' : DeviceState) (lawful : IsLawful d') (lawful_first : IsLawful d)
 
   pub opens : Opens d d' v t.version t.number
   opens m keeps is =
-      let one = one_checkpoint d m (k keeps m) is (has keeps).held.newest in (
-        subst (λ (x : CheckpointValue). IsLog d' v x m m) (sym one)
+      let one = one_checkpoint d m is (has keeps).held.newest in ( subst (λ (x : CheckpointValue). IsLog d' v x m m) (sym one)
             (log_at keeps m (subst (λ (x : CheckpointValue). StandsAt d.content x m) one is.stands)),
         ap (λ (x : CheckpointValue). x.number) one ∙ (has keeps).held.says.number,
         is.stands.holds.version ∙ ap layout_version one ∙ (has keeps).held.says.version,
@@ -201,7 +199,7 @@ module _ (d d' : DeviceState) (lawful : IsLawful d') (lawful_first : IsLawful d)
   pub untaken : d'.keeps_model → AreUntaken v.usage
   untaken keeps =
       let h = has keeps in
-      (mounted_tables d.content h.held.checkpoint h.held.fits h.held.log h.stands v.map v.usage (usages keeps h.held.log)
+      (mounted_tables h.held.fits h.stands (usages keeps h.held.log)
       (subst (SaysUsage d.content h.held.checkpoint ((h.held.checkpoint.segments + 63) / 64)) (sym usage) h.held.says.usage)
       (maps keeps h.held.log)
       (subst (SaysMap d.content h.held.checkpoint 32) (sym map) h.held.says.map)).kept
@@ -211,7 +209,7 @@ module _ (d d' : DeviceState) (lawful : IsLawful d') (lawful_first : IsLawful d)
   unfolding clean_in
   many keeps =
       let h = has keeps in
-      let tables = mounted_tables d.content h.held.checkpoint h.held.fits h.held.log h.stands v.map v.usage (usages keeps h.held.log)
+      let tables = mounted_tables h.held.fits h.stands (usages keeps h.held.log)
       (subst (SaysUsage d.content h.held.checkpoint ((h.held.checkpoint.segments + 63) / 64)) (sym usage) h.held.says.usage)
       (maps keeps h.held.log)
       (subst (SaysMap d.content h.held.checkpoint 32) (sym map) h.held.says.map) in
@@ -236,8 +234,8 @@ has_log_map d d' t has keeps = let h = has keeps in
     (h.held.log, record { checkpoint = h.held.checkpoint; newest = h.held.newest; stands = h.stands })
 
 -- the log that has it is ready
-pub ready : (d : DeviceState) (v pass : LogMemory) → IsOpened v d.size → IsPassMemory v pass → IsReadyToPass d v pass
-ready d v pass is there = record {
+pub ready : (d : DeviceState) {v pass : LogMemory} → IsOpened v d.size → IsPassMemory v pass → IsReadyToPass d v pass
+ready d {v} is there = record {
   running = record {
     memory = is.memory;
     room = is.room;
@@ -252,15 +250,15 @@ ready d v pass is there = record {
 -- ---- behind a walk, which only read
 module _ {D : Type 0} (state : D → DeviceState) (d d' : D) (looks : Looks (state d) (state d')) where
   -- what the walk's tables say of the device before it, they say of it after
-  pub tables_behind : (t : Tables) → ((state d').keeps_model → HasTables (state d).content t) → (state d').keeps_model
+  pub tables_behind : {t : Tables} → ((state d').keeps_model → HasTables (state d).content t) → (state d').keeps_model
       → HasTables (state d').content t
-  tables_behind t has keeps = subst (λ (c : Content). HasTables c t) (sym looks.untouched.content) (has keeps)
+  tables_behind {t} has keeps = subst (λ (c : Content). HasTables c t) (sym looks.untouched.content) (has keeps)
 
   pub only_behind : ((state d').keeps_model → Only (state d).content (state d')) → (state d').keeps_model
       → Only (state d').content (state d')
   only_behind durable keeps = subst (λ (c : Content). Only c (state d')) (sym looks.untouched.content) (durable keeps)
 
-module _ {D : Type 0} (state : D → DeviceState) (d d' : D) (looks : Looks (state d) (state d')) (h : LogState D)
+module _ {D : Type 0} (state : D → DeviceState) (d : D) {d' : D} (looks : Looks (state d) (state d')) (h : LogState D)
     (same : h.device ≡ d') where
   mounts_behind : Mounts state d' h → Mounts state d h
   mounts_behind mounts =
@@ -286,11 +284,11 @@ mount_fails fault device = Err (fault, device)
 abbrev pub mount_gives : {D : Type 0} → LogState D → Result (LogState D) (MountFault × D)
 mount_gives h = Ok h
 
-module _ {D : Type 0} (state : D → DeviceState) (d d' : D) (looks : Looks (state d) (state d')) where
+module _ {D : Type 0} {state : D → DeviceState} (d d' : D) (looks : Looks (state d) (state d')) where
   -- the walk found no log
-  pub opens_none : (f : MountFault) → ((f ≡ fault.NoMemory → ⊥) → IsOpenFault (state d) (state d') f)
+  pub opens_none : {f : MountFault} → ((f ≡ fault.NoMemory → ⊥) → IsOpenFault (state d) (state d') f)
       → IsRefusedLog (state d) (state d') f → OpensLog state d (mount_fails f d')
-  opens_none f cause reason = record {
+  opens_none cause reason = record {
     opened = tt;
     found = tt;
     durable = tt;
@@ -302,20 +300,20 @@ module _ {D : Type 0} (state : D → DeviceState) (d d' : D) (looks : Looks (sta
   }
 
   -- it found one
-  pub opens_some : (h : LogState D) → h.device ≡ d' → OpenedLog state d' h → (t : Tables)
+  pub opens_some : {h : LogState D} → h.device ≡ d' → OpenedLog state d' h → {t : Tables}
       → ((state d').keeps_model → HasTables (state d).content t)
       → ((state d').keeps_model → Only (state d).content (state d')) → OpensLog state d (mount_gives h)
-  opens_some h same opened t has durable = record {
+  opens_some {h} same opened {t} has durable = record {
     opened = record {
-      holds = mounts_behind state d d' looks h same opened.holds;
-      counts = counts_behind state d d' looks h same opened.counts;
+      holds = mounts_behind state d looks h same opened.holds;
+      counts = counts_behind state d looks h same opened.counts;
       saved = opened.saved;
       empty = opened.empty;
       untaken = opened.untaken;
       many = opened.many;
     };
-    found = log_behind state d d' looks h same t has;
-    durable = durable_behind state d d' looks h same durable;
+    found = log_behind state d looks h same t has;
+    durable = durable_behind state d looks h same durable;
     cause = tt;
     reason = tt;
     untouched = subst (λ (x : D). IsUntouched (state d) (state x)) (sym same) looks.untouched;

@@ -34,9 +34,9 @@ fewer_taken : (blocks count : ℕ) → 2 ≤ count → blocks ≤ most_brought c
 fewer_taken blocks count least few = omega (arith, least, few)
 
 -- what was relocated may be saved
-pub ready_to_save : (d d' : DeviceState) (v v' : LogMemory) (vs : List ℕ) → MayClean v vs → AreApart vs → Empties d d' v v' vs
+pub ready_to_save : {d d' : DeviceState} {v v' : LogMemory} {vs : List ℕ} → MayClean v vs → AreApart vs → Empties d d' v v' vs
     → length v'.dirty.blocks ≤ most_brought (length vs) → IsReadyToSave v v'
-ready_to_save d d' v v' vs may apart one few =
+ready_to_save {v'} {vs} may apart one few =
     let emptied = emptied_least v'.usage vs apart
     (λ i lt. let low = (may.each i lt).inside in let size = one.segments in omega (arith, low, size)) one.emptied in
     let taken = fewer_taken (length v'.dirty.blocks) (length vs) may.least few in
@@ -56,8 +56,8 @@ ready_to_save d d' v v' vs may apart one few =
     }
 
 -- ---- whether it may begin, and whether its blocks fit
-pub may_begin : {D : Type 0} (h : Held D) (vs : List ℕ) → MayPass (seen h) vs → MayClean h.memory vs
-may_begin h vs may = record {
+pub may_begin : {D : Type 0} (h : Held D) {vs : List ℕ} → MayPass (seen h) vs → MayClean h.memory vs
+may_begin h may = record {
   nothing = let none = may.nothing in none_left h.memory.dirty.blocks (omega (arith, none));
   many = may.many;
   least = may.least;
@@ -66,24 +66,22 @@ may_begin h vs may = record {
 }
 
 -- ---- of two that are known to be one
-pub same_some : {T : Type 0} (P : T → Type 0) (o : Option T) (x y : T) → o ≡ Some x → o ≡ Some y → P x → P y
-same_some {T} P o x y one two is = subst (λ (o : Option T). IfSome o P) (sym one ∙ two) is
+pub same_some : {T : Type 0} (P : T → Type 0) {o : Option T} {x y : T} → o ≡ Some x → o ≡ Some y → P x → P y
+same_some {T} P {o} one two is = subst (λ (o : Option T). IfSome o P) (sym one ∙ two) is
 
 -- as many orders as a pass gives at most
-pub few_orders : (v pass : LogMemory) (before after : ℕ) → IsReadyToSave v pass → length pass.usage.segments ≡ length v.usage.segments
+pub few_orders : {v pass : LogMemory} (before after : ℕ) → IsReadyToSave v pass → length pass.usage.segments ≡ length v.usage.segments
     → after ≤ before + orders_for (length pass.dirty.blocks) → after ≤ before + pass_orders (length v.usage.segments)
-few_orders v pass before after ready size told = let few = ready.few in omega (arith, few, size, told)
+few_orders before after ready size told = let few = ready.few in omega (arith, few, size, told)
 
 module _ {D : Type 0} (state : D → DeviceState) where
-  pub are_packed : (h h' : Held D) (vs : List ℕ) → MayPass (seen h) vs → h.memory.chunk.names ≡ []
+  pub are_packed : (h h' : Held D) {vs : List ℕ} → MayPass (seen h) vs → h.memory.chunk.names ≡ []
       → Overfills (state h.device) (state h'.device) h.memory vs (most_brought (length vs)) → ArePacked state (seen h) (seen h') vs
-  are_packed h h' vs may closed over k m0 m keeps is map =
-      overfilled (state h.device) (state h'.device) h.memory k m0 m vs (most_brought (length vs)) keeps is.log map
-      (may_begin h vs may).nothing closed over
+  are_packed h h' {vs} may closed over k m0 m keeps is map =
+      overfilled k m0 m vs keeps is.log map (may_begin h may).nothing closed over
 
   -- ---- what was relocated
-  module _ (h : Held D) (device : D) (pass : LogMemory) (vs : List ℕ)
-      (one : Empties (state h.device) (state device) h.memory pass vs) where
+  module _ (h : Held D) (device : D) {pass : LogMemory} {vs : List ℕ} (one : Empties (state h.device) (state device) h.memory pass vs) where
     pub relocates : h.halted ≡ false → h.number < 2 ^ 64 - 1 → (state device).failures ≡ (state h.device).failures
         → IsRelocated state (seen h) (seen (record h { device = device; relocated = Some pass })) vs
     relocates running number unfailed = record {
@@ -93,7 +91,7 @@ module _ {D : Type 0} (state : D → DeviceState) where
       emptied = (pass, refl, one.emptied);
       no_failure = unfailed;
       holds = λ k m0 m keeps is. record {
-        holds = held_still state (seen h) (seen (record h { device = device; relocated = Some pass })) k m0 m reads is;
+        holds = held_still state reads is;
         relocated = λ v there. subst (λ (o : Option LogMemory). IfSome o (λ v. IsLog (state device) v k m0 m)) there
             (one.log k m0 m keeps is.log);
       };
@@ -119,9 +117,9 @@ module _ {D : Type 0} (state : D → DeviceState) where
         }
 
   -- ---- its commit, whose tables the log's memory takes
-  module _ (h : Held D) (v : LogMemory) (there : h.relocated ≡ Some v) (ready : IsReadyToSave h.memory v)
+  module _ (h : Held D) {v : LogMemory} (there : h.relocated ≡ Some v) (ready : IsReadyToSave h.memory v)
       (size : length v.usage.segments ≡ length h.memory.usage.segments) where
-    pub relocated_done : (device : D) (w : LogMemory) (t : TableValue) (c : Chunk) → t.blocks ≡ [] → c.names ≡ [] → h.halted ≡ false
+    pub relocated_done : (device : D) {w : LogMemory} (t : TableValue) (c : Chunk) → t.blocks ≡ [] → c.names ≡ [] → h.halted ≡ false
         → CommitsAll (state h.device) (state device) v w h.version h.number → (vs : List ℕ) → AreEmptied v.usage vs
         → CleansOf state (HoldsRelocated state (seen h)) (seen h) (seen (record h {
           device = device;
@@ -131,7 +129,7 @@ module _ {D : Type 0} (state : D → DeviceState) where
           saved = true;
           relocated = None;
         })) vs
-    relocated_done device w t c empty closed running done vs emptied = record {
+    relocated_done device {w} t c empty closed running done vs emptied = record {
       carries = done.carries;
       running = running;
       number = refl;
@@ -153,7 +151,7 @@ module _ {D : Type 0} (state : D → DeviceState) where
           subst (λ (l : ℕ). AllLeft (state device) (λ c. StandsOn l c (dropped m)))
           (sym n.1.log.segments ∙ done.segments ∙ size ∙ is.holds.log.segments)
           (settled_stands (state device) n.0 (dropped m) n.1.log.running.settled);
-      moment = λ k m0 m keeps is map. done.moment k m0 m keeps (acknowledged state h v k m0 m is.holds (is.relocated v there) map);
+      moment = λ k m0 m keeps is map. done.moment k m0 m keeps (acknowledged state h is.holds (is.relocated v there) map);
     }
       where
         after : Held D
@@ -173,10 +171,9 @@ module _ {D : Type 0} (state : D → DeviceState) where
         holds : (k : CheckpointValue) (m0 m : LogMap) → (state device).keeps_model → HoldsRelocated state (seen h) k m0 m
             → IsLogMap (dropped m) → (next : CheckpointValue) × Holds state (seen after) next (dropped m) m
         holds k m0 m keeps is map =
-            let n = done.log k m0 m keeps (acknowledged state h v k m0 m is.holds (is.relocated v there) map) in (
-              n.0,
+            let n = done.log k m0 m keeps (acknowledged state h is.holds (is.relocated v there) map) in ( n.0,
               record {
-                log = log_beside w t c (empty ∙ sym done.dirty) done.chunk closed (state device) n.0 (dropped m) m n.2;
+                log = log_beside w t c (empty ∙ sym done.dirty) done.chunk closed n.0 m n.2;
                 segments = sym n.2.segments;
                 number = n.1;
                 version = is.holds.version;
@@ -187,21 +184,20 @@ module _ {D : Type 0} (state : D → DeviceState) where
             )
 
   -- ---- both: a pass
-  module _ (a b c : LogState D) (vs : List ℕ) (lawful : IsLawful (state a.device)) (one : IsRelocated state a b vs) where
+  module _ {a b : LogState D} (c : LogState D) {vs : List ℕ} (lawful : IsLawful (state a.device)) (one : IsRelocated state a b vs) where
     moment_then : ((state c.device).keeps_model → (state b.device).keeps_model) → LeavesSavedOf state (HoldsRelocated state b) b c
         → LeavesSaved state a c
     moment_then back moment k m0 m keeps is map =
         let P : Content → Type 0 = λ x. StandsOn k.segments x m0 in
         let Q : Content → Type 0 = StandsForOn k.segments m0 (dropped m) in
-        joined (state a.device) (state b.device) (state c.device) P Q Q
-        (looks_leave state a (state b.device) k m0 m lawful one.reads.looks is)
+        joined P Q Q (looks_leave state m lawful one.reads.looks is)
         (moment k m0 m keeps (one.holds k m0 m (back keeps) is) map) (λ x s. inl s) (λ x s. s)
 
     pub pass_done : CleansOf state (HoldsRelocated state b) b c vs → Cleans state a c vs
     pass_done two =
         let back = two.carries.kept_before in
         record {
-          carries = carries_then (state a.device) (state b.device) (state c.device) one.reads.looks.carries two.carries;
+          carries = carries_then one.reads.looks.carries two.carries;
           running = two.running;
           number = two.number ∙ ap (λ (n : ℕ). n + 1) one.reads.number;
           segments = two.segments ∙ one.reads.segments;
@@ -221,7 +217,7 @@ module _ {D : Type 0} (state : D → DeviceState) where
     pass_halts two =
         let back = two.carries.kept_before in
         record {
-          carries = carries_then (state a.device) (state b.device) (state c.device) one.reads.looks.carries two.carries;
+          carries = carries_then one.reads.looks.carries two.carries;
           halted = two.halted;
           unsaved = two.unsaved;
           number = two.number ∙ one.reads.number;

@@ -22,7 +22,7 @@ use Rattle.lfs_log.specs.LogState.{LogState, Holds, IsWhole}
 use Rattle.lfs_log.proofs.Unsaved.{none_left}
 
 -- ---- the segments hold no more blocks than the files' totals say
-module _ (d : DeviceState) (v : LogMemory) (k : CheckpointValue) (m0 m : LogMap) (is : IsLog d v k m0 m)
+module _ {d : DeviceState} (v : LogMemory) (k : CheckpointValue) (m0 m : LogMap) (is : IsLog d v k m0 m)
     (nothing : v.dirty.blocks ≡ []) where
   none_inside : (x : Entry) → IsOfFile x → is.running.memory.at x ≡ 1 → ⊥
   none_inside x file one =
@@ -34,10 +34,10 @@ module _ (d : DeviceState) (v : LogMemory) (k : CheckpointValue) (m0 m : LogMap)
   past : IsMap v.map → (j : ℕ) → 32 ≤ j → block_in v.map j ≡ 0
   past maps j high = get_or_past v.map.blocks j 0 (let e = maps.blocks in omega (arith, e, high))
 
-  pressed_here : (meta : ℕ) → IsMemory v → IsMap v.map → IsLogMap m → 4 * clean_in v.usage.segments < length v.usage.segments
+  pressed_here : {meta : ℕ} → IsMemory v → IsMap v.map → IsLogMap m → 4 * clean_in v.usage.segments < length v.usage.segments
       → meta ≡ meta_in m
       → data_in m + 7 * meta_in m + 720 ≤ 47 * length v.usage.segments → IsPressed v.usage meta
-  pressed_here meta memory maps map few counted need = record {
+  pressed_here memory maps map few counted need = record {
     count = memory.count;
     few = few;
     blocks =
@@ -61,7 +61,7 @@ module _ {D : Type 0} (state : D → DeviceState) (h : LogState D) (k : Checkpoi
       let many = whole.segments in
       let clean = whole.clean in
       subst (λ (t : UsageTable). IsPressed t meta) (sym whole.usage)
-      (pressed_here (state h.device) h.inner k m0 m is.log (none_left h.inner.dirty.blocks (omega (arith, empty, nothing))) meta
+      (pressed_here h.inner k m0 m is.log (none_left h.inner.dirty.blocks (omega (arith, empty, nothing)))
       (whole.memory is.running) whole.map map
       (subst (λ (t : UsageTable). 4 * clean_in t.segments < length t.segments) whole.usage (omega (arith, few, many, clean)))
       counted

@@ -34,14 +34,14 @@ use Rattle.lfs_memory.proofs.Opened.{closed_segment, closed_chunk, as_chunk}
 use Rattle.lfs_log.proofs.UsageWrites.{table_same}
 
 -- ---- counts
-many_clean : (t : UsageTable) (n : ℕ) → length t.segments ≡ n → length t.segments ≤ 8 * spare_in t.segments
+many_clean : (t : UsageTable) {n : ℕ} → length t.segments ≡ n → length t.segments ≤ 8 * spare_in t.segments
     → n ≤ 8 * count_up (λ s. cond (live_of t s == 0) 0 (used_of t s) == 0) n
 unfolding spare_in
-many_clean t n same many = subst (λ (i : ℕ). i ≤ 8 * count_up (λ s. cond (live_of t s == 0) 0 (used_of t s) == 0) i) same many
+many_clean t same many = subst (λ (i : ℕ). i ≤ 8 * count_up (λ s. cond (live_of t s == 0) 0 (used_of t s) == 0) i) same many
 
 -- ---- what a release does
-both_zero : (l h : ℕ) → l ≡ 0 → h ≡ 0 → ((l == 0) && (h == 0)) ≡ true
-both_zero l h a b = and_true (l == 0) (h == 0) (eq-eqb l 0 a) (eq-eqb h 0 b)
+both_zero : {l h : ℕ} → l ≡ 0 → h ≡ 0 → ((l == 0) && (h == 0)) ≡ true
+both_zero {l} {h} a b = and_true (l == 0) (h == 0) (eq-eqb l 0 a) (eq-eqb h 0 b)
   where
     and_true : (a b : Bool) → a ≡ true → b ≡ true → (a && b) ≡ true
     and_true true true p q = refl
@@ -66,7 +66,7 @@ module _ (v : LogMemory) (u : UsageTable) (go : Releases v.usage u) where
   is_released = record {
     at = table_same v.map v.usage u (places_same (λ b. b.address));
     gone = λ s l h. ap (λ (n : SegmentNumbers). n.used) (go.each s) ∙ cond-true (is_empty (get_or v.usage.segments s no_segment)) 0
-        (used_of v.usage s) (both_zero (live_of v.usage s) (held_of v.usage s) l h);
+        (used_of v.usage s) (both_zero l h);
     used = λ s some. ap (λ (n : SegmentNumbers). n.used) (go.each s) ∙ cond-false (is_empty (get_or v.usage.segments s no_segment)) 0
         (used_of v.usage s) (some_left (live_of v.usage s) (held_of v.usage s) some);
     live = λ s. ap (λ (n : SegmentNumbers). n.live) (go.each s);
@@ -90,8 +90,8 @@ least_shown : (b : Bool) (a : ℕ) → 0 < cond b a 0 → 0 < a
 least_shown true a lt = lt
 least_shown false a lt = absurd (omega arith)
 
-map_past : (e : Content) (m : LogMap) (M : Memory) (o j : ℕ) → IsLaid e m M o → (M.at (Map j) ≡ 1 → ⊥) → 32 ≤ j → M.at (Map j) ≡ 0
-map_past e m M o j laid settled ge = ⊎_elim
+map_past : {e : Content} (m : LogMap) (M : Memory) {o : ℕ} (j : ℕ) → IsLaid e m M o → (M.at (Map j) ≡ 1 → ⊥) → 32 ≤ j → M.at (Map j) ≡ 0
+map_past m M j laid settled ge = ⊎_elim
     (λ (low : M.at (Map j) < 2). omega arith)
     (λ (high : 2 ≤ M.at (Map j)).
     let b = laid.mapped j settled in
@@ -106,8 +106,8 @@ map_past e m M o j laid settled ge = ⊎_elim
     absurd (omega arith))
     (cases_lt (M.at (Map j)) 2)
 
-usage_past : (e : Content) (m : LogMap) (M : Memory) (o j : ℕ) → IsLaid e m M o → 16 ≤ j → M.at (Usage j) ≡ 0
-usage_past e m M o j laid ge = ⊎_elim
+usage_past : {e : Content} (m : LogMap) (M : Memory) {o : ℕ} (j : ℕ) → IsLaid e m M o → 16 ≤ j → M.at (Usage j) ≡ 0
+usage_past m M j laid ge = ⊎_elim
     (λ (none : M.at (Usage j) ≡ 0). none)
     (λ (some : M.at (Usage j) ≡ 0 → ⊥).
     let low = (laid.usages j).1 (omega arith) in
@@ -116,9 +116,9 @@ usage_past e m M o j laid ge = ⊎_elim
     (cases_eq (M.at (Usage j)) 0)
 
 -- an array of addresses, which has all that there are
-array_is : (xs : List ℕ) (n : ℕ) (f : ℕ → ℕ) → length xs ≡ n → ((j : ℕ) → j < n → get_or xs j 0 ≡ f j) → ((j : ℕ) → n ≤ j → f j ≡ 0)
+array_is : (xs : List ℕ) (n : ℕ) {f : ℕ → ℕ} → length xs ≡ n → ((j : ℕ) → j < n → get_or xs j 0 ≡ f j) → ((j : ℕ) → n ≤ j → f j ≡ 0)
     → (j : ℕ) → get_or xs j 0 ≡ f j
-array_is xs n f long inside past j = ⊎_elim
+array_is xs n long inside past j = ⊎_elim
     (λ (lt : j < n). inside j lt)
     (λ (ge : n ≤ j). get_or_past xs j 0 (omega arith) ∙ sym (past j ge))
     (cases_lt j n)
@@ -134,19 +134,19 @@ module _ (d d1 : DeviceState) (v : LogMemory) (version number : ℕ) (lawful : I
     tight = log.tight;
   }
 
-  sync_left : (k : CheckpointValue) (m0 m : LogMap) → IsLog d v k m0 m → AllLeft d1 (StandsForOn k.segments m0 (dropped m))
-  sync_left k m0 m log c left = inl (settled_stands d1 k m0 (settled_still d d1 k m0 log.running.settled same) c left)
+  sync_left : (k : CheckpointValue) (m0 : LogMap) {m : LogMap} → IsLog d v k m0 m → AllLeft d1 (StandsForOn k.segments m0 (dropped m))
+  sync_left k m0 log c left = inl (settled_stands d1 k m0 (settled_still d d1 k m0 log.running.settled same) c left)
 
   sync_moment : (k : CheckpointValue) (m0 m : LogMap) → IsLog d v k m0 m → LeavesOnly d d1 (StandsForOn k.segments m0 (dropped m))
   sync_moment k m0 m log =
-      goes_on d d d1 (StandsForOn k.segments m0 (dropped m)) (started d (StandsForOn k.segments m0 (dropped m)) lawful
-      (λ c left. inl (settled_stands d k m0 log.running.settled c left))) carries time (sync_left k m0 m log)
+      goes_on (StandsForOn k.segments m0 (dropped m)) (started (StandsForOn k.segments m0 (dropped m)) lawful
+      (λ c left. inl (settled_stands d k m0 log.running.settled c left))) carries time (sync_left k m0 log)
 
   pub sync_fails : d.failures < d1.failures → PublishFails d d1 v version number
   sync_fails failed = record {
     carries = carries;
     failed = failed;
-    left = λ k m0 m keeps is. sync_left k m0 m is.log;
+    left = λ k m0 m keeps is. sync_left k m0 is.log;
     moment = λ k m0 m keeps is. sync_moment k m0 m is.log;
   }
 
@@ -160,8 +160,7 @@ module _ (d d1 : DeviceState) (v : LogMemory) (version number : ℕ) (lawful : I
 
     module _ (k : CheckpointValue) (m0 m : LogMap) (held : IsAcknowledged d v version number k m0 m) where
       running : Running d1 (blocks_of v.dirty) (tables_of v) k m0 m 1024 None
-      running = as_chunk d1 (blocks_of v.dirty) (tables_of v) k m0 m (segment_in v.chunk) 1024 (chunk_in v.chunk) None
-          (closed_segment v.chunk no_chunk) (closed_chunk v.chunk no_chunk) (synced k m0 m held.log).running
+      running = as_chunk (closed_segment v.chunk no_chunk) (closed_chunk v.chunk no_chunk) (synced k m0 m held.log).running
 
       log : Running d (blocks_of v.dirty) (tables_of v) k m0 m (segment_in v.chunk) (chunk_in v.chunk)
       log = held.log.running
@@ -185,18 +184,18 @@ module _ (d d1 : DeviceState) (v : LogMemory) (version number : ℕ) (lawful : I
       }
 
       many : ManyClean (tables_of v) k.segments
-      many = many_clean v.usage k.segments held.log.segments out.many
+      many = many_clean v.usage held.log.segments out.many
 
       leads : LeadsTo (tables_of v) m.version k next
       leads = record {
         number = is.number ∙ ap (λ (n : ℕ). n + 1) (sym held.same);
         segments = is.segments ∙ held.log.segments;
         same = is.same_version ∙ sym held.same_version;
-        map = array_is next.map 32 (block_in v.map) is.fits.map_length is.map
+        map = array_is next.map 32 is.fits.map_length is.map
             (λ j ge. let at = running.tables.at (Map j) refl in
-            sym at ∙ map_past d1.content m running.memory 1024 j running.laid (λ one. out.maps j (sym at ∙ one)) ge);
-        usage = array_is next.usage 16 (address_of v.usage) is.fits.usage_length is.usage
-            (λ j ge. sym (running.tables.at (Usage j) refl) ∙ usage_past d1.content m running.memory 1024 j running.laid ge);
+            sym at ∙ map_past m running.memory j running.laid (λ one. out.maps j (sym at ∙ one)) ge);
+        usage = array_is next.usage 16 is.fits.usage_length is.usage
+            (λ j ge. sym (running.tables.at (Usage j) refl) ∙ usage_past m running.memory j running.laid ge);
       }
 
       planned : IsPlanned k d1.content (next.number % 2) (checkpoint_sector next) next (dropped m)
@@ -212,18 +211,18 @@ module _ (d d1 : DeviceState) (v : LogMemory) (version number : ℕ) (lawful : I
 
       either : d2.keeps_model → LeavesOnly d d2 (StandsForOn k.segments m0 (dropped m))
       either keeps =
-          joined d d1 d2 (StandsForOn k.segments m0 (dropped m)) (ComesFrom d1 (MayWrite (next.number % 2) (checkpoint_sector next)))
+          joined (StandsForOn k.segments m0 (dropped m)) (ComesFrom d1 (MayWrite (next.number % 2) (checkpoint_sector next)))
           (StandsForOn k.segments m0 (dropped m)) (sync_moment k m0 m held.log) moment (λ c s. s) (torn keeps)
 
     pub replace_fails : d1.failures < d2.failures → PublishFails d d2 v version number
     replace_fails failed = record {
-      carries = carries_then d d1 d2 carries more;
+      carries = carries_then carries more;
       failed = omega arith;
       left = λ k m0 m keeps held c l. torn k m0 m held keeps c (left c l);
       moment = λ k m0 m keeps held. either k m0 m held keeps;
     }
 
-    module _ (u : UsageTable) (go : Releases v.usage u) (content : d2.keeps_model
+    module _ {u : UsageTable} (go : Releases v.usage u) (content : d2.keeps_model
         → d2.content ≡ put d1.content (next.number % 2) (checkpoint_sector next)) (durable : d2.keeps_model → Only d2.content d2)
         (same_failures : d2.failures ≡ d1.failures) where
       rested : (k : CheckpointValue) (m0 m : LogMap) → d2.keeps_model → IsAcknowledged d v version number k m0 m
@@ -235,9 +234,7 @@ module _ (d d1 : DeviceState) (v : LogMemory) (version number : ℕ) (lawful : I
           (checkpoint_sector next) (running k m0 m held) (all_out k m0 m held) (many k m0 m held) (leads k m0 m held)
           (omega arith) (content keeps) settled (is_released v u go) in
           record {
-            running = as_chunk d2 (blocks_of v.dirty) (tables_of (record v { usage = u })) next (dropped m) m 1024 (segment_in v.chunk) None
-                (chunk_in v.chunk)
-                (sym (closed_segment v.chunk no_chunk)) (sym (closed_chunk v.chunk no_chunk)) r;
+            running = as_chunk (sym (closed_segment v.chunk no_chunk)) (sym (closed_chunk v.chunk no_chunk)) r;
             hidden = held.log.hidden;
             segments = go.size ∙ sym is.segments;
             tight = held.log.tight;
@@ -245,7 +242,7 @@ module _ (d d1 : DeviceState) (v : LogMemory) (version number : ℕ) (lawful : I
 
       pub published : Publishes d d2 v (record v { usage = u }) version number
       published = record {
-        carries = carries_then d d1 d2 carries more;
+        carries = carries_then carries more;
         memory = released_memory v u go good out.chunk;
         segments = go.size;
         released = go;

@@ -18,8 +18,8 @@ use Rattle.lfs_memory.proofs.Presents.{inode_at, looks_then}
 use Rattle.lfs_log.specs.Relocating.{HasLeft, IsNoBlock, Relocates}
 
 -- ---- one call after the other
-pub relocates_looks : (d d' : DeviceState) (v : LogMemory) → IsMemory v → Looks d d' → Relocates d d' v v
-relocates_looks d d' v memory looks = record {
+pub relocates_looks : {d d' : DeviceState} (v : LogMemory) → IsMemory v → Looks d d' → Relocates d d' v v
+relocates_looks {d} {d'} v memory looks = record {
   looks = looks;
   memory = memory;
   segments = refl;
@@ -27,11 +27,11 @@ relocates_looks d d' v memory looks = record {
   chunk = refl;
   capacity = refl;
   stay = λ x there. there;
-  gathers = gathers_looks d d' v looks;
+  gathers = gathers_looks looks;
 }
 
-pub relocates_of : (d d' : DeviceState) (v v' : LogMemory) (n : ℕ) → Prepares d d' v v' n → Gathers d d' v v' → Relocates d d' v v'
-relocates_of d d' v v' n one gathers = record {
+pub relocates_of : {d d' : DeviceState} {v v' : LogMemory} {n : ℕ} → Prepares d d' v v' n → Gathers d d' v v' → Relocates d d' v v'
+relocates_of one gathers = record {
   looks = one.looks;
   memory = one.memory;
   segments = one.segments;
@@ -42,53 +42,53 @@ relocates_of d d' v v' n one gathers = record {
   gathers = gathers;
 }
 
-pub relocates_then : (a b c : DeviceState) (v v' v'' : LogMemory) → IsLawful a → Relocates a b v v' → Relocates b c v' v''
+pub relocates_then : {a b c : DeviceState} {v v' v'' : LogMemory} → IsLawful a → Relocates a b v v' → Relocates b c v' v''
     → Relocates a c v v''
-relocates_then a b c v v' v'' lawful one two = record {
-  looks = looks_then a b c lawful one.looks two.looks;
+relocates_then {a} {b} {c} {v} {v'} {v''} lawful one two = record {
+  looks = looks_then lawful one.looks two.looks;
   memory = two.memory;
   segments = two.segments ∙ one.segments;
   clean = two.clean ∙ one.clean;
   chunk = two.chunk ∙ one.chunk;
   capacity = two.capacity ∙ one.capacity;
   stay = λ x there. two.stay x (one.stay x there);
-  gathers = gathers_then a b c v v' v'' two.looks.carries.kept_before one.gathers two.gathers;
+  gathers = gathers_then two.looks.carries.kept_before one.gathers two.gathers;
 }
 
-pub relocated_excused : (a b c : DeviceState) (v v' : LogMemory) → Relocates a b v v' → Looks b c → FailsFromDevice b c v'
+pub relocated_excused : (a b c : DeviceState) (v : LogMemory) {v' : LogMemory} → Relocates a b v v' → Looks b c → FailsFromDevice b c v'
     → FailsFromDevice a c v
-relocated_excused a b c v v' one two failed k m0 m keeps is =
+relocated_excused a b c v one two failed k m0 m keeps is =
     let rose = failed k m0 m keeps (one.gathers.traces k m0 m (two.carries.kept_before keeps) is).0 in
     let before = one.looks.carries.failures in
     omega (arith, rose, before)
 
 -- ---- where a block of a file stands
-pub top_inode : (x : Entry) (f : ℕ) → file_of x ≡ Some f → parent x ≡ x → x ≡ Inode f
-top_inode (Data n i) f file top = absurd (data_below n i top)
-top_inode (Leaf n q) f file top = absurd (leaf_below n q top)
-top_inode (Double n) f file top = absurd (double_below n top)
-top_inode (Inode n) f file top = let same : n ≡ f = cc in ap Inode same
-top_inode (Map j) f file top = absurd (cc)
-top_inode (Usage j) f file top = absurd (cc)
+pub top_inode : (x : Entry) {f : ℕ} → file_of x ≡ Some f → parent x ≡ x → x ≡ Inode f
+top_inode (Data n i) file top = absurd (data_below n i top)
+top_inode (Leaf n q) file top = absurd (leaf_below n q top)
+top_inode (Double n) file top = absurd (double_below n top)
+top_inode (Inode n) {f} file top = let same : n ≡ f = cc in ap Inode same
+top_inode (Map j) file top = absurd (cc)
+top_inode (Usage j) file top = absurd (cc)
 
 -- ---- a block that isn't stored
-pub no_inode_there : (d : DeviceState) (v : LogMemory) (x : Entry) (f : ℕ) → file_of x ≡ Some f → parent x ≡ x → address_in v.map f ≡ 0
+pub no_inode_there : (d : DeviceState) (v : LogMemory) (x : Entry) {f : ℕ} → file_of x ≡ Some f → parent x ≡ x → address_in v.map f ≡ 0
     → IsNoBlock d v x
-no_inode_there d v x f file top none k m0 m keeps is = ap is.running.memory.at (top_inode x f file top) ∙ inode_at d v k m0 m is f ∙ none
+no_inode_there d v x {f} file top none k m0 m keeps is = ap is.running.memory.at (top_inode x file top) ∙ inode_at d v k m0 m is f ∙ none
 
-pub no_block_above : (d : DeviceState) (v : LogMemory) (x up : Entry) → up ≡ parent x → IsNoBlock d v up → IsNoBlock d v x
-no_block_above d v x up named none k m0 m keeps is =
+pub no_block_above : (d : DeviceState) (v : LogMemory) (x : Entry) {up : Entry} → up ≡ parent x → IsNoBlock d v up → IsNoBlock d v x
+no_block_above d v x named none k m0 m keeps is =
     (reading d.content m is.running.memory (segment_in v.chunk) is.running.laid).no_pointer x
     (ap is.running.memory.at (sym named) ∙ none k m0 m keeps is)
 
 pub no_pointer_there : (d : DeviceState) (v : LogMemory) (x : Entry) → IsAtAddress (blocks_of v.dirty) (tables_of v) x 0 → IsNoBlock d v x
 no_pointer_there d v x at k m0 m keeps is =
-    address_at d (blocks_of v.dirty) (tables_of v) k m0 m (segment_in v.chunk) (chunk_in v.chunk) x 0 is.running at
+    address_at d k m0 m x 0 is.running at
 
 -- ---- a block that has left its address
-pub elsewhere : (d d' : DeviceState) (v v' : LogMemory) (x : Entry) (there address : ℕ) → AnswersAddress d d' v x there
+pub elsewhere : (d d' : DeviceState) (v v' : LogMemory) (x : Entry) {there address : ℕ} → AnswersAddress d d' v x there
     → (there ≡ address → ⊥) → 2 ≤ address → HasLeft d d' v v' x address
-elsewhere d d' v v' x there address answer ne above k m0 m keeps is is' traces at =
+elsewhere d d' v v' x answer ne above k m0 m keeps is is' traces at =
     ne (sym (answer k m0 m keeps is) ∙ traces x (omega (arith, above, at)) ∙ at)
 
 pub left_inside : (d d' : DeviceState) (v v' : LogMemory) (x : Entry) (address : ℕ) → IsInMemory v' x → 2 ≤ address

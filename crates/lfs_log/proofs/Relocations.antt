@@ -39,7 +39,7 @@ module _ {a b c : DeviceState} {v v' v'' : LogMemory} where
       → EndsLifting b c v' v'' r → EndsLifting a c v v'' r
   lifting_then {r = r} one same looks ends = record {
     full = ends.full;
-    failed = λ is. relocated_excused a b c v v' one looks (ends.failed is);
+    failed = λ is. relocated_excused a b c v one looks (ends.failed is);
     no_failure = ok_then r (c.failures ≡ b.failures) (c.failures ≡ a.failures) (λ next. next ∙ same) ends.no_failure;
   }
 
@@ -47,7 +47,7 @@ module _ {a b c : DeviceState} {v v' v'' : LogMemory} where
   pub bringing_then : {x : Entry} {r : Result Bool LiftFault} → IsLawful a → Relocates a b v v' → b.failures ≡ a.failures
       → EndsBringing b c v' v'' x r → EndsBringing a c v v'' x r
   bringing_then lawful one same two = record {
-    relocates = relocates_then a b c v v' v'' lawful one two.relocates;
+    relocates = relocates_then lawful one two.relocates;
     inside = two.inside;
     none = two.none;
     ends = lifting_then one same two.relocates.looks two.ends;
@@ -57,7 +57,7 @@ module _ {a b c : DeviceState} {v v' v'' : LogMemory} where
 pub bringing_none : (d : DeviceState) (v : LogMemory) (x : Entry) → IsMemory v → IsInMemory v x
     → (let r : Result Bool LiftFault = Ok true in EndsBringing d d v v x r)
 bringing_none d v x memory there = record {
-  relocates = relocates_looks d d v memory (looks_none d);
+  relocates = relocates_looks v memory (looks_none d);
   inside = λ _. there;
   none = λ is. absurd (cc);
   ends = lifting_done refl;
@@ -70,17 +70,17 @@ pub record HasRelocated (d d' : DeviceState) (v v' : LogMemory) (P : ℕ → Typ
   pub came : CameFrom d d' v v' P
   pub no_failure : d'.failures ≡ d.failures
 
-pub relocated_none : (d : DeviceState) (v : LogMemory) (P : ℕ → Type 0) → IsMemory v → HasRelocated d d v v P
-relocated_none d v P memory = record {
-  relocates = relocates_looks d d v memory (looks_none d);
+pub relocated_none : (d : DeviceState) {v : LogMemory} (P : ℕ → Type 0) → IsMemory v → HasRelocated d d v v P
+relocated_none d {v} P memory = record {
+  relocates = relocates_looks v memory (looks_none d);
   came = came_none d d v v P refl;
   no_failure = refl;
 }
 
 -- no block of a file came, and the device wasn't called
-pub relocated_still : (d : DeviceState) (v v' : LogMemory) (P : ℕ → Type 0) → Relocates d d v v' → v'.dirty ≡ v.dirty
+pub relocated_still : {d : DeviceState} {v v' : LogMemory} (P : ℕ → Type 0) → Relocates d d v v' → v'.dirty ≡ v.dirty
     → HasRelocated d d v v' P
-relocated_still d v v' P one same = record { relocates = one; came = came_none d d v v' P same; no_failure = refl }
+relocated_still {d} {v} {v'} P one same = record { relocates = one; came = came_none d d v v' P same; no_failure = refl }
 
 module _ {a b : DeviceState} {v v' : LogMemory} {P : ℕ → Type 0} where
   pub relocating_done : {T : Type 0} {x : T} → HasRelocated a b v v' P → (let r : Result T LiftFault = Ok x in EndsRelocating a b v v' P r)
@@ -117,7 +117,7 @@ module _ {a b c : DeviceState} {v v' : LogMemory} {P : ℕ → Type 0} (lawful :
     relocating_then two =
         let back = two.relocates.looks.carries.kept_before in
         record {
-          relocates = relocates_then a b c v v' v'' lawful one.relocates two.relocates;
+          relocates = relocates_then lawful one.relocates two.relocates;
           came = came_then a b c v v' v'' P one.relocates back one.came two.came;
           misses = λ is. misses_then a b c v v' v'' P one.relocates back (two.misses is);
           ends = lifting_then one.relocates one.no_failure two.relocates.looks two.ends;
@@ -142,7 +142,7 @@ module _ {a b c : DeviceState} {v v' : LogMemory} {P : ℕ → Type 0} (lawful :
   -- the device was only looked at since
   module _ (looks : Looks b c) where
     looked : Relocates a c v v'
-    looked = relocates_then a b c v v' v' lawful one.relocates (relocates_looks b c v' one.relocates.memory looks)
+    looked = relocates_then lawful one.relocates (relocates_looks v' one.relocates.memory looks)
 
     pub relocated_looked : c.failures ≡ b.failures → HasRelocated a c v v' P
     relocated_looked same = record {
@@ -156,16 +156,16 @@ module _ {a b c : DeviceState} {v v' : LogMemory} {P : ℕ → Type 0} (lawful :
     relocating_missed failed = relocating_lost looked (came_looked a b c v v' P looks.carries.kept_before one.came) failed
 
 -- the block that was found at an address comes, with those above it
-module _ (a b c : DeviceState) (v v' : LogMemory) (x : Entry) (there address : ℕ) (file : IsOfFile x)
+module _ {a b c : DeviceState} {v v' : LogMemory} (x : Entry) {there address : ℕ} (file : IsOfFile x)
     (answer : AnswersAddress a b v x there) (same : there ≡ address) (above : 2 ≤ address) (lawful : IsLawful a) (memory : IsMemory v)
     (looks : Looks a b) (no_failure : b.failures ≡ a.failures) where
   pub relocating_brought : {T : Type 0} {r : Result T LiftFault} → Relocates b c v v' → BringsWay v v' x
       → (IsErrOf r fault.Full → LacksOnWay v' x) → EndsLifting b c v v' r → EndsRelocating a c v v' (IsBetween address (address + 1)) r
   relocating_brought next brings lacks ends =
-      let one = relocates_looks a b v memory looks in
+      let one = relocates_looks v memory looks in
       let back = next.looks.carries.kept_before in
       record {
-        relocates = relocates_then a b c v v v' lawful one next;
+        relocates = relocates_then lawful one next;
         came = came_there a b c v v' x there address file answer same above back brings;
         misses = λ is. misses_there a b c v v' x there address file answer same above back next.stay (lacks is);
         ends = lifting_then one no_failure next.looks ends;

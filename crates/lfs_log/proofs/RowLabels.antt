@@ -24,9 +24,9 @@ opened_first : (o : Option (List Entry)) (rest : List Entry → Option Row) → 
 opened_first None rest = refl
 opened_first (Some es) rest = after_first (rest es)
 
-after_label : (e : Entry) (x : Option Row) → HasRow (after (Some e) x) → place_in (after (Some e) x) 0 ≡ Some e
-after_label e None h = let z = h.1 in absurd (cc)
-after_label e (Some row) h = refl
+after_label : {e : Entry} (x : Option Row) → HasRow (after (Some e) x) → place_in (after (Some e) x) 0 ≡ Some e
+after_label None h = let z = h.1 in absurd (cc)
+after_label (Some row) h = refl
 
 rest_row : (e : Option Entry) (x : Option Row) → HasRow (after e x) → HasRow x
 rest_row e None h = let z = h.1 in absurd (cc)
@@ -37,7 +37,7 @@ label_here : (es : List Entry) (ss : List Cell) (d : Entry) (i : ℕ) → HasRow
     → place_in (chunks es ss) i ≡ Some (get_or es i d)
 label_here [] ss d i h lt = absurd (omega arith)
 label_here (e ∷ es) [] d i h lt = let z = h.1 in absurd (cc)
-label_here (e ∷ es) (s ∷ ss) d zero h lt = after_label e (chunks es ss) h
+label_here (e ∷ es) (s ∷ ss) d zero h lt = after_label (chunks es ss) h
 label_here (e ∷ es) (s ∷ ss) d (suc i) h lt = after_next (Some e) (chunks es ss) i
     ∙ label_here es ss d i (rest_row (Some e) (chunks es ss) h) (omega arith)
 
@@ -62,7 +62,7 @@ row_start c used segment h =
       places = λ j. ap (place_in (row_by c used segment)) (zero-add j) ∙ ap (λ (x : Option Row). place_in x j) (sym e);
     }
 
-module _ (c : Content) (used segment at : ℕ) (long : 2 + 64 * segment + used ≤ length c) (lt : at < used)
+module _ {c : Content} {used segment at : ℕ} (long : 2 + 64 * segment + used ≤ length c) (lt : at < used)
     (to : IsRowFrom c used segment at) where
   -- a summary has no label
   pub summary_place : place_in (row_by c used segment) at ≡ None
@@ -72,10 +72,10 @@ module _ (c : Content) (used segment at : ℕ) (long : 2 + 64 * segment + used �
       ∙ ap (λ (x : Option Row). place_in x 0) (opens c used segment at long lt)
       ∙ opened_first (entries_in (bytes_of l)) (λ es. chunks es (behind c used segment at long lt))
 
-  module _ (bytes : List ℕ) (there : block c (2 + 64 * segment + at) ≡ bytes) (bs : List BlockNameValue) (is : Some bs ≡ summary_in bytes)
+  module _ {bytes : List ℕ} (there : block c (2 + 64 * segment + at) ≡ bytes) {bs : List BlockNameValue} (is : Some bs ≡ summary_in bytes)
       (room : at + length bs < used) where
     abbrev known : IsSummaryOf (block c (2 + 64 * segment + at)) (length bs)
-    known = (map entry_of bs, ap entries_in there ∙ entries_some bytes bs is, length-map bs entry_of)
+    known = (map entry_of bs, ap entries_in there ∙ entries_some bytes is, length-map bs entry_of)
 
     opened_row : from c used segment at ≡ after None (chunks (map entry_of bs) (behind c used segment at long lt))
     opened_row = opens_names c used segment at long lt (length bs) known
@@ -118,8 +118,9 @@ module _ (c : Content) (used segment at : ℕ) (long : 2 + 64 * segment + used �
     }
 
 -- behind the used part there is no label
-pub row_end : (c : Content) (used segment : ℕ) → 2 + 64 * segment + used ≤ length c → IsRowFrom c used segment used → (j : ℕ) → used ≤ j
+pub row_end : {c : Content} (used : ℕ) {segment : ℕ} → 2 + 64 * segment + used ≤ length c → IsRowFrom c used segment used → (j : ℕ)
+    → used ≤ j
     → place_in (row_by c used segment) j ≡ None
-row_end c used segment long to j high =
+row_end {c} used {segment} long to j high =
     ap (place_in (row_by c used segment)) (omega arith) ∙ to.places (j - used)
     ∙ ap (λ (x : Option Row). place_in x (j - used)) (end_is c used segment long) ∙ get_or_past [] (j - used) None (omega arith)

@@ -29,9 +29,9 @@ module _ {a b : DeviceState} {v v' : LogMemory} where
       → (let r : Result T DeviceFault = Ok x in EndsSaving a b v v' n p r)
   saving_done one = record { done = one; stopped = tt }
 
-  pub saving_failed : {T : Type 0} {n p : ℕ} (r : Result T DeviceFault) (e : DeviceFault) → IsErr r × IsErrAnd r (λ y. y ≡ e)
+  pub saving_failed : {T : Type 0} {n p : ℕ} {r : Result T DeviceFault} (e : DeviceFault) → IsErr r × IsErrAnd r (λ y. y ≡ e)
       → StopsSaving a b v v' n p → EndsSaving a b v v' n p r
-  saving_failed r e is one = record { done = err_ok r e _ is; stopped = on_err r _ one }
+  saving_failed {r} e is one = record { done = err_ok r e _ is; stopped = on_err r _ one }
 
 -- a step whose last call ends so
 pub saving_from : {T : Type 0} {a b c d : DeviceState} {v v' w w' : LogMemory} {n p l q : ℕ} {r : Result T DeviceFault}
@@ -39,19 +39,19 @@ pub saving_from : {T : Type 0} {a b c d : DeviceState} {v v' w w' : LogMemory} {
     → EndsSaving a b v v' n p r → EndsSaving c d w w' l q r
 saving_from {r = r} go stop ends = record { done = ok_then r _ _ go ends.done; stopped = err_then r _ _ stop ends.stopped }
 
-pub saves_none : (d : DeviceState) (v : LogMemory) → IsLawful d → IsMemory v → SavesBlocks d d v v 0 0
-saves_none d v lawful memory = record { goes = goes_none d v lawful memory; tells = omega arith }
+pub saves_none : {d : DeviceState} {v : LogMemory} → IsLawful d → IsMemory v → SavesBlocks d d v v 0 0
+saves_none {d} {v} lawful memory = record { goes = goes_none v lawful memory; tells = omega arith }
 
 module _ {a b c : DeviceState} {v v' v'' : LogMemory} {n p l q : ℕ} where
   pub saves_then : SavesBlocks a b v v' n p → SavesBlocks b c v' v'' l q → SavesBlocks a c v v'' (n + l) (p + q)
   saves_then one two = record {
-    goes = goes_then 62 62 a b c v v' v'' n l one.goes two.goes;
+    goes = goes_then one.goes two.goes;
     tells = let x = one.tells in let y = two.tells in omega (arith, x, y);
   }
 
   pub stops_behind : SavesBlocks a b v v' n p → StopsSaving b c v' v'' l q → StopsSaving a c v v'' (n + l) (p + q)
   stops_behind one two = record {
-    stops = stops_then 62 a b c v v' n one.goes two.stops;
+    stops = stops_then one.goes two.stops;
     room = let x = one.goes.room in let y = two.room in omega (arith, x, y);
     tells = let x = one.tells in let y = two.tells in omega (arith, x, y);
   }
@@ -70,13 +70,13 @@ module _ {a b : DeviceState} {v v' : LogMemory} where
 module _ {a b c : DeviceState} {v v' v'' : LogMemory} where
   pub sealed_then : GoesUpTo 63 a b v v' 1 → orders_due b v' ≤ orders_due a v + 1 → SavesBlocks b c v' v'' 0 0 → SavesBlocks a c v v'' 1 1
   sealed_then one told two = record {
-    goes = goes_then 63 62 a b c v v' v'' 1 0 one two.goes;
+    goes = goes_then one two.goes;
     tells = let x = two.tells in omega (arith, told, x);
   }
 
   pub stops_sealing : GoesUpTo 63 a b v v' 1 → orders_due b v' ≤ orders_due a v + 1 → StopsSaving b c v' v'' 0 0 → StopsSaving a c v v'' 1 1
   stops_sealing one told two = record {
-    stops = stops_then 63 a b c v v' 1 one two.stops;
+    stops = stops_then one two.stops;
     room = let x = one.room in let y = two.room in omega (arith, x, y);
     tells = let x = two.tells in omega (arith, told, x);
   }

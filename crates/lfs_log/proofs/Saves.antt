@@ -44,12 +44,14 @@ pub many_spare : (v v' : LogMemory) (blocks : ℕ) → length v'.usage.segments 
     → length v'.usage.segments ≤ 8 * spare_in v'.usage.segments
 many_spare v v' blocks size stay spare taken =
     let there = spare_there v'.usage in
-    let more = emptied_stay v.usage v'.usage size stay in
+    let more = emptied_stay size stay in
     omega (arith, size, spare, taken, there, more)
 
-acknowledged_on : (a b : DeviceState) (v v' : LogMemory) (n version number : ℕ) → Goes a b v v' n → b.keeps_model
-    → (k : CheckpointValue) (m0 m : LogMap) → IsAcknowledged a v version number k m0 m → IsAcknowledged b v' version number k m0 m
-acknowledged_on a b v v' n version number goes keeps k m0 m is =
+acknowledged_on : {a : DeviceState} (b : DeviceState) {v : LogMemory} (v' : LogMemory) (n : ℕ) {version number : ℕ} → Goes a b v v' n
+    → b.keeps_model
+    → (k : CheckpointValue) {m0 : LogMap} (m : LogMap) → IsAcknowledged a v version number k m0 m
+    → IsAcknowledged b v' version number k m0 m
+acknowledged_on b v' n goes keeps k {m0} m is =
     record { log = goes.log k m0 m keeps is.log; map = is.map; same = is.same; same_version = is.same_version }
 
 either_then : (a b c : DeviceState) (v v' : LogMemory) (n version number : ℕ) → Goes a b v v' n → (c.keeps_model → b.keeps_model)
@@ -57,40 +59,41 @@ either_then : (a b c : DeviceState) (v v' : LogMemory) (n version number : ℕ) 
 either_then a b c v v' n version number goes back moment k m0 m keeps is =
     let P : Content → Type 0 = λ x. StandsOn k.segments x m0 in
     let Q : Content → Type 0 = StandsForOn k.segments m0 (dropped m) in
-    joined a b c P Q Q (goes.quiet k m0 m (back keeps) is.log)
-    (moment k m0 m keeps (acknowledged_on a b v v' n version number goes (back keeps) k m0 m is)) (λ x h. inl h) (λ x h. h)
+    joined P Q Q (goes.quiet k m0 m (back keeps) is.log)
+    (moment k m0 m keeps (acknowledged_on b v' n goes (back keeps) k m is)) (λ x h. inl h) (λ x h. h)
 
-pub out_stops : (d d' : DeviceState) (v : LogMemory) (version number : ℕ)
+pub out_stops : {d d' : DeviceState} {v : LogMemory} (version number : ℕ)
     → length d'.told + 3 ≤ length d.told + orders_for (length v.dirty.blocks) → Stops d d' v → CommitFails d d' v version number
-out_stops d d' v version number told stops = record {
+out_stops {d} {d'} version number told stops = record {
   carries = stops.carries;
   cause = stops.cause;
   left = λ k m0 m keeps is c left. inl (settled_stands d' k m0 (stops.settled k m0 m keeps is.log) c left);
   moment = λ k m0 m keeps is.
-      weaker d d' (λ x. StandsOn k.segments x m0) (StandsForOn k.segments m0 (dropped m)) (λ x h. inl h) (stops.quiet k m0 m keeps is.log);
+      weaker (λ x. StandsOn k.segments x m0) (StandsForOn k.segments m0 (dropped m)) (λ x h. inl h) (stops.quiet k m0 m keeps is.log);
   told = omega (arith, told);
 }
 
-pub publish_fails : (a b c : DeviceState) (v v' : LogMemory) (n version number : ℕ) → Goes a b v v' n
+pub publish_fails : (a : DeviceState) {b c : DeviceState} (v : LogMemory) {v' : LogMemory} (n : ℕ) {version number : ℕ} → Goes a b v v' n
     → length b.told + 3 ≤ length a.told + orders_for (length v.dirty.blocks) → length c.told ≤ length b.told + 3
     → PublishFails b c v' version number → CommitFails a c v version number
-publish_fails a b c v v' n version number goes told more fails = record {
-  carries = carries_then a b c goes.carries fails.carries;
+publish_fails a {b} {c} v {v'} n {version} {number} goes told more fails = record {
+  carries = carries_then goes.carries fails.carries;
   cause = λ k m0 m keeps is. (let worse = fails.failed in let same = goes.no_failure in omega (arith, worse, same));
   left = λ k m0 m keeps is.
-      fails.left k m0 m keeps (acknowledged_on a b v v' n version number goes (fails.carries.kept_before keeps) k m0 m is);
+      fails.left k m0 m keeps (acknowledged_on b v' n goes (fails.carries.kept_before keeps) k m is);
   moment = either_then a b c v v' n version number goes fails.carries.kept_before fails.moment;
   told = omega (arith, told, more);
 }
 
-pub commits : (a b c : DeviceState) (v v' v'' : LogMemory) (n version number : ℕ) → Goes a b v v' n → Publishes b c v' v'' version number
+pub commits : {a b c : DeviceState} {v v' v'' : LogMemory} (n : ℕ) {version number : ℕ} → Goes a b v v' n
+    → Publishes b c v' v'' version number
     → clean_in v.usage.segments ≤ clean_in v'.usage.segments + segments_for (length v.dirty.blocks)
     → length v.usage.segments + 8 * segments_for (length v.dirty.blocks) ≤ 8 * (clean_in v.usage.segments + emptied_in v.usage.segments)
     → v''.chunk.names ≡ [] → v''.dirty.blocks ≡ [] → v''.dirty.capacity ≡ v.dirty.capacity
     → length b.told + 3 ≤ length a.told + orders_for (length v.dirty.blocks) → length c.told ≤ length b.told + 3
     → CommitsAll a c v v'' version number
-commits a b c v v' v'' n version number goes done taken spare chunk dirty capacity told more = record {
-  carries = carries_then a b c goes.carries done.carries;
+commits {a} {b} {c} {v} {v'} {v''} n {version} {number} goes done taken spare chunk dirty capacity told more = record {
+  carries = carries_then goes.carries done.carries;
   memory = done.memory;
   chunk = chunk;
   dirty = dirty;
@@ -100,16 +103,16 @@ commits a b c v v' v'' n version number goes done taken spare chunk dirty capaci
   segments = done.segments ∙ goes.segments;
   gains = gains;
   many = let size = done.segments ∙ goes.segments in omega (arith, size, spare, gains);
-  cleaned = λ s is. emptied_clean v'.usage v''.usage s done.released (goes.emptied s is);
+  cleaned = λ s is. emptied_clean s done.released (goes.emptied s is);
   no_failure = done.no_failure ∙ goes.no_failure;
   log = λ k m0 m keeps is.
-      done.log k m0 m keeps (acknowledged_on a b v v' n version number goes (done.carries.kept_before keeps) k m0 m is);
+      done.log k m0 m keeps (acknowledged_on b v' n goes (done.carries.kept_before keeps) k m is);
   moment = either_then a b c v v' n version number goes done.carries.kept_before done.moment;
   told = omega (arith, told, more);
 }
   where
     gains : clean_in v.usage.segments + emptied_in v.usage.segments ≤ clean_in v''.usage.segments + segments_for (length v.dirty.blocks)
     gains =
-        let given = emptied_given v'.usage v''.usage done.released in
-        let more = emptied_stay v.usage v'.usage goes.segments goes.emptied in
+        let given = emptied_given done.released in
+        let more = emptied_stay goes.segments goes.emptied in
         omega (arith, given, more, taken)

@@ -16,7 +16,7 @@ use Rattle.lfs_memory.specs.Memory.{IsMemory, IsMemoryUpTo, IsLog, Goes, Stops, 
 use Rattle.lfs_memory.proofs.Opened.{closed_segment, closed_chunk, as_chunk, is_open, stays_settled, stays_quiet, taken_free}
 use Rattle.lfs_memory.proofs.Rooms.{room_none}
 
-module _ (d d' : DeviceState) (v : LogMemory) (memory : IsMemoryUpTo 63 v) (some : 0 < length v.chunk.names) (lawful : IsLawful d)
+module _ {d d' : DeviceState} {v : LogMemory} (memory : IsMemoryUpTo 63 v) (some : 0 < length v.chunk.names) (lawful : IsLawful d)
     (spelt : entries_in (summary_sector v.chunk.names) ≡ Some (entries_of v.chunk))
     (crash : CrashWrites (2 + 64 * v.chunk.segment + v.chunk.start) (summary_sector v.chunk.names) d d') (carries : Carries d d')
     (time : Elapses d d') where
@@ -25,21 +25,20 @@ module _ (d d' : DeviceState) (v : LogMemory) (memory : IsMemoryUpTo 63 v) (some
 
   free : (k : CheckpointValue) (m0 m : LogMap) → IsLog d v k m0 m → IsFreeSector d.content k at
   free k m0 m is =
-      let w = is_open d v k m0 m is some in
+      let w = is_open is some in
       let o = memory.opened some in
       let short = memory.short some in
       let inside : v.chunk.segment < k.segments = let i = o.inside in let e = is.segments in omega (arith, i, e) in
-      taken_free d (blocks_of v.dirty) (tables_of v) k m0 m v.chunk.segment (Some (entries_of v.chunk)) w v.chunk.segment v.chunk.start
-      inside o.free (omega (arith, short))
+      taken_free w v.chunk.segment v.chunk.start inside o.free (omega (arith, short))
 
   module _ (may : d'.keeps_model → MayWrite at (summary_sector v.chunk.names) d.content d'.content) where
     pub settled_sealed : (k : CheckpointValue) (m0 m : LogMap) → d'.keeps_model → IsLog d v k m0 m → IsSettled d' k m0
     settled_sealed k m0 m keeps is =
-        stays_settled d d' k m0 at (summary_sector v.chunk.names) is.running.settled (free k m0 m is) (may keeps) crash
+        stays_settled m0 at (summary_sector v.chunk.names) is.running.settled (free k m0 m is) (may keeps) crash
 
     pub quiet_sealed : Quiet d d' v
     quiet_sealed k m0 m keeps is =
-        stays_quiet d d' k m0 at (summary_sector v.chunk.names) is.running.settled (free k m0 m is) (may keeps) crash lawful carries time
+        stays_quiet m0 at (summary_sector v.chunk.names) is.running.settled (free k m0 m is) (may keeps) crash lawful carries time
 
   pub seal_stops : (d'.keeps_model → MayWrite at (summary_sector v.chunk.names) d.content d'.content) → d.failures < d'.failures
       → Stops d d' v
@@ -65,10 +64,9 @@ module _ (d d' : DeviceState) (v : LogMemory) (memory : IsMemoryUpTo 63 v) (some
         let used = (memory.opened some).used in
         let w = closing d d' (blocks_of v.dirty) (tables_of v) k m0 m v.chunk.segment v.chunk.start (entries_of v.chunk)
         (summary_sector v.chunk.names) 1024
-        (is_open d v k m0 m is some) (omega (arith, long, used)) spelt (record { content = is_put keeps; crash = crash }) few in
+        (is_open is some) (omega (arith, long, used)) spelt (record { content = is_put keeps; crash = crash }) few in
         record {
-          running = as_chunk d' (blocks_of v.dirty) (tables_of v) k m0 m 1024 (segment_in c) None (chunk_in c) (sym (closed_segment c none))
-              (sym (closed_chunk c none)) w;
+          running = as_chunk (sym (closed_segment c none)) (sym (closed_chunk c none)) w;
           hidden = is.hidden;
           segments = is.segments;
           tight = is.tight;
@@ -93,8 +91,8 @@ module _ (d d' : DeviceState) (v : LogMemory) (memory : IsMemoryUpTo 63 v) (some
     }
 
 -- a chunk that isn't full
-pub not_full : (v : LogMemory) → IsMemoryUpTo 63 v → (v.chunk.start + length v.chunk.names ≡ 63 → ⊥) → IsMemory v
-not_full v memory room = record {
+pub not_full : {v : LogMemory} → IsMemoryUpTo 63 v → (v.chunk.start + length v.chunk.names ≡ 63 → ⊥) → IsMemory v
+not_full memory room = record {
   count = memory.count;
   opened = memory.opened;
   short = λ some. let s = memory.short some in let ne = room in omega (arith, s, ne);

@@ -41,9 +41,9 @@ and_none b true is = no b
     no false = refl
 and_none b false is = absurd (cc)
 
-and_same : (b c : Bool) → c ≡ false → (b && not c) ≡ b
-and_same b true is = absurd (cc)
-and_same b false is = yes b
+and_same : {b : Bool} (c : Bool) → c ≡ false → (b && not c) ≡ b
+and_same true is = absurd (cc)
+and_same {b} false is = yes b
   where
     yes : (b : Bool) → (b && true) ≡ b
     yes true = refl
@@ -53,10 +53,10 @@ but_own : (p : Entry → Bool) (x : Entry) → but p x x ≡ false
 but_own p x = and_none (p x) (is_left (same_entry x x)) (left_is (same_entry x x) (λ ne. ne refl))
 
 but_other : (p : Entry → Bool) (x y : Entry) → (y ≡ x → ⊥) → but p x y ≡ p y
-but_other p x y ne = and_same (p y) (is_left (same_entry y x)) (right_is (same_entry y x) ne)
+but_other p x y ne = and_same (is_left (same_entry y x)) (right_is (same_entry y x) ne)
 
 -- ---- counts over some segments
-module _ (e : Content) (m : LogMap) (M : Memory) (opened_at : ℕ) (laid : IsLaid e m M opened_at) where
+module _ {e : Content} (m : LogMap) {M : Memory} {opened_at : ℕ} (laid : IsLaid e m M opened_at) where
   one_less : (p : Entry → Bool) (x : Entry) → p x ≡ true → 2 ≤ M.at x → (vs : List ℕ)
       → (IsIn vs (segment_of (M.at x)) → sum_by (count_of (but p x) M) vs + 1 ≤ sum_by (count_of p M) vs)
       × (sum_by (count_of (but p x) M) vs ≤ sum_by (count_of p M) vs)

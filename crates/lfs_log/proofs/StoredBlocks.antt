@@ -25,7 +25,7 @@ use Rattle.lfs_log.specs.LogState.{TellsBlock, TellsLeaf, TellsDouble, CountsBlo
 use Rattle.lfs_log.specs.Held.{Held, seen}
 
 -- ---- where memory and device hold a log map
-module _ (d : DeviceState) (v : LogMemory) (k : CheckpointValue) (m0 m : LogMap) (is : IsLoose d v k m0 m) where
+module _ {d : DeviceState} {v : LogMemory} (k : CheckpointValue) (m0 m : LogMap) (is : IsLoose d v k m0 m) where
   abbrev M : Memory
   M = is.running.memory
 
@@ -57,8 +57,8 @@ module _ (d : DeviceState) (v : LogMemory) (k : CheckpointValue) (m0 m : LogMap)
       ∙ ap (Leaf n) same in
       subst (λ (x : Entry). 0 < M.at x) up (laid.down (Data n (112 + 128 * q + has.0)) ((laid.blocks n (112 + 128 * q + has.0)).0 has.2))
 
-  pub leaf_test : IsTight (blocks_of v.dirty) → (n q a : ℕ) → M.at (Leaf n q) ≡ a → has_leaf m n q ≡ not (a == 0)
-  leaf_test tight n q a at =
+  pub leaf_test : IsTight (blocks_of v.dirty) → (n q : ℕ) {a : ℕ} → M.at (Leaf n q) ≡ a → has_leaf m n q ≡ not (a == 0)
+  leaf_test tight n q {a} at =
       let test = (leaf_tests m n).0 q in
       same_tests (has_leaf m n q) (not (a == 0))
       (λ on. let some = has_leaf_at n q (test.0 on) in test_some a (omega (arith, some, at)))
@@ -84,8 +84,8 @@ module _ (d : DeviceState) (v : LogMemory) (k : CheckpointValue) (m0 m : LogMap)
   has_double_at : (n : ℕ) → HasDouble m n → 0 < M.at (Double n)
   has_double_at n has = laid.down (Leaf n (suc has.0)) (has_leaf_at n (suc has.0) has.2)
 
-  pub double_test : IsTight (blocks_of v.dirty) → (n a : ℕ) → M.at (Double n) ≡ a → has_double m n ≡ not (a == 0)
-  double_test tight n a at =
+  pub double_test : IsTight (blocks_of v.dirty) → (n : ℕ) {a : ℕ} → M.at (Double n) ≡ a → has_double m n ≡ not (a == 0)
+  double_test tight n {a} at =
       let test = (leaf_tests m n).1 in
       same_tests (has_double m n) (not (a == 0))
       (λ on. let some = has_double_at n (test.0 on) in test_some a (omega (arith, some, at)))
@@ -95,18 +95,18 @@ module _ (d : DeviceState) (v : LogMemory) (k : CheckpointValue) (m0 m : LogMap)
 module _ {D : Type 0} (state : D → DeviceState) where
   pub tells_block : (h h' : Held D) (n i address : ℕ) → AnswersAddress (state h.device) (state h'.device) h.memory (Data n i) address
       → TellsBlock state (seen h) (seen h') n i (not (address == 0))
-  tells_block h h' n i address answers k m0 m keeps is = block_test (state h.device) h.memory k m0 m
-      (loose (state h.device) h.memory k m0 m is.log) n i address (answers k m0 m keeps (loose (state h.device) h.memory k m0 m is.log))
+  tells_block h h' n i address answers k m0 m keeps is = block_test m
+      (loose (state h.device) h.memory k m0 m is.log) n i (answers k m0 m keeps (loose (state h.device) h.memory k m0 m is.log))
 
   pub tells_leaf : (h h' : Held D) (n q address : ℕ) → AnswersAddress (state h.device) (state h'.device) h.memory (Leaf n q) address
       → TellsLeaf state (seen h) (seen h') n q (not (address == 0))
-  tells_leaf h h' n q address answers k m0 m keeps is = leaf_test (state h.device) h.memory k m0 m (loose (state h.device) h.memory k m0 m
-      is.log) is.log.tight n q address (answers k m0 m keeps (loose (state h.device) h.memory k m0 m is.log))
+  tells_leaf h h' n q address answers k m0 m keeps is = leaf_test k m0 m (loose (state h.device) h.memory k m0 m
+      is.log) is.log.tight n q (answers k m0 m keeps (loose (state h.device) h.memory k m0 m is.log))
 
   pub tells_double : (h h' : Held D) (n address : ℕ) → AnswersAddress (state h.device) (state h'.device) h.memory (Double n) address
       → TellsDouble state (seen h) (seen h') n (not (address == 0))
-  tells_double h h' n address answers k m0 m keeps is = double_test (state h.device) h.memory k m0 m (loose (state h.device) h.memory k m0 m
-      is.log) is.log.tight n address (answers k m0 m keeps (loose (state h.device) h.memory k m0 m is.log))
+  tells_double h h' n address answers k m0 m keeps is = double_test k m0 m (loose (state h.device) h.memory k m0 m
+      is.log) is.log.tight n (answers k m0 m keeps (loose (state h.device) h.memory k m0 m is.log))
 
   pub counts_blocks : (h h' : Held D) (n from to count : ℕ) → AnswersCount (state h.device) (state h'.device) h.memory n from to count
       → CountsBlocks state (seen h) (seen h') n from to count

@@ -30,19 +30,19 @@ use Rattle.lfs_memory.proofs.Stales.{stays_stale}
 use Rattle.lfs_log.specs.Relocating.{IsUsageLost, Relocates, UsageLeavesIn}
 use Rattle.lfs_log.proofs.Relocated.{relocates_looks, relocates_of}
 
-pub map_relocates : (d : DeviceState) (v v' : LogMemory) (j : ℕ) → IsLawful d → IsMemory v → (v' ≡ v) ⊎ MapLifts v v' j → Relocates d d v v'
-map_relocates d v v' j lawful memory go = relocates_of d d v v' 0 (map_of_prepares d v v' j lawful memory go) (map_of_gathers d v v' j go)
+pub map_relocates : {d : DeviceState} {v v' : LogMemory} {j : ℕ} → IsLawful d → IsMemory v → (v' ≡ v) ⊎ MapLifts v v' j → Relocates d d v v'
+map_relocates {d} {v} {v'} {j} lawful memory go = relocates_of (map_of_prepares lawful memory go) (map_of_gathers d go)
 
-pub map_dirty : (v v' : LogMemory) (j : ℕ) → (v' ≡ v) ⊎ MapLifts v v' j → v'.dirty ≡ v.dirty
-map_dirty v v' j go = ⊎_elim (λ (same : v' ≡ v). ap (λ (v : LogMemory). v.dirty) same) (λ (lifts : MapLifts v v' j). lifts.dirty) go
+pub map_dirty : {v v' : LogMemory} {j : ℕ} → (v' ≡ v) ⊎ MapLifts v v' j → v'.dirty ≡ v.dirty
+map_dirty {v} {v'} {j} go = ⊎_elim (λ (same : v' ≡ v). ap (λ (v : LogMemory). v.dirty) same) (λ (lifts : MapLifts v v' j). lifts.dirty) go
 
-pub usage_dirty : (v v' : LogMemory) (j : ℕ) → (v' ≡ v) ⊎ UsageLeavesIn v v' j → v'.dirty ≡ v.dirty
-usage_dirty v v' j go =
+pub usage_dirty : {v v' : LogMemory} {j : ℕ} → (v' ≡ v) ⊎ UsageLeavesIn v v' j → v'.dirty ≡ v.dirty
+usage_dirty {v} {v'} {j} go =
     ⊎_elim (λ (same : v' ≡ v). ap (λ (v : LogMemory). v.dirty) same) (λ (leaves : UsageLeavesIn v v' j). leaves.dirty) go
 
 -- ---- a usage block
-pub usage_lost : (d : DeviceState) (v : LogMemory) (j : ℕ) → IsUsageLost v j → FailsFromDevice d d v
-usage_lost d v j gone k m0 m keeps is = absurd (gone.lost (record {
+pub usage_lost : (d : DeviceState) {v : LogMemory} {j : ℕ} → IsUsageLost v j → FailsFromDevice d d v
+usage_lost d {v} {j} gone k m0 m keeps is = absurd (gone.lost (record {
   above = gone.above;
   inside = let s = at in let w = is.running.laid.within (Usage j) there in let n = is.running.segments in let l = is.segments in
       let up = gone.above in omega (arith, s, w, n, l, up);
@@ -81,9 +81,7 @@ module _ (v v' : LogMemory) (j : ℕ) (go : UsageLeavesIn v v' j) where
   stale_still : (i : ℕ) → stale_of v.usage i ≡ true → stale_of v'.usage i ≡ true
   stale_still i on = ⊎_elim
       (λ (here : i ≡ j). ap (stale_of v'.usage) here ∙ go.usage.puts.stale.own)
-      (λ (ne : i ≡ j → ⊥). go.usage.puts.stale.others i ne
-      ∙ stays_stale v.usage go.usage.lifted (segment_of (address_of v.usage j) / 64) i go.usage.lifts.blocks on)
-      (cases_eq i j)
+      (λ (ne : i ≡ j → ⊥). go.usage.puts.stale.others i ne ∙ stays_stale i go.usage.lifts.blocks on) (cases_eq i j)
 
   address_other : (i : ℕ) → (i ≡ j → ⊥) → address_of v'.usage i ≡ address_of v.usage i
   address_other i ne = go.usage.puts.address.others i ne ∙ go.usage.lifts.blocks.address i
@@ -171,8 +169,8 @@ module _ (v v' : LogMemory) (j : ℕ) (go : UsageLeavesIn v v' j) where
     marked_tables : IsTables marked m w.memory
     marked_tables = record { at = w.tables.at; used = w.tables.used; live = w.tables.live; held = w.tables.held }
 
-    marked_spells : (i : ℕ) (bytes : List ℕ) → SpellsUsage (tables_of v) i bytes → SpellsUsage marked i bytes
-    marked_spells i bytes s = record { long = s.long; used = s.used; live = s.live; age = s.age }
+    marked_spells : (i : ℕ) {bytes : List ℕ} → SpellsUsage (tables_of v) i bytes → SpellsUsage marked i bytes
+    marked_spells i s = record { long = s.long; used = s.used; live = s.live; age = s.age }
 
     never_marked : (i : ℕ) → marked.stale i ≡ false → stale_of v.usage i ≡ false
     never_marked i off = ⊎_elim
@@ -183,10 +181,8 @@ module _ (v v' : LogMemory) (j : ℕ) (go : UsageLeavesIn v v' j) where
     gone : (w' : Running d (blocks_of v.dirty) (tables_of v') k m0 m (segment_in v.chunk) (chunk_in v.chunk)) × HasTraces w.memory w'.memory
     unfolding left_memory taken_memory
     gone =
-        let p = left_taken d (blocks_of v.dirty) (tables_of v) (tables_of v') k m0 m (segment_in v.chunk) (chunk_in v.chunk) w (Usage j)
-        (usage_table j) 1 (omega arith) in
-        let next = left_memory d (blocks_of v.dirty) (tables_of v) (tables_of v') k m0 m (segment_in v.chunk) (chunk_in v.chunk) w (Usage j)
-        (usage_table j) 1 (omega arith) in
+        let p = left_taken d (tables_of v') k m w (Usage j) (usage_table j) 1 (omega arith) in
+        let next = left_memory d (tables_of v') k m w (Usage j) (usage_table j) 1 (omega arith) in
         let there = was_there in
         let go_now = lifts_now m in (
           record {
@@ -194,25 +190,23 @@ module _ (v v' : LogMemory) (j : ℕ) (go : UsageLeavesIn v v' j) where
             laid = usage_lifting d.content m w.memory (segment_in v.chunk) j next w.laid (record { taken = p; was = there; bytes = refl });
             segments = w.segments;
             settled = w.settled;
-            cached = left_cached d (blocks_of v.dirty) (tables_of v) (tables_of v') k m0 m (segment_in v.chunk) (chunk_in v.chunk) w
-                (Usage j) (usage_table j) 1 (omega arith);
+            cached = left_cached d (tables_of v') k m w (Usage j) (usage_table j) 1 (omega arith);
             tables =
                 lifted_tables d.content m w.memory (segment_in v.chunk) (Usage j) 1 next marked (tables_of v') w.laid there p marked_tables
                 (subst (λ (a : ℕ). IsLifted m marked (tables_of v') (Usage j) 1 (segment_of a)) (sym same) go_now);
             fresh = λ i off low.
-                let no = lifted_fresh m marked (tables_of v') (Usage j) 1 (segment_of (address_of v.usage j)) go_now i off in
-                no.1 (w.memory.bytes (Usage i)) (marked_spells i (w.memory.bytes (Usage i)) (w.fresh i (never_marked i no.0) low));
+                let no = lifted_fresh m marked (tables_of v') (Usage j) 1 go_now i off in
+                no.1 (w.memory.bytes (Usage i)) (marked_spells i (w.fresh i (never_marked i no.0) low));
             part = part_same (tables_of v) (tables_of v') go_now.used go_now.kept w.part;
             kept = kept_same d.content k (tables_of v) (tables_of v') go_now.kept w.kept;
-            opened = still_open d (blocks_of v.dirty) (tables_of v) (tables_of v') k m0 m (segment_in v.chunk) (chunk_in v.chunk) w
-                (Usage j) (usage_table j) 1 (omega arith) (chunk_in v.chunk) w.opened go_now.kept;
+            opened = still_open d (tables_of v') k m w (Usage j) (usage_table j) 1 (omega arith) (chunk_in v.chunk) w.opened go_now.kept;
           },
-          taken_traced w.memory (Usage j) next p,
+          taken_traced w.memory next p,
         )
 
     usage_traced : (is' : IsLoose d v' k m0 m) × HasTraces is.running.memory is'.running.memory
-    usage_traced = loose_traced d v v' k m0 m is go.chunk (ap (λ (m : MapValue). m.hidden) go.map) size
-        (subst (λ (t : TableValue). TracedIn d v v' k m0 m is (blocks_of t) v.chunk) (sym go.dirty) gone)
+    usage_traced = loose_traced v' is go.chunk (ap (λ (m : MapValue). m.hidden) go.map) size
+        (subst (λ (t : TableValue). TracedIn v' is (blocks_of t) v.chunk) (sym go.dirty) gone)
 
   usage_gone : (d : DeviceState) → IsMemory v → Relocates d d v v'
   usage_gone d memory = record {
@@ -230,8 +224,8 @@ module _ (v v' : LogMemory) (j : ℕ) (go : UsageLeavesIn v v' j) where
     };
   }
 
-pub usage_relocates : (d : DeviceState) (v v' : LogMemory) (j : ℕ) → IsMemory v → (v' ≡ v) ⊎ UsageLeavesIn v v' j → Relocates d d v v'
-usage_relocates d v v' j memory go = ⊎_elim
-    (λ (same : v' ≡ v). subst (λ (w : LogMemory). Relocates d d v w) (sym same) (relocates_looks d d v memory (looks_none d)))
+pub usage_relocates : (d : DeviceState) {v v' : LogMemory} {j : ℕ} → IsMemory v → (v' ≡ v) ⊎ UsageLeavesIn v v' j → Relocates d d v v'
+usage_relocates d {v} {v'} {j} memory go = ⊎_elim
+    (λ (same : v' ≡ v). subst (λ (w : LogMemory). Relocates d d v w) (sym same) (relocates_looks v memory (looks_none d)))
     (λ (leaves : UsageLeavesIn v v' j). usage_gone v v' j leaves d memory)
     go

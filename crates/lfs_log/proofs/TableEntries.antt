@@ -45,13 +45,12 @@ numbers_apart (e ∷ es) sorted = (
   numbers_apart es (T_right (below_all nat_cmp e.0 es) _ sorted),
 )
 
-found_in : (es : Blocks) (c : ℕ) (b : List ℕ) → find nat_cmp c es ≡ Some b → IsIn (numbers es) c
+found_in : (es : Blocks) (c : ℕ) {b : List ℕ} → find nat_cmp c es ≡ Some b → IsIn (numbers es) c
 unfolding numbers
-found_in [] c b found = absurd (cc)
-found_in (e ∷ es) c b found = ⊎_elim
+found_in [] c found = absurd (cc)
+found_in (e ∷ es) c {b} found = ⊎_elim
     (λ (here : e.0 ≡ c). inl (sym here))
-    (λ (away : e.0 ≡ c → ⊥). inr (found_in es c b (sym (find_more e es c away) ∙ found)))
-    (cases_eq e.0 c)
+    (λ (away : e.0 ≡ c → ⊥). inr (found_in es c (sym (find_more e es c away) ∙ found))) (cases_eq e.0 c)
 
 -- ---- what a table has
 abbrev pub Has : TableValue → Entry → Type 0
@@ -61,7 +60,7 @@ has_or_not : (o : Option (List ℕ)) → ((b : List ℕ) × (o ≡ Some b)) ⊎ 
 has_or_not None = inr refl
 has_or_not (Some b) = inl (b, refl)
 
-module _ (t : TableValue) (order : IsInOrder t) where
+module _ {t : TableValue} (order : IsInOrder t) where
   formed : (c : ℕ) → IsIn (numbers t.blocks) c → IsCode c
   formed c is = let r = number_there t.blocks c is in subst IsCode r.2 (order.codes r.0 r.1)
 
@@ -70,33 +69,31 @@ module _ (t : TableValue) (order : IsInOrder t) where
       let r = number_there t.blocks c is in
       let there : HasNumberAt t.blocks c r.0 = record { within = r.1; number = r.2 } in (
         (get_or t.blocks r.0 (0, [])).1,
-        ap (λ (c : ℕ). find nat_cmp c t.blocks) (code_entry c (formed c is))
-            ∙ find_at t.blocks order.sorted c r.0 there,
+        ap (λ (c : ℕ). find nat_cmp c t.blocks) (code_entry c (formed c is)) ∙ find_at order.sorted c r.0 there,
       )
 
   number_in : (c : ℕ) → IsCode c → Has t (entry_at c) → IsIn (numbers t.blocks) c
-  number_in c is has = found_in t.blocks c has.0 (ap (λ (c : ℕ). find nat_cmp c t.blocks) (sym (code_entry c is)) ∙ has.1)
+  number_in c is has = found_in t.blocks c (ap (λ (c : ℕ). find nat_cmp c t.blocks) (sym (code_entry c is)) ∙ has.1)
 
 -- As a table grows by one, and keeps what it has, nothing but this block comes in.
-pub one_came : (t t' : TableValue) (c : ℕ) → IsInOrder t → IsInOrder t' → IsCode c → ((x : Entry) → Has t x → Has t' x)
+pub one_came : {t t' : TableValue} (c : ℕ) → IsInOrder t → IsInOrder t' → IsCode c → ((x : Entry) → Has t x → Has t' x)
     → Has t' (entry_at c) → (Has t (entry_at c) → ⊥)
     → length t'.blocks ≤ length t.blocks + 1 → (x : Entry) → Has t' x → Has t x ⊎ (x ≡ entry_at c)
-one_came t t' c order order' is stay inside new few x has = ⊎_elim
+one_came {t} {t'} c order order' is stay inside new few x has = ⊎_elim
     (λ (was : Has t x). inl was)
     (λ (none : find nat_cmp (code x) t.blocks ≡ None). ⊎_elim
     (λ (own : x ≡ entry_at c). inr own)
     (λ (other : x ≡ entry_at c → ⊥).
     let more = fewer (numbers t'.blocks) (code x ∷ c ∷ numbers t.blocks) (
-      λ there. ⊎_elim (λ (same : code x ≡ c). other (entry_of_code x c is same))
+      λ there. ⊎_elim (λ (same : code x ≡ c). other (entry_of_code x is same))
           (λ (old : IsIn (numbers t.blocks) (code x)). not_in none old) there,
-      (λ there. new (has_number t order c there), numbers_apart t.blocks order.sorted),
+      (λ there. new (has_number order c there), numbers_apart t.blocks order.sorted),
     )
     (λ y there. ⊎_elim
-    (λ (first : y ≡ code x). subst (IsIn (numbers t'.blocks)) (sym first) (found_in t'.blocks (code x) has.0 has.1))
+    (λ (first : y ≡ code x). subst (IsIn (numbers t'.blocks)) (sym first) (found_in t'.blocks (code x) has.1))
     (λ (rest : (y ≡ c) ⊎ IsIn (numbers t.blocks) y). ⊎_elim
-    (λ (second : y ≡ c). subst (IsIn (numbers t'.blocks)) (sym second) (number_in t' order' c is inside))
-    (λ (old : IsIn (numbers t.blocks) y). number_in t' order' y (formed t order y old) (stay (entry_at y) (has_number t order y old)))
-    rest)
+    (λ (second : y ≡ c). subst (IsIn (numbers t'.blocks)) (sym second) (number_in order' c is inside))
+    (λ (old : IsIn (numbers t.blocks) y). number_in order' y (formed order y old) (stay (entry_at y) (has_number order y old))) rest)
     there) in
     let long = length_numbers t.blocks in
     let long' = length_numbers t'.blocks in
@@ -107,7 +104,7 @@ one_came t t' c order order' is stay inside new few x has = ⊎_elim
     not_in : find nat_cmp (code x) t.blocks ≡ None → IsIn (numbers t.blocks) (code x) → ⊥
     not_in none old =
         let r = number_there t.blocks (code x) old in
-        let found = find_at t.blocks order.sorted (code x) r.0 (record { within = r.1; number = r.2 }) in
+        let found = find_at {es = t.blocks} order.sorted (code x) r.0 (record { within = r.1; number = r.2 }) in
         let bad : None ≡ Some (get_or t.blocks r.0 (0, [])).1 = sym none ∙ found in
         absurd (cc)
 
@@ -142,18 +139,18 @@ entries_apart (c ∷ cs) codes apart = (
 pub entries : TableValue → List Entry
 entries t = entries_at (numbers t.blocks)
 
-module _ (t : TableValue) (order : IsInOrder t) where
+module _ {t : TableValue} (order : IsInOrder t) where
   pub count_entries : length (entries t) ≡ length t.blocks
   unfolding entries
   count_entries = length_entries (numbers t.blocks) ∙ length_numbers t.blocks
 
   pub apart_entries : AreApart (entries t)
   unfolding entries
-  apart_entries = entries_apart (numbers t.blocks) (formed t order) (numbers_apart t.blocks order.sorted)
+  apart_entries = entries_apart (numbers t.blocks) (formed order) (numbers_apart t.blocks order.sorted)
 
   pub has_entry : (x : Entry) → IsIn (entries t) x → Has t x
   unfolding entries
-  has_entry x is = let r = entry_there (numbers t.blocks) x is in subst (Has t) (sym r.2) (has_number t order r.0 r.1)
+  has_entry x is = let r = entry_there (numbers t.blocks) x is in subst (Has t) (sym r.2) (has_number order r.0 r.1)
 
 -- each is a block of a file
 pub file_entry : (t : TableValue) (x : Entry) → IsIn (entries t) x → IsOfFile x

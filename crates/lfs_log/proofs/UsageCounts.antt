@@ -67,7 +67,7 @@ pub out_none : (t : UsageTable) → length t.segments ≤ 1024 → out_count t �
 unfolding out_count
 out_none t few z j low stale = none_by t 16 j z (omega arith)
 
-module _ (old new : UsageTable) (j : ℕ) (out : IsAnew old j → ⊥) (is : IsResettled old new j) where
+module _ {old new : UsageTable} {j : ℕ} (out : IsAnew old j → ⊥) (is : IsResettled old new j) where
   stays : (i : ℕ) → IsAnew old i → IsAnew new i
   stays i was = ⊎_elim
       (λ (here : i ≡ j). subst (IsAnew new) (sym here) is.own)

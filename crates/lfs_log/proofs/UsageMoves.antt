@@ -57,24 +57,23 @@ one_longer names x = length-append names (x ∷ []) ∙ plus_one (length names)
     plus_one n = omega arith
 
 -- a chunk begins, or it goes on
-pub goes_into : (d : DeviceState) (dirty : Dirty) (t t' : Tables) (k : CheckpointValue) (m0 m : LogMap) (c : Chunk) (seg : ℕ)
+pub goes_into : (d : DeviceState) {dirty : Dirty} {t : Tables} (t' : Tables) (k : CheckpointValue) (m0 m : LogMap) (c : Chunk) (seg : ℕ)
     → Running d dirty t k m0 m (segment_in c) (chunk_in c)
     → (length c.names ≡ 0 → (seg < k.segments) × (IsTakenFrom t t' seg ⊎ GoesOnIn t t' seg))
     → ((length c.names ≡ 0 → ⊥) → (t' ≡ t) × (seg ≡ c.segment))
     → Running d dirty t' k m0 m seg (Some (entries_of c))
-goes_into d dirty t t' k m0 m c seg w begins goes = ⊎_elim
+goes_into d {dirty} {t} t' k m0 m c seg w begins goes = ⊎_elim
     (λ (z : length c.names ≡ 0).
     let b = begins z in
     let none : Running d dirty t k m0 m 1024 None =
-    as_chunk d dirty t k m0 m (segment_in c) 1024 (chunk_in c) None (closed_segment c z) (closed_chunk c z) w in
+    as_chunk (closed_segment c z) (closed_chunk c z) w in
     subst (λ (es : List Entry). Running d dirty t' k m0 m seg (Some es)) (sym (no_names c.names z))
     (⊎_elim (λ (takes : IsTakenFrom t t' seg). beginning d dirty t t' k m0 m 1024 seg none b.0 takes)
     (λ (g : GoesOnIn t t' seg). going_on d dirty t t' k m0 m 1024 seg none b.0 g) b.1))
     (λ (ne : length c.names ≡ 0 → ⊥).
     let g = goes ne in
     subst (λ (u : Tables). Running d dirty u k m0 m seg (Some (entries_of c))) (sym g.0)
-    (subst (λ (s : ℕ). Running d dirty t k m0 m s (Some (entries_of c))) (sym g.1)
-    (as_chunk d dirty t k m0 m (segment_in c) c.segment (chunk_in c) (Some (entries_of c)) (open_segment c (omega arith))
+    (subst (λ (s : ℕ). Running d dirty t k m0 m s (Some (entries_of c))) (sym g.1) (as_chunk (open_segment c (omega arith))
     (open_chunk c (omega arith)) w)))
     (cases_eq (length c.names) 0)
 
@@ -92,14 +91,15 @@ without map usage j = record {
 }
 
 -- the addresses besides that of usage block j
-table_other : (v v' : MapValue) (u u' : UsageTable) (j : ℕ) → v' ≡ v → ((i : ℕ) → (i ≡ j → ⊥) → address_of u' i ≡ address_of u i)
+table_other : (v : MapValue) {v' : MapValue} (u u' : UsageTable) {j : ℕ} → v' ≡ v
+    → ((i : ℕ) → (i ≡ j → ⊥) → address_of u' i ≡ address_of u i)
     → (y : Entry) → (y ≡ Usage j → ⊥) → table_at v' u' y ≡ table_at v u y
-table_other v v' u u' j e same (Data n i) ne = refl
-table_other v v' u u' j e same (Leaf n q) ne = refl
-table_other v v' u u' j e same (Double n) ne = refl
-table_other v v' u u' j e same (Inode n) ne = ap (λ (v : MapValue). address_in v n) e
-table_other v v' u u' j e same (Map i) ne = ap (λ (v : MapValue). block_in v i) e
-table_other v v' u u' j e same (Usage i) ne = same i (λ h. ne (ap Usage h))
+table_other v u u' e same (Data n i) ne = refl
+table_other v u u' e same (Leaf n q) ne = refl
+table_other v u u' e same (Double n) ne = refl
+table_other v u u' e same (Inode n) ne = ap (λ (v : MapValue). address_in v n) e
+table_other v u u' e same (Map i) ne = ap (λ (v : MapValue). block_in v i) e
+table_other v u u' e same (Usage i) ne = same i (λ h. ne (ap Usage h))
 
 without_same : (v : MapValue) (u u' : UsageTable) (j : ℕ) → ((i : ℕ) → address_of u' i ≡ address_of u i) → (y : Entry)
     → (without v u' j).at y ≡ (without v u j).at y
@@ -107,7 +107,7 @@ without_same v u u' j same y = ⊎_elim
     (λ (here : y ≡ Usage j). pick_yes (same_entry y (Usage j)) 1 (table_at v u' y) here
     ∙ sym (pick_yes (same_entry y (Usage j)) 1 (table_at v u y) here))
     (λ (ne : y ≡ Usage j → ⊥).
-    pick_no (same_entry y (Usage j)) 1 (table_at v u' y) ne ∙ table_other v v u u' j refl (λ i away. same i) y ne
+    pick_no (same_entry y (Usage j)) 1 (table_at v u' y) ne ∙ table_other v {v' = v} u u' refl (λ i away. same i) y ne
     ∙ sym (pick_no (same_entry y (Usage j)) 1 (table_at v u y) ne))
     (same_entry y (Usage j))
 
@@ -210,7 +210,7 @@ module _ (v v' : LogMemory) (j number : ℕ) (good : IsMemory v) (old : stale_of
   lifted_stale : stale_of r.lifted j ≡ true
   lifted_stale = if_left (stale_of r.lifted j ≡ true)
       (λ same. ap (λ (u : UsageTable). stale_of u j) same ∙ old)
-      (λ above go. stays_stale v.usage r.lifted (segment_of (address_of v.usage j) / 64) j go.blocks old)
+      (λ above go. stays_stale j go.blocks old)
 
   mid_stale : stale_of r.places.middle j ≡ true
   mid_stale = by_case (stale_of r.places.middle j ≡ true)
@@ -221,9 +221,7 @@ module _ (v v' : LogMemory) (j number : ℕ) (good : IsMemory v) (old : stale_of
   new_stale i on = ⊎_elim
       (λ (here : i ≡ j). ap (stale_of v'.usage) here ∙ r.puts.stale.own)
       (λ (ne : i ≡ j → ⊥).
-      r.puts.stale.others i ne
-      ∙ stays_stale r.places.middle r.placed.usage (r.placed.chunk.segment / 64) i r.places.noted.blocks
-      (by_case (stale_of r.places.middle i ≡ true)
+      r.puts.stale.others i ne ∙ stays_stale i r.places.noted.blocks (by_case (stale_of r.places.middle i ≡ true)
       (λ z begins. begins_stale r.lifted r.places.middle r.placed.chunk.segment number begins i still)
       (λ lt same went. ap (λ (u : UsageTable). stale_of u i) same ∙ still)))
       (cases_eq i j)
@@ -231,7 +229,7 @@ module _ (v v' : LogMemory) (j number : ℕ) (good : IsMemory v) (old : stale_of
       still : stale_of r.lifted i ≡ true
       still = if_left (stale_of r.lifted i ≡ true)
           (λ same. ap (λ (u : UsageTable). stale_of u i) same ∙ on)
-          (λ above go. stays_stale v.usage r.lifted (segment_of (address_of v.usage j) / 64) i go.blocks on)
+          (λ above go. stays_stale i go.blocks on)
 
   pub new_names : v'.chunk.names ≡ v.chunk.names ++ usage_name j ∷ []
   new_names = ap (λ (c : Chunk). c.names) r.chunk ∙ r.places.names
@@ -343,7 +341,7 @@ module _ (v v' : LogMemory) (j number : ℕ) (good : IsMemory v) (old : stale_of
       at = record {
         own = λ top. pick_yes (same_entry (Usage j) (Usage j)) 1 (table_at v.map r.lifted (Usage j)) refl;
         others = λ y top ne. pick_no (same_entry y (Usage j)) 1 (table_at v.map r.lifted y) ne
-            ∙ table_other v.map v.map v.usage r.lifted j refl (λ i away. go.blocks.address i) y ne;
+            ∙ table_other v.map {v' = v.map} v.usage r.lifted refl (λ i away. go.blocks.address i) y ne;
       };
       used = go.used;
       live = go.live;
@@ -398,7 +396,7 @@ module _ (v v' : LogMemory) (j number : ℕ) (good : IsMemory v) (old : stale_of
     notes_now = record {
       at = record {
         own = λ top. new_address;
-        others = λ y top ne. table_other v.map v'.map r.places.middle v'.usage j new_map other_address y ne
+        others = λ y top ne. table_other v.map r.places.middle v'.usage new_map other_address y ne
             ∙ sym (pick_no (same_entry y (Usage j)) 1 (table_at v.map r.places.middle y) ne);
       };
       used = subst (λ (x : List SegmentNumbers). IsSet (used_of r.places.middle) (λ i. (get_or x i no_segment).used) r.placed.chunk.segment
@@ -412,7 +410,7 @@ module _ (v v' : LogMemory) (j number : ℕ) (good : IsMemory v) (old : stale_of
       stale = stale_now;
     }
 
-    module _ (d : DeviceState) (k : CheckpointValue) (m0 : LogMap) (log : IsLog d v k m0 m) where
+    module _ {d : DeviceState} {k : CheckpointValue} {m0 : LogMap} (log : IsLog d v k m0 m) where
       left_now : Running d (blocks_of v.dirty) (without v.map r.lifted j) k m0 m (segment_in v.chunk) (chunk_in v.chunk)
       left_now = ⊎_elim
           (λ (one : address_of v.usage j ≡ 1).
@@ -426,8 +424,7 @@ module _ (v v' : LogMemory) (j number : ℕ) (good : IsMemory v) (old : stale_of
           (cases_eq (address_of v.usage j) 1)
 
       open_now : Running d (blocks_of v.dirty) (without v.map r.places.middle j) k m0 m r.placed.chunk.segment (Some (entries_of v.chunk))
-      open_now = goes_into d (blocks_of v.dirty) (without v.map r.lifted j)
-          (without v.map r.places.middle j) k m0 m v.chunk r.placed.chunk.segment left_now
+      open_now = goes_into d (without v.map r.places.middle j) k m0 m v.chunk r.placed.chunk.segment left_now
           (λ z.
           let t = r.places.begun z in
           let s = log.segments in
@@ -477,13 +474,13 @@ module _ (v v' : LogMemory) (j number : ℕ) (good : IsMemory v) (old : stale_of
   pub resettled_emptied : (s : ℕ) → IsEmptied v.usage s → IsEmptied v'.usage s
   resettled_emptied s is =
       let lifted : IsEmptied r.lifted s = if_left (IsEmptied r.lifted s) (λ same. subst (λ (u : UsageTable). IsEmptied u s) (sym same) is)
-      (λ above go. (stays_emptied v.usage r.lifted s is).2 (segment_of (address_of v.usage j)) true go) in
+      (λ above go. (stays_emptied r.lifted is).2 (segment_of (address_of v.usage j)) true go) in
       let middle : IsEmptied r.places.middle s = by_case (IsEmptied r.places.middle s)
-      (λ z begins. (stays_emptied r.lifted r.places.middle s lifted).0 r.placed.chunk.segment number begins)
+      (λ z begins. (stays_emptied r.places.middle lifted).0 r.placed.chunk.segment number begins)
       (λ lt same on. subst (λ (u : UsageTable). IsEmptied u s) (sym same) lifted) in
       let placed : IsEmptied r.placed.usage s =
-      (stays_emptied r.places.middle r.placed.usage s middle).1 r.placed.chunk.segment true r.places.noted unkept in
-      (stays_emptied r.placed.usage v'.usage s placed).3 j r.place true r.puts
+      (stays_emptied r.placed.usage middle).1 r.placed.chunk.segment true r.places.noted unkept in
+      (stays_emptied v'.usage placed).3 j r.place true r.puts
 
   pub resettled_goes : (d d' : DeviceState) (w : LogMemory) → Goes d d' v' w 0 → Goes d d' v w 1
   resettled_goes d d' w g = record {
@@ -493,22 +490,23 @@ module _ (v v' : LogMemory) (j number : ℕ) (good : IsMemory v) (old : stale_of
     room = let a = resettled_room in let b = g.room in omega arith;
     no_failure = g.no_failure;
     emptied = λ s is. g.emptied s (resettled_emptied s is);
-    log = λ k m0 m keeps log. g.log k m0 m keeps (resettled_log m d k m0 log);
-    quiet = λ k m0 m keeps log. g.quiet k m0 m keeps (resettled_log m d k m0 log);
+    log = λ k m0 m keeps log. g.log k m0 m keeps (resettled_log m log);
+    quiet = λ k m0 m keeps log. g.quiet k m0 m keeps (resettled_log m log);
   }
 
-  pub resettled_stops : (d d' : DeviceState) → Stops d d' v' → Stops d d' v
-  resettled_stops d d' s = record {
+  pub resettled_stops : (d : DeviceState) {d' : DeviceState} → Stops d d' v' → Stops d d' v
+  resettled_stops d s = record {
     carries = s.carries;
-    cause = λ k m0 m keeps log. s.cause k m0 m keeps (resettled_log m d k m0 log);
-    settled = λ k m0 m keeps log. s.settled k m0 m keeps (resettled_log m d k m0 log);
-    quiet = λ k m0 m keeps log. s.quiet k m0 m keeps (resettled_log m d k m0 log);
+    cause = λ k m0 m keeps log. s.cause k m0 m keeps (resettled_log m log);
+    settled = λ k m0 m keeps log. s.settled k m0 m keeps (resettled_log m log);
+    quiet = λ k m0 m keeps log. s.quiet k m0 m keeps (resettled_log m log);
   }
 
 -- ---- a usage block of the volume lives on the device, where it hasn't left its address
-pub usage_there : (d : DeviceState) (v : LogMemory) (k : CheckpointValue) (m0 m : LogMap) (j : ℕ) → (address_of v.usage j ≡ 1 → ⊥)
+pub usage_there : (d : DeviceState) (v : LogMemory) {k : CheckpointValue} {m0 : LogMap} (m : LogMap) (j : ℕ)
+    → (address_of v.usage j ≡ 1 → ⊥)
     → j < (length v.usage.segments + 63) / 64 → IsLog d v k m0 m → IsThere v.usage j
-usage_there d v k m0 m j not_one low log =
+usage_there d v m j not_one low log =
     let w = log.running in
     let same : w.memory.at (Usage j) ≡ address_of v.usage j = w.tables.at (Usage j) refl in
     let size : w.memory.segments ≡ length v.usage.segments = w.segments ∙ sym log.segments in
@@ -526,13 +524,13 @@ usage_there d v k m0 m j not_one low log =
     }
 
 -- so a part of a commit doesn't end where it would not
-pub not_there : (d : DeviceState) (v : LogMemory) (j : ℕ) → j < (length v.usage.segments + 63) / 64 → IsNowhere v.usage j → Carries d d
+pub not_there : (d : DeviceState) {v : LogMemory} {j : ℕ} → j < (length v.usage.segments + 63) / 64 → IsNowhere v.usage j → Carries d d
     → Stops d d v
-not_there d v j low none carries = record {
+not_there d {v} {j} low none carries = record {
   carries = carries;
-  cause = λ k m0 m keeps log. absurd (none.lost (usage_there d v k m0 m j none.stayed low log));
-  settled = λ k m0 m keeps log. absurd (none.lost (usage_there d v k m0 m j none.stayed low log));
-  quiet = λ k m0 m keeps log. absurd (none.lost (usage_there d v k m0 m j none.stayed low log));
+  cause = λ k m0 m keeps log. absurd (none.lost (usage_there d v m j none.stayed low log));
+  settled = λ k m0 m keeps log. absurd (none.lost (usage_there d v m j none.stayed low log));
+  quiet = λ k m0 m keeps log. absurd (none.lost (usage_there d v m j none.stayed low log));
 }
 
 pub usage_placed : (j : ℕ) → j ≤ 15 → IsPlaced kind.Usage 0 j

@@ -22,11 +22,10 @@ use Rattle.lfs_memory.proofs.Opened.{stays_settled, stays_quiet, taken_free}
 use Rattle.lfs_log.specs.Settling.{IsAnew, AreAnew, IsFilled}
 
 -- a sector that the acknowledged checkpoint doesn't need is free
-place_free : (d : DeviceState) (v : LogMemory) (k : CheckpointValue) (m0 m : LogMap) (at : ℕ) → IsLog d v k m0 m → 2 ≤ at
+place_free : (d : DeviceState) (v : LogMemory) (k : CheckpointValue) {m0 : LogMap} (m : LogMap) (at : ℕ) → IsLog d v k m0 m → 2 ≤ at
     → segment_of at < length v.usage.segments → IsUnkeptBy v.usage at → IsFreeSector d.content k at
-place_free d v k m0 m at log above inside on =
-    subst (λ (a : ℕ). IsFreeSector d.content k a) (omega arith)
-    (taken_free d (blocks_of v.dirty) (tables_of v) k m0 m (segment_in v.chunk) (chunk_in v.chunk) log.running (segment_of at)
+place_free d v k {m0} m at log above inside on =
+    subst (λ (a : ℕ). IsFreeSector d.content k a) (omega arith) (taken_free log.running (segment_of at)
     ((at - 2) % 64) (let e = log.segments in omega arith) on (omega arith))
 
 pub table_same : (map : MapValue) (u u' : UsageTable) → ((i : ℕ) → address_of u' i ≡ address_of u i) → (y : Entry)
@@ -108,10 +107,10 @@ module _ (v : LogMemory) (j : ℕ) (u : UsageTable) (good : IsMemory v) (is : Is
       segments = ap length puts.segments;
       room = let e = ap clean_in puts.segments in omega arith;
       no_failure = same;
-      emptied = λ s was. (stays_emptied v.usage u s was).3 j (address_of v.usage j) false puts;
+      emptied = λ s was. (stays_emptied u was).3 j (address_of v.usage j) false puts;
       log = log_now;
-      quiet = λ k m0 m keeps log. stays_quiet d d' k m0 (address_of v.usage j) bytes log.running.settled
-          (place_free d v k m0 m (address_of v.usage j) log is.0 is.1 is.2) (left_new (written keeps)) crash lawful carries time;
+      quiet = λ k m0 m keeps log. stays_quiet m0 (address_of v.usage j) bytes log.running.settled
+          (place_free d v k m (address_of v.usage j) log is.0 is.1 is.2) (left_new (written keeps)) crash lawful carries time;
     }
 
 pub write_stops : (d d' : DeviceState) (v : LogMemory) (at : ℕ) (bytes : List ℕ) → IsLawful d → 2 ≤ at
@@ -122,18 +121,18 @@ write_stops d d' v at bytes lawful above inside on may crash failed carries time
   carries = carries;
   cause = λ k m0 m keeps log. failed;
   settled = λ k m0 m keeps log.
-      stays_settled d d' k m0 at bytes log.running.settled (place_free d v k m0 m at log above inside on) (may keeps) crash;
-  quiet = λ k m0 m keeps log. stays_quiet d d' k m0 at bytes log.running.settled (place_free d v k m0 m at log above inside on)
+      stays_settled {d' = d'} m0 at bytes log.running.settled (place_free d v k m at log above inside on) (may keeps) crash;
+  quiet = λ k m0 m keeps log. stays_quiet m0 at bytes log.running.settled (place_free d v k m at log above inside on)
       (may keeps) crash lawful carries time;
 }
 
 -- the same with the address by another name
-pub fill_goes_at : (v : LogMemory) (j at : ℕ) (u : UsageTable) → IsMemory v → IsAnew v.usage j → address_of v.usage j ≡ at
+pub fill_goes_at : (v : LogMemory) {j at : ℕ} {u : UsageTable} → IsMemory v → IsAnew v.usage j → address_of v.usage j ≡ at
     → PutsPlace v.usage u j at false
     → (d d' : DeviceState) (bytes : List ℕ) → SpellsBlock v.usage j bytes → IsLawful d
     → (d'.keeps_model → d'.content ≡ put d.content at bytes) → CrashWrites at bytes d d' → d'.failures ≡ d.failures → Carries d d'
     → Elapses d d' → Goes d d' v (record v { usage = u }) 0
-fill_goes_at v j at u good is e =
+fill_goes_at v {j} {at} {u} good is e =
     subst
     (λ (at : ℕ). PutsPlace v.usage u j at false → (d d' : DeviceState) (bytes : List ℕ) → SpellsBlock v.usage j bytes → IsLawful d
     → (d'.keeps_model → d'.content ≡ put d.content at bytes)
@@ -142,16 +141,16 @@ fill_goes_at v j at u good is e =
     (λ puts d d' bytes spells lawful written crash same carries time.
     fill_goes v j u good is puts d d' bytes spells lawful written crash same carries time)
 
-pub write_stops_at : (d d' : DeviceState) (v : LogMemory) (j at : ℕ) (bytes : List ℕ) → IsLawful d → IsAnew v.usage j
+pub write_stops_at : {d d' : DeviceState} (v : LogMemory) (j : ℕ) {at : ℕ} {bytes : List ℕ} → IsLawful d → IsAnew v.usage j
     → address_of v.usage j ≡ at
     → (d'.keeps_model → MayWrite at bytes d.content d'.content) → CrashWrites at bytes d d' → d.failures < d'.failures → Carries d d'
     → Elapses d d' → Stops d d' v
-write_stops_at d d' v j at bytes lawful is e may crash failed carries time =
+write_stops_at {d} {d'} v j {at} {bytes} lawful is e may crash failed carries time =
     write_stops d d' v at bytes lawful (subst (λ (a : ℕ). 2 ≤ a) e is.0) (subst (λ (a : ℕ). segment_of a < length v.usage.segments) e is.1)
     (subst (λ (a : ℕ). IsUnkeptBy v.usage a) e is.2) may crash failed carries time
 
 -- block j isn't stale any more
-module _ (old new : UsageTable) (j : ℕ) (is : IsFilled old new j) where
+module _ {old new : UsageTable} {j : ℕ} (is : IsFilled old new j) where
   pub filled_fresh : ((i : ℕ) → i < j → stale_of old i ≡ false) → (i : ℕ) → i < j + 1 → stale_of new i ≡ false
   filled_fresh fresh i lt = ⊎_elim
       (λ (here : i ≡ j). ap (stale_of new) here ∙ is.stale.own)

@@ -26,11 +26,12 @@ use Rattle.lfs_log.proofs.RowLabels.{IsRowFrom, label_is, row_end, row_next, row
 pub leaves_none : (d : DeviceState) (v : LogMemory) (names : List BlockNameValue) (first : ℕ) → LeavesNames d d v v names first 0
 leaves_none d v names first k m0 m keeps is = (is, traces_none is.running.memory, λ i lt at. absurd (omega (arith, lt)))
 
-pub leaves_more : (a b c : DeviceState) (v v' v'' : LogMemory) (names : List BlockNameValue) (first place : ℕ) → 2 ≤ first
+pub leaves_more : (a : DeviceState) {b c : DeviceState} (v : LogMemory) {v' v'' : LogMemory} (names : List BlockNameValue) (first place : ℕ)
+    → 2 ≤ first
     → Relocates b c v' v''
     → HasLeft b c v' v'' (entry_of (get_or names place no_block)) (first + place) → LeavesNames a b v v' names first place
     → LeavesNames a c v v'' names first (place + 1)
-leaves_more a b c v v' v'' names first place above one left was k m0 m keeps is =
+leaves_more a v names first place above one left was k m0 m keeps is =
     let so_far = was k m0 m (one.looks.carries.kept_before keeps) is in
     let now = one.gathers.traces k m0 m keeps so_far.0 in (
       now.0,
@@ -50,7 +51,7 @@ abbrev pub ClearsTo : DeviceState → DeviceState → LogMemory → LogMemory �
 ClearsTo d d' v v' segment used at = (k : CheckpointValue) (m0 m : LogMap) → d'.keeps_model → (is : IsLoose d v k m0 m)
     → Traced d' v' k m0 m is.running.memory (IsVacantTo (2 + 64 * segment) (2 + 64 * segment + at)) × IsRowFrom d.content used segment at
 
-module _ (d : DeviceState) (v : LogMemory) (k : CheckpointValue) (m0 m : LogMap) (is : IsLoose d v k m0 m) (segment : ℕ)
+module _ (d : DeviceState) (v : LogMemory) (k : CheckpointValue) {m0 : LogMap} (m : LogMap) (is : IsLoose d v k m0 m) (segment : ℕ)
     (closed : v.chunk.names ≡ []) (low : segment < length v.usage.segments) where
   abbrev M : Memory
   M = is.running.memory
@@ -82,15 +83,15 @@ pub clears_start : (d : DeviceState) (v : LogMemory) (segment : ℕ) → v.chunk
     → ClearsTo d d v v segment (used_of v.usage segment) 0
 clears_start d v segment closed low k m0 m keeps is = (
   (is, traces_none is.running.memory, λ y from to. absurd (omega (arith, from, to))),
-  row_start d.content (used_of v.usage segment) segment (has_row d v k m0 m is segment closed low),
+  row_start d.content (used_of v.usage segment) segment (has_row d v k m is segment closed low),
 )
 
 -- ---- a summary is read
-module _ (a b c : DeviceState) (v v' : LogMemory) (segment used at : ℕ) (was : ClearsTo a b v v' segment used at)
+module _ {a b c : DeviceState} {v v' : LogMemory} (segment used at : ℕ) (was : ClearsTo a b v v' segment used at)
     (here : Relocates a b v v') (looks : Looks b c)
     (long : 2 + 64 * segment + used ≤ length a.content) (lt : at < used) where
-  row_then : (k : CheckpointValue) (m0 m : LogMap) → c.keeps_model → IsLoose a v k m0 m → IsRowFrom a.content used segment at
-  row_then k m0 m keeps is = (was k m0 m (looks.carries.kept_before keeps) is).1
+  row_then : (k : CheckpointValue) {m0 : LogMap} (m : LogMap) → c.keeps_model → IsLoose a v k m0 m → IsRowFrom a.content used segment at
+  row_then k {m0} m keeps is = (was k m0 m (looks.carries.kept_before keeps) is).1
 
   pub summary_missing : (c.keeps_model → (b.failures < c.failures) ⊎ (cell_at b.content (2 + 64 * segment + at) ≡ None))
       → FailsFromDevice a c v
@@ -100,38 +101,36 @@ module _ (a b c : DeviceState) (v v' : LogMemory) (segment used at : ℕ) (was :
       let none : block a.content (2 + 64 * segment + at) ≡ [] =
       ap (λ (e : Content). block e (2 + 64 * segment + at)) (sym here.looks.untouched.content)
       ∙ block_at b.content (2 + 64 * segment + at) (omega arith) ∙ ap bytes_of missing in
-      absurd (no_chunk a.content used segment at long lt (ap entries_in none ∙ no_entries) (row_then k m0 m keeps is).rest))
-      (unread keeps)
+      absurd (no_chunk a.content used segment at long lt (ap entries_in none ∙ no_entries) (row_then k m keeps is).rest)) (unread keeps)
 
-  module _ (bytes : List ℕ) (read : c.keeps_model → block b.content (2 + 64 * segment + at) ≡ bytes) where
+  module _ {bytes : List ℕ} (read : c.keeps_model → block b.content (2 + 64 * segment + at) ≡ bytes) where
     bytes_there : c.keeps_model → block a.content (2 + 64 * segment + at) ≡ bytes
     bytes_there keeps = ap (λ (e : Content). block e (2 + 64 * segment + at)) (sym here.looks.untouched.content) ∙ read keeps
 
     pub no_summary : None ≡ summary_in bytes → FailsFromDevice a c v
     no_summary none k m0 m keeps is =
         absurd (no_chunk a.content used segment at long lt (ap entries_in (bytes_there keeps) ∙ entries_none bytes none)
-        (row_then k m0 m keeps is).rest)
+        (row_then k m keeps is).rest)
 
-    module _ (names : List BlockNameValue) (exact : Some names ≡ summary_in bytes) where
-      pub too_long : (count : ℕ) → count ≡ length names → used ≤ at + count → FailsFromDevice a c v
-      too_long count is_count high k m0 m keeps is =
+    module _ {names : List BlockNameValue} (exact : Some names ≡ summary_in bytes) where
+      pub too_long : {count : ℕ} → count ≡ length names → used ≤ at + count → FailsFromDevice a c v
+      too_long {count} is_count high k m0 m keeps is =
           absurd (cut_chunk a.content used segment at long lt count
           (subst (λ (b : List ℕ). (es : List Entry) × (entries_in b ≡ Some es) × (length es ≡ count)) (sym (bytes_there keeps))
-          (names_of bytes names count exact is_count))
-          high (row_then k m0 m keeps is).rest)
+          (names_of bytes exact is_count)) high (row_then k m keeps is).rest)
 
       -- and its blocks come into memory
       pub clears_more : v.chunk.names ≡ [] → segment < length v.usage.segments → used ≡ used_of v.usage segment → used ≤ 64
           → at + length names < used
-          → (e : DeviceState) (w : LogMemory) → Relocates c e v' w → (first next : ℕ) → first ≡ 2 + 64 * segment + at + 1
+          → {e : DeviceState} {w : LogMemory} → Relocates c e v' w → (first next : ℕ) → first ≡ 2 + 64 * segment + at + 1
           → next ≡ at + 1 + length names → LeavesNames c e v' w names first (length names)
           → ClearsTo a e v w segment used next
-      clears_more closed low is_used few room e w one first next is_first is_next left k m0 m keeps is =
+      clears_more closed low is_used few room one first next is_first is_next left k m0 m keeps is =
           let back = one.looks.carries.kept_before keeps in
           let before = was k m0 m (looks.carries.kept_before back) is in
           let so_far = before.0 in
           let row = before.1 in
-          let still = still_traced b c v' k m0 m looks so_far.0 in
+          let still = still_traced b k m looks so_far.0 in
           let now = left k m0 m keeps still.0 in
           let between = traces_then so_far.0.running.memory still.0.running.memory now.0.running.memory still.1 now.1 in
           let all = traces_then is.running.memory so_far.0.running.memory now.0.running.memory so_far.1 between in
@@ -146,7 +145,7 @@ module _ (a b c : DeviceState) (v v' : LogMemory) (segment used at : ℕ) (was :
                   subst (λ (u : ℕ). place_in (row_by a.content u segment) (now.0.running.memory.at y - (2 + 64 * segment)) ≡ Some y)
                   (sym is_used)
                   (subst (λ (x : ℕ). place_in (row_by a.content (used_of v.usage segment) segment) (x - (2 + 64 * segment)) ≡ Some y) same
-                  (stands_named a v k m0 m is segment closed low y (omega (arith, same, from))
+                  (stands_named a v k m is segment closed low y (omega (arith, same, from))
                   (omega (arith, same, to, is_next, room, few)))) in
                   ⊎_elim
                   (λ (earlier : now.0.running.memory.at y < 2 + 64 * segment + at).
@@ -155,8 +154,7 @@ module _ (a b c : DeviceState) (v v' : LogMemory) (segment used at : ℕ) (was :
                   (λ (later : 2 + 64 * segment + at ≤ now.0.running.memory.at y). ⊎_elim
                   (λ (summary : now.0.running.memory.at y ≡ 2 + 64 * segment + at).
                   let o : now.0.running.memory.at y - (2 + 64 * segment) ≡ at = omega (arith, summary) in
-                  let bad : Some y ≡ None = sym place ∙ ap (place_in (row_by a.content used segment)) o
-                  ∙ summary_place a.content used segment at long lt row in
+                  let bad : Some y ≡ None = sym place ∙ ap (place_in (row_by a.content used segment)) o ∙ summary_place long lt row in
                   absurd (cc))
                   (λ (other : now.0.running.memory.at y ≡ 2 + 64 * segment + at → ⊥).
                   let i = now.0.running.memory.at y - first in
@@ -164,8 +162,8 @@ module _ (a b c : DeviceState) (v v' : LogMemory) (segment used at : ℕ) (was :
                   let o : now.0.running.memory.at y - (2 + 64 * segment) ≡ at + 1 + (now.0.running.memory.at y - first) =
                   omega (arith, later, other, is_first) in
                   let label : Some y ≡ Some (entry_of (get_or names (now.0.running.memory.at y - first) no_block)) =
-                  sym place ∙ ap (place_in (row_by a.content used segment)) o ∙ label_is a.content used segment at long lt row bytes there
-                  names exact room (now.0.running.memory.at y - first) small in
+                  sym place ∙ ap (place_in (row_by a.content used segment)) o ∙ label_is long lt row there
+                  exact room (now.0.running.memory.at y - first) small in
                   let own : y ≡ entry_of (get_or names (now.0.running.memory.at y - first) no_block) = cc in
                   let whole : now.0.running.memory.at y ≡ first + (now.0.running.memory.at y - first) =
                   omega (arith, later, other, is_first) in
@@ -173,15 +171,15 @@ module _ (a b c : DeviceState) (v v' : LogMemory) (segment used at : ℕ) (was :
                   (cases_eq (now.0.running.memory.at y) (2 + 64 * segment + at)))
                   (cases_lt (now.0.running.memory.at y) (2 + 64 * segment + at)),
             ),
-            row_next a.content used segment at long lt row bytes there names exact room next is_next,
+            row_next long lt row there exact room next is_next,
           )
 
 -- ---- the whole of it
-pub all_cleared : (a b : DeviceState) (v v' : LogMemory) (segment used : ℕ) → v.chunk.names ≡ [] → segment < length v.usage.segments
+pub all_cleared : (a b : DeviceState) (v v' : LogMemory) (segment : ℕ) {used : ℕ} → v.chunk.names ≡ [] → segment < length v.usage.segments
     → used ≡ used_of v.usage segment
     → 2 + 64 * segment + used ≤ length a.content → ClearsTo a b v v' segment used used
     → Vacates a b v v' (segment_start segment) (segment_start (segment + 1))
-all_cleared a b v v' segment used closed low is_used long was k m0 m keeps is =
+all_cleared a b v v' segment {used} closed low is_used long was k m0 m keeps is =
     let here = was k m0 m keeps is in
     let now = here.0 in (
       now.0,
@@ -193,16 +191,16 @@ all_cleared a b v v' segment used closed low is_used long was k m0 m keeps is =
           let place : place_in (row_by a.content used segment) (now.0.running.memory.at y - (2 + 64 * segment)) ≡ Some y =
           subst (λ (u : ℕ). place_in (row_by a.content u segment) (now.0.running.memory.at y - (2 + 64 * segment)) ≡ Some y) (sym is_used)
           (subst (λ (x : ℕ). place_in (row_by a.content (used_of v.usage segment) segment) (x - (2 + 64 * segment)) ≡ Some y) same
-          (stands_named a v k m0 m is segment closed low y (omega (arith, same, from)) (omega (arith, same, to)))) in
+          (stands_named a v k m is segment closed low y (omega (arith, same, from)) (omega (arith, same, to)))) in
           let bad : Some y ≡ None = sym place
-          ∙ row_end a.content used segment long here.1 (now.0.running.memory.at y - (2 + 64 * segment)) (omega (arith, past)) in
+          ∙ row_end used long here.1 (now.0.running.memory.at y - (2 + 64 * segment)) (omega (arith, past)) in
           absurd (cc))
           (cases_lt (now.0.running.memory.at y) (2 + 64 * segment + used)),
     )
 
-pub long_there : (d : DeviceState) (v : LogMemory) (segment used : ℕ) → IsLawful d → HasRoom d v → segment < length v.usage.segments
+pub long_there : {d : DeviceState} (v : LogMemory) (segment used : ℕ) → IsLawful d → HasRoom d v → segment < length v.usage.segments
     → used ≤ 64 → 2 + 64 * segment + used ≤ length d.content
-long_there d v segment used lawful room low few = let size = lawful.size in omega (arith, room, low, few, size)
+long_there v segment used lawful room low few = let size = lawful.size in omega (arith, room, low, few, size)
 
 -- ---- one segment after the other
 pub vacates_none : (d : DeviceState) (v : LogMemory) (segments : List ℕ) → VacatesAll d d v v segments 0

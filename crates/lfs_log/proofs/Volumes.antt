@@ -54,14 +54,14 @@ and_true false = refl
 
 module _ {D : Type 0} (state : D → DeviceState) where
   -- what is to be saved, where the log holds a log map and memory stands for it
-  pub acknowledged : (h : Held D) (v : LogMemory) (k : CheckpointValue) (m0 m : LogMap) → Holds state (seen h) k m0 m
+  pub acknowledged : (h : Held D) {v : LogMemory} {k : CheckpointValue} {m0 m : LogMap} → Holds state (seen h) k m0 m
       → IsLog (state h.device) v k m0 m → IsLogMap (dropped m) → IsAcknowledged (state h.device) v h.version h.number k m0 m
-  acknowledged h v k m0 m is log map = record { log = log; map = map; same = is.number; same_version = is.version }
+  acknowledged h is log map = record { log = log; map = map; same = is.number; same_version = is.version }
 
   -- checkpoints over as many numbers in memory have as many segments
-  pub same_segments : (h h' : LogState D) (k next : CheckpointValue) (m0 m m0' m' : LogMap) → h'.segments ≡ h.segments
+  pub same_segments : {h h' : LogState D} {k : CheckpointValue} (next : CheckpointValue) {m0 m m0' m' : LogMap} → h'.segments ≡ h.segments
       → Holds state h k m0 m → Holds state h' next m0' m' → next.segments ≡ k.segments
-  same_segments h h' k next m0 m m0' m' same is is' = is'.segments ∙ same ∙ sym is.segments
+  same_segments next same is is' = is'.segments ∙ same ∙ sym is.segments
 
   pub saves : (h h' : Held D) → length h.memory.dirty.blocks ≤ 456 → CommitsAll (state h.device) (state h'.device) h.memory h'.memory
       h.version h.number → h'.number ≡ h.number + 1 → h'.version ≡ h.version → h'.upgraded ≡ false → h'.saved ≡ true → h'.halted ≡ false
@@ -82,10 +82,9 @@ module _ {D : Type 0} (state : D → DeviceState) where
     holds = holds;
     left = λ k m0 m keeps is map. (
         let n = holds k m0 m keeps is map in
-        subst (λ (l : ℕ). AllLeft (state h'.device) (λ c. StandsOn l c (dropped m)))
-        (same_segments (seen h) (seen h') k n.0 m0 m (dropped m) m c.segments is n.1)
+        subst (λ (l : ℕ). AllLeft (state h'.device) (λ c. StandsOn l c (dropped m))) (same_segments n.0 c.segments is n.1)
         (settled_stands (state h'.device) n.0 (dropped m) n.1.log.running.settled));
-    moment = λ k m0 m keeps is map. c.moment k m0 m keeps (acknowledged h h.memory k m0 m is is.log map);
+    moment = λ k m0 m keeps is map. c.moment k m0 m keeps (acknowledged h is is.log map);
   }
     where
       nothing : AreAllSaved (seen h')
@@ -94,8 +93,7 @@ module _ {D : Type 0} (state : D → DeviceState) where
       holds : (k : CheckpointValue) (m0 m : LogMap) → (state h'.device).keeps_model → Holds state (seen h) k m0 m → IsLogMap (dropped m)
           → (next : CheckpointValue) × Holds state (seen h') next (dropped m) m
       holds k m0 m keeps is map =
-          let n = c.log k m0 m keeps (acknowledged h h.memory k m0 m is is.log map) in (
-            n.0,
+          let n = c.log k m0 m keeps (acknowledged h is is.log map) in ( n.0,
             record {
               log = n.2;
               segments = sym n.2.segments;
@@ -108,18 +106,18 @@ module _ {D : Type 0} (state : D → DeviceState) where
           )
 
   -- where `Has` says what the log holds, and that memory stands for it
-  pub halts : (h h' : Held D) (v : LogMemory) (Has : CheckpointValue → LogMap → LogMap → Type 0)
+  pub halts : (h h' : Held D) {v : LogMemory} (Has : CheckpointValue → LogMap → LogMap → Type 0)
       → ((k : CheckpointValue) (m0 m : LogMap) → Has k m0 m → Holds state (seen h) k m0 m × IsLog (state h.device) v k m0 m)
       → CommitFails (state h.device) (state h'.device) v h.version h.number → h'.halted ≡ true → h'.saved ≡ false
       → h'.number ≡ h.number → HaltsOf state Has (seen h) (seen h')
-  halts h h' v Has stands c halted unsaved number = record {
+  halts h h' {v} Has stands c halted unsaved number = record {
     carries = c.carries;
     halted = halted;
     unsaved = unsaved;
     number = number;
     cause = λ k m0 m keeps is. c.cause k m0 m keeps (stands k m0 m is).1;
-    left = λ k m0 m keeps is map. (let both = stands k m0 m is in c.left k m0 m keeps (acknowledged h v k m0 m both.0 both.1 map));
-    moment = λ k m0 m keeps is map. (let both = stands k m0 m is in c.moment k m0 m keeps (acknowledged h v k m0 m both.0 both.1 map));
+    left = λ k m0 m keeps is map. (let both = stands k m0 m is in c.left k m0 m keeps (acknowledged h both.0 both.1 map));
+    moment = λ k m0 m keeps is map. (let both = stands k m0 m is in c.moment k m0 m keeps (acknowledged h both.0 both.1 map));
   }
 
   -- a mounted log map has no file of no links
@@ -134,7 +132,7 @@ module _ {D : Type 0} (state : D → DeviceState) where
         number = o.1;
         version = o.2;
         running = running;
-        nothing_new = λ all. all_linked (state d).content is.checkpoint m (are_sized (state d).content lawful.now) is.stands;
+        nothing_new = λ all. all_linked m (are_sized (state d).content lawful.now) is.stands;
         rest = λ all. record { nothing = nothing; untaken = untaken keeps; many = many keeps };
       }
 
@@ -184,15 +182,15 @@ module _ {D : Type 0} (state : D → DeviceState) where
   read_fault h h' excused k m0 m keeps is = excused k m0 m keeps (loose (state h.device) h.memory k m0 m is.log)
 
   -- ---- memory changes, and then blocks of pointers that lead nowhere leave it
-  held_tight : (h h' : Held D) (v : LogMemory) (k : CheckpointValue) (m0 m w : LogMap) → Holds state (seen h) k m0 m → h'.number ≡ h.number
+  held_tight : (h h' : Held D) {v : LogMemory} {k : CheckpointValue} {m0 m w : LogMap} → Holds state (seen h) k m0 m → h'.number ≡ h.number
       → (raised : Bool) → h'.version ≡ cond raised 2 h.version → w.version ≡ cond raised 2 m.version → h'.halted ≡ h.halted
       → Tightens v h'.memory
       → IsLoose (state h'.device) v k m0 w → (h'.saved ≡ true → m0 ≡ dropped w) → (h'.saved ≡ true → IsAtRest (seen h'))
       → Holds state (seen h') k m0 w
-  held_tight h h' v k m0 m w is number raised version same halted tight loose nothing_new rest =
+  held_tight h h' {v} {k} {m0} {w} is number raised version same halted tight loose nothing_new rest =
       record {
-        log = tightened_log (state h'.device) v h'.memory k m0 w tight loose;
-        segments = sym (tightened_log (state h'.device) v h'.memory k m0 w tight loose).segments;
+        log = tightened_log k w tight loose;
+        segments = sym (tightened_log k w tight loose).segments;
         number = is.number ∙ sym number;
         version = same ∙ ap (λ (n : ℕ). cond raised 2 n) is.version ∙ sym version;
         running = halted ∙ is.running;
@@ -200,13 +198,13 @@ module _ {D : Type 0} (state : D → DeviceState) where
         rest = rest;
       }
 
-  module _ (h h' : Held D) (v : LogMemory) (number : h'.number ≡ h.number) (halted : h'.halted ≡ h.halted)
+  module _ (h h' : Held D) {v : LogMemory} (number : h'.number ≡ h.number) (halted : h'.halted ≡ h.halted)
       (tight : Tightens v h'.memory) where
     module _ (c : Changes) where
-      stood : (raised : Bool) → h'.version ≡ cond raised 2 h.version → h'.upgraded ≡ (raised || h.upgraded)
+      stood : {raised : Bool} → h'.version ≡ cond raised 2 h.version → h'.upgraded ≡ (raised || h.upgraded)
           → StandsWithBatch (state h.device) (state h'.device) h.memory v c.headers.items c.blocks.items
           → Alters state (seen h) (seen h') (room_for c) raised
-      stood raised version upgraded s = record {
+      stood version upgraded s = record {
         looks = s.looks;
         number = number;
         version = version;
@@ -221,9 +219,9 @@ module _ {D : Type 0} (state : D → DeviceState) where
           → TakesBatch (state h.device) (state h'.device) h.memory v c.loss c.headers.items c.blocks.items
           → IsStaged state (seen h) (seen h') c
       is_staged version upgraded unsaved s = record {
-        alters = stood (raises c.loss) version upgraded s.stands;
+        alters = stood version upgraded s.stands;
         unsaved = unsaved;
-        holds = λ k m0 m keeps is fits. held_tight h h' v k m0 m _ is number (raises c.loss) version (staged_version c m) halted tight
+        holds = λ k m0 m keeps is fits. held_tight h h' is number (raises c.loss) version (staged_version c m) halted tight
             (s.log k m0 m keeps (loose (state h.device) h.memory k m0 m is.log) fits) (λ all. absurd (cc)) (λ all. absurd (cc));
       }
 
@@ -232,29 +230,29 @@ module _ {D : Type 0} (state : D → DeviceState) where
           → IsRefused state (seen h) (seen h') c
       is_refused version upgraded unsaved s =
           record {
-            alters = stood false version upgraded s.stands;
+            alters = stood version upgraded s.stands;
             unsaved = λ on. unsaved;
-            holds = λ k m0 m keeps is fits. held_tight h h' v k m0 m m is number
+            holds = λ k m0 m keeps is fits. held_tight h h' is number
                 false version refl halted tight (s.log k m0 m keeps (loose (state h.device) h.memory k m0 m is.log) fits)
                 (λ all. absurd (cc)) (λ all. absurd (cc));
           }
 
     -- where it had a name, the log isn't saved any more
-    pub is_removed : h'.version ≡ h.version → h'.upgraded ≡ h.upgraded → (n : ℕ) → n < FILE_NUMBERS
+    pub is_removed : h'.version ≡ h.version → h'.upgraded ≡ h.upgraded → {n : ℕ} → n < FILE_NUMBERS
         → h'.saved ≡ (h.saved && is_hidden_in h.memory.map n)
         → RemovesFile (state h.device) (state h'.device) h.memory v n → IsRemoved state (seen h) (seen h') n
-    is_removed version upgraded n low saved s = record {
+    is_removed version upgraded {n} low saved s = record {
       alters = alters;
       unsaved = λ off. saved ∙ ap (λ (all : Bool). all && is_hidden_in h.memory.map n) off;
       nameless = λ k m0 m keeps is off.
           saved ∙ ap (λ (hidden : Bool). h.saved && hidden) (sym (is.log.hidden n low) ∙ off) ∙ and_true h.saved;
       untaken = untaken;
-      holds = λ k m0 m keeps is. held_tight h h' v k m0 m _ is number false version refl halted tight
+      holds = λ k m0 m keeps is. held_tight h h' is number false version refl halted tight
           (s.log k m0 m keeps (loose (state h.device) h.memory k m0 m is.log))
           (λ all. (let both = and_parts h.saved (is_hidden_in h.memory.map n) (sym saved ∙ all) in
           is.nothing_new both.0 ∙ sym (same_dropped m n (is.log.hidden n low ∙ both.1))))
           (λ all. (let both = and_parts h.saved (is_hidden_in h.memory.map n) (sym saved ∙ all) in
-          rest_altered state (seen h) (seen h') alters untaken (is.rest both.0)));
+          rest_altered alters untaken (is.rest both.0)));
     }
       where
         alters : Alters state (seen h) (seen h') 0 false
@@ -279,10 +277,10 @@ module _ {D : Type 0} (state : D → DeviceState) where
       alters = alters;
       saved = saved;
       untaken = untaken;
-      holds = λ k m0 m keeps is. held_tight h h' v k m0 m m is number false version refl halted tight
+      holds = λ k m0 m keeps is. held_tight h h' is number false version refl halted tight
           (s.log k m0 m keeps (loose (state h.device) h.memory k m0 m is.log))
           (λ all. is.nothing_new (sym saved ∙ all))
-          (λ all. rest_altered state (seen h) (seen h') alters untaken (is.rest (sym saved ∙ all)));
+          (λ all. rest_altered alters untaken (is.rest (sym saved ∙ all)));
     }
       where
         alters : Alters state (seen h) (seen h') 0 false
@@ -309,7 +307,7 @@ module _ {D : Type 0} (state : D → DeviceState) where
   -- ---- numbers that no file has
   has_there : (h : Held D) (k : CheckpointValue) (m0 m : LogMap) → Holds state (seen h) k m0 m → (l : ℕ) → 0 < address_in h.memory.map l
       → HasInode m l
-  has_there h k m0 m is l some = has_inode (state h.device) h.memory k m0 m (loose (state h.device) h.memory k m0 m is.log) l some
+  has_there h k m0 m is l some = has_inode k m (loose (state h.device) h.memory k m0 m is.log) l some
 
   pub is_vacant : (h : Held D) (n : ℕ) → IsUnusedNumber h.memory.map n → IsVacant state (seen h) n
   is_vacant h n f = record {
@@ -323,10 +321,10 @@ module _ {D : Type 0} (state : D → DeviceState) where
   has_all h all k m0 m is l low few = has_there h k m0 m is l (all l low few)
 
   -- ---- the log holds one log map
-  pub holds_one : (h : LogState D) → HoldsOne state h
-  holds_one h = record {
+  pub holds_one : {h : LogState D} → HoldsOne state h
+  holds_one {h} = record {
     present = λ k k' m0 m m0' m' is is'.
-        same_map (state h.device) h.inner k k' m0 m m0' m' (loose (state h.device) h.inner k m0 m is.log)
+        same_map h.inner k k' m0 m m0' m' (loose (state h.device) h.inner k m0 m is.log)
         (loose (state h.device) h.inner k' m0' m' is'.log) (is.version ∙ sym is'.version);
     acknowledged = λ k k' m0 m m0' m' is is'.
         single_log (state h.device).content m0 m0' (stands_for h k m0 m is) (stands_for h k' m0' m' is');

@@ -15,8 +15,8 @@ use Rattle.lfs_memory.specs.Changing.{HasAbove, Stays, Stores, Drops, ChangesBlo
 use Rattle.lfs_memory.specs.Lifting.{IsInMemory}
 use Rattle.lfs_memory.proofs.LogMaps.{blank_or}
 
-pub stays_then : (a b : ℕ) (u v w : LogMemory) → Stays a u v → Stays b v w → Stays (a + b) u w
-stays_then a b u v w one two = record {
+pub stays_then : {a b : ℕ} {u v w : LogMemory} → Stays a u v → Stays b v w → Stays (a + b) u w
+stays_then one two = record {
   memory = λ memory. two.memory (one.memory memory);
   chunk = two.chunk ∙ one.chunk;
   segments = two.segments ∙ one.segments;
@@ -28,70 +28,67 @@ stays_then a b u v w one two = record {
 abbrev Holds : Dirty → Entry → Type 0
 Holds dirty z = (b : List ℕ) × (dirty z ≡ Some b)
 
-holds_patched : (f : List ℕ → List ℕ) (o : Option (List ℕ)) (b : List ℕ) → o ≡ Some b → (c : List ℕ) × (option_map f o ≡ Some c)
-holds_patched f o b is = (f b, ap (option_map f) is)
+holds_patched : (f : List ℕ → List ℕ) {o : Option (List ℕ)} {b : List ℕ} → o ≡ Some b → (c : List ℕ) × (option_map f o ≡ Some c)
+holds_patched f {b} is = (f b, ap (option_map f) is)
 
-holds_fetched : (old new : Dirty) (x : Entry) (bytes : List ℕ) → Fetches old new x bytes → (z : Entry) → Holds old z → Holds new z
-holds_fetched old new x bytes go z has = ⊎_elim
+holds_fetched : {old new : Dirty} {x : Entry} {bytes : List ℕ} → Fetches old new x bytes → (z : Entry) → Holds old z → Holds new z
+holds_fetched {old} {new} {x} {bytes} go z has = ⊎_elim
     (λ (here : z ≡ x). (bytes, ap new here ∙ go.own))
     (λ (ne : z ≡ x → ⊥). ⊎_elim
     (λ (up : z ≡ parent x).
-    let p = holds_patched (patched (pointer x) 1) (old (parent x)) has.0 (ap old (sym up) ∙ has.1) in
+    let p = holds_patched (patched (pointer x) 1) (ap old (sym up) ∙ has.1) in
     (p.0, ap new up ∙ go.patched (λ own. ne (up ∙ own)) ∙ p.1))
     (λ (np : z ≡ parent x → ⊥). (has.0, go.kept z ne np ∙ has.1))
     (same_entry z (parent x)))
     (same_entry z x)
 
-holds_moved : (old new : Dirty) (x : Entry) (a : ℕ) → Moves old new x a → (z : Entry) → (z ≡ x → ⊥) → Holds old z → Holds new z
-holds_moved old new x a go z ne has = ⊎_elim
+holds_moved : {old new : Dirty} {x : Entry} (a : ℕ) → Moves old new x a → (z : Entry) → (z ≡ x → ⊥) → Holds old z → Holds new z
+holds_moved {old} {new} {x} a go z ne has = ⊎_elim
     (λ (up : z ≡ parent x).
-    let p = holds_patched (patched (pointer x) a) (old (parent x)) has.0 (ap old (sym up) ∙ has.1) in
+    let p = holds_patched (patched (pointer x) a) (ap old (sym up) ∙ has.1) in
     (p.0, ap new up ∙ go.patched (λ own. ne (up ∙ own)) ∙ p.1))
     (λ (np : z ≡ parent x → ⊥). (has.0, go.kept z ne np ∙ has.1))
     (same_entry z (parent x))
 
-holds_changed : (old new : Dirty) (x : Entry) (bytes : List ℕ) → ChangesTo old new x (Some bytes) → (z : Entry) → Holds old z → Holds new z
-holds_changed old new x bytes go z has = ⊎_elim
+holds_changed : {old new : Dirty} {x : Entry} {bytes : List ℕ} → ChangesTo old new x (Some bytes) → (z : Entry) → Holds old z → Holds new z
+holds_changed {new} {x} {bytes} go z has = ⊎_elim
     (λ (here : z ≡ x). (bytes, ap new here ∙ go.own))
     (λ (ne : z ≡ x → ⊥). (has.0, go.others z ne ∙ has.1))
     (same_entry z x)
 
 -- ---- as a data block changes, all but that block
-stored_memory : (v v' : LogMemory) (n i a : ℕ) (bytes : List ℕ) → Stores v v' n (Data n i) a bytes → (z : Entry) → IsInMemory v z
+stored_memory : (v v' : LogMemory) (n i : ℕ) {a : ℕ} (bytes : List ℕ) → Stores v v' n (Data n i) a bytes → (z : Entry) → IsInMemory v z
     → IsInMemory v' z
-stored_memory v v' n i a bytes go z has = ⊎_elim
-    (λ (one : a ≡ 1). holds_changed (blocks_of v.dirty) (blocks_of v'.dirty) (Data n i) bytes (go.changes one) z has)
-    (λ (ne : a ≡ 1 → ⊥). holds_fetched (blocks_of v.dirty) (blocks_of v'.dirty) (Data n i) bytes (go.comes ne) z has)
-    (cases_eq a 1)
+stored_memory v v' n i {a} bytes go z has = ⊎_elim
+    (λ (one : a ≡ 1). holds_changed (go.changes one) z has)
+    (λ (ne : a ≡ 1 → ⊥). holds_fetched (go.comes ne) z has) (cases_eq a 1)
 
-dropped_memory : (v v' : LogMemory) (n i a : ℕ) → Drops v v' n (Data n i) a → (z : Entry) → (z ≡ Data n i → ⊥) → IsInMemory v z
+dropped_memory : (v v' : LogMemory) (n i : ℕ) {a : ℕ} → Drops v v' n (Data n i) a → (z : Entry) → (z ≡ Data n i → ⊥) → IsInMemory v z
     → IsInMemory v' z
-dropped_memory v v' n i a go z ne has = ⊎_elim
+dropped_memory v v' n i {a} go z ne has = ⊎_elim
     (λ (none : a ≡ 0). subst (λ (t : TableValue). Holds (blocks_of t) z) (sym (go.none none)) has)
-    (λ (some : a ≡ 0 → ⊥). holds_moved (blocks_of v.dirty) (blocks_of v'.dirty) (Data n i) 0 (go.leaves (omega (arith, some))) z ne has)
-    (cases_eq a 0)
+    (λ (some : a ≡ 0 → ⊥). holds_moved 0 (go.leaves (omega (arith, some))) z ne has) (cases_eq a 0)
 
-pub changed_memory : (v v' : LogMemory) (n i : ℕ) (bytes : List ℕ) → length bytes ≡ 512 → ChangesBlock v v' n i bytes → (z : Entry)
+pub changed_memory : (v v' : LogMemory) (n i : ℕ) (bytes : List ℕ) → length bytes ≡ 512 → ChangesBlock v v' n i bytes → {z : Entry}
     → (z ≡ Data n i → ⊥) → IsInMemory v z → IsInMemory v' z
-changed_memory v v' n i bytes long go z ne has = ⊎_elim
-    (λ (none : bytes ≡ zeros 512). dropped_memory v v' n i go.address (go.puts.drops none) z ne has)
-    (λ (some : bytes ≡ zeros 512 → ⊥). stored_memory v v' n i go.address bytes (go.puts.stores some) z has)
-    (blank_or bytes long)
+changed_memory v v' n i bytes long go {z} ne has = ⊎_elim
+    (λ (none : bytes ≡ zeros 512). dropped_memory v v' n i (go.puts.drops none) z ne has)
+    (λ (some : bytes ≡ zeros 512 → ⊥). stored_memory v v' n i bytes (go.puts.stores some) z has) (blank_or bytes long)
 
 -- so the block above any other
-pub above_changed : (v v' : LogMemory) (n i : ℕ) (bytes : List ℕ) → length bytes ≡ 512 → ChangesBlock v v' n i bytes → (y : Entry)
+pub above_changed : (v v' : LogMemory) {n i : ℕ} {bytes : List ℕ} → length bytes ≡ 512 → ChangesBlock v v' n i bytes → (y : Entry)
     → HasAbove (blocks_of v.dirty) y → HasAbove (blocks_of v'.dirty) y
-above_changed v v' n i bytes long go y has = changed_memory v v' n i bytes long go (parent y) (no_data_parent n i y) has
+above_changed v v' {n} {i} {bytes} long go y has = changed_memory v v' n i bytes long go (no_data_parent n i y) has
 
 -- ---- as a block of pointers grows, which is above its own blocks then
 pub grown_memory : (v v' : LogMemory) (x : Entry) → Grows v v' x → (z : Entry) → IsInMemory v z → IsInMemory v' z
-grown_memory v v' x go z has = holds_fetched (blocks_of v.dirty) (blocks_of v'.dirty) x (zeros 512) go.comes z has
+grown_memory v v' x go z has = holds_fetched go.comes z has
 
 -- ---- as a header changes, or a file is made
-pub headed_memory : (v v' : LogMemory) (n : ℕ) (kind : Kind) (form links size : ℕ) → ChangesHeader v v' n kind form links size → (z : Entry)
+pub headed_memory : (v v' : LogMemory) {n : ℕ} {kind : Kind} {form links size : ℕ} → ChangesHeader v v' n kind form links size → (z : Entry)
     → IsInMemory v z → IsInMemory v' z
-headed_memory v v' n kind form links size go z has = holds_changed (blocks_of v.dirty) (blocks_of v'.dirty) (Inode n) _ go.changes z has
+headed_memory v v' {n} go z has = holds_changed go.changes z has
 
-pub created_memory : (v v' : LogMemory) (n : ℕ) (kind : Kind) (form links size : ℕ) → Creates v v' n kind form links size → (z : Entry)
+pub created_memory : (v v' : LogMemory) {n : ℕ} {kind : Kind} {form links size : ℕ} → Creates v v' n kind form links size → (z : Entry)
     → IsInMemory v z → IsInMemory v' z
-created_memory v v' n kind form links size go z has = holds_changed (blocks_of v.dirty) (blocks_of v'.dirty) (Inode n) _ go.changes z has
+created_memory v v' {n} go z has = holds_changed go.changes z has

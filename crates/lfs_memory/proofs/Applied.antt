@@ -39,7 +39,7 @@ nothing_in_none : (v : LogMemory) (x : Entry) → IsInMemory v x → blocks_of v
 nothing_in_none v x has none = let e : Some has.0 ≡ None = sym has.1 ∙ none in absurd cc
 
 -- ---- the inodes that are there
-module _ (d : DeviceState) (v : LogMemory) (k : CheckpointValue) (m0 m : LogMap) (is : IsLoose d v k m0 m) (n : ℕ) where
+module _ {d : DeviceState} {v : LogMemory} (k : CheckpointValue) {m0 : LogMap} (m : LogMap) (is : IsLoose d v k m0 m) (n : ℕ) where
   inode_at : is.running.memory.at (Inode n) ≡ address_in v.map n
   inode_at = is.running.tables.at (Inode n) refl
 
@@ -58,12 +58,12 @@ record KeepsFiles (v v' : LogMemory) (n : ℕ) : Type 0 where
   same : 0 < address_in v.map n → address_in v'.map n ≡ address_in v.map n
   blocks : (j : ℕ) → block_in v'.map j ≡ block_in v.map j
 
-keeps_files : (v v' : LogMemory) (e : HeaderEdit) → AppliesHeader v v' e → KeepsFiles v v' e.number
-keeps_files v v' e go = zero_or (address_in v.map e.number) (KeepsFiles v v' e.number)
+keeps_files : (v : LogMemory) {v' : LogMemory} (e : HeaderEdit) → AppliesHeader v v' e → KeepsFiles v v' e.number
+keeps_files v {v'} e go = zero_or (address_in v.map e.number) (KeepsFiles v v' e.number)
     (λ none.
     let c = go.creates none in
     record {
-      stay = created_memory v v' e.number e.header.kind e.header.form e.header.links e.header.size c;
+      stay = created_memory v v' c;
       own = λ at. (_, c.changes.own);
       others = c.address.others;
       same = λ some. absurd (omega (arith, some, none));
@@ -72,7 +72,7 @@ keeps_files v v' e go = zero_or (address_in v.map e.number) (KeepsFiles v v' e.n
     (λ some.
     let c = go.changes some in
     record {
-      stay = headed_memory v v' e.number e.header.kind e.header.form e.header.links e.header.size c;
+      stay = headed_memory v v' c;
       own = λ at. absurd (omega (arith, some, at));
       others = λ l ne. ap (λ (a : MapValue). address_in a l) c.map;
       same = λ at. ap (λ (a : MapValue). address_in a e.number) c.map;
@@ -90,17 +90,17 @@ inside_then v v' n l keeps was = ⊎_elim
     (cases_eq l n))
     was
 
-header_ready_then : (v v' : LogMemory) (n l links : ℕ) → KeepsFiles v v' n → IsHeaderReady v l links → IsHeaderReady v' l links
-header_ready_then v v' n l links keeps was = record {
+header_ready_then : (v v' : LogMemory) (n : ℕ) {l links : ℕ} → KeepsFiles v v' n → IsHeaderReady v l links → IsHeaderReady v' l links
+header_ready_then v v' n {l} keeps was = record {
   inside = inside_then v v' n l keeps was.inside;
   mapped = λ some. keeps.blocks (l / 128) ∙ was.mapped some;
 }
 
-headers_ready_then : (v v' : LogMemory) (n : ℕ) → KeepsFiles v v' n → (edits : List HeaderEdit) → AreHeadersReady v edits
+headers_ready_then : {v v' : LogMemory} {n : ℕ} → KeepsFiles v v' n → (edits : List HeaderEdit) → AreHeadersReady v edits
     → AreHeadersReady v' edits
-headers_ready_then v v' n keeps [] was = was
-headers_ready_then v v' n keeps (e ∷ edits) was =
-    (header_ready_then v v' n e.number e.header.links keeps was.0, headers_ready_then v v' n keeps edits was.1)
+headers_ready_then keeps [] was = was
+headers_ready_then {v} {v'} {n} keeps (e ∷ edits) was =
+    (header_ready_then v v' n keeps was.0, headers_ready_then keeps edits was.1)
 
 ready_then : (v v' : LogMemory) (n l i : ℕ) → KeepsFiles v v' n → HasParent v l i → HasParent v' l i
 ready_then v v' n l i keeps was = ⊎_elim
@@ -111,11 +111,11 @@ ready_then v v' n l i keeps was = ⊎_elim
     (inside_then v v' n l keeps (inr made.0)))
     was
 
-blocks_ready_then : (v v' : LogMemory) (n : ℕ) → KeepsFiles v v' n → (edits : List BlockEdit) → AreBlocksReady v edits
+blocks_ready_then : (v : LogMemory) {v' : LogMemory} {n : ℕ} → KeepsFiles v v' n → (edits : List BlockEdit) → AreBlocksReady v edits
     → AreBlocksReady v' edits
-blocks_ready_then v v' n keeps [] was = was
-blocks_ready_then v v' n keeps (e ∷ edits) was =
-    (ready_then v v' n e.number e.index keeps was.0, blocks_ready_then v v' n keeps edits was.1)
+blocks_ready_then v keeps [] was = was
+blocks_ready_then v {v'} {n} keeps (e ∷ edits) was =
+    (ready_then v v' n e.number e.index keeps was.0, blocks_ready_then v keeps edits was.1)
 
 module _ (d : DeviceState) (v v' : LogMemory) (k : CheckpointValue) (m0 m : LogMap) (is : IsLoose d v k m0 m) (e : HeaderEdit) where
   in_range : e.number < 4096
@@ -123,109 +123,104 @@ module _ (d : DeviceState) (v v' : LogMemory) (k : CheckpointValue) (m0 m : LogM
 
   header_applied : IsHeaderReady v e.number e.header.links → FitsFile m e → AppliesHeader v v' e → IsLoose d v' k m0 (after_header e m)
   header_applied ready fits go = zero_or (address_in v.map e.number) (IsLoose d v' k m0 (after_header e m))
-      (λ none. file_created d v v' k m0 m is e.number e.some in_range none e.header.kind e.header.form e.header.links e.header.size
+      (λ none. file_created d v v' k m0 m is e.some in_range none
       fits.header (λ named. ready.mapped (some_link e.header.links named)) (go.creates none))
-      (λ some. header_changed d v v' k m0 m is e.number in_range e.header.kind e.header.form e.header.links e.header.size fits.header
-      (fits.name (has_inode d v k m0 m is e.number some) ∙ is.hidden e.number in_range)
+      (λ some. header_changed d v v' k m0 m is in_range fits.header
+      (fits.name (has_inode k m is e.number some) ∙ is.hidden e.number in_range)
       (λ named. ready.mapped (some_link e.header.links named)) (go.changes some))
 
-not_away : (v : LogMemory) (n links : ℕ) → IsHeaderReady v n links → IsInodeAway v n → ⊥
-not_away v n links ready away = ⊎_elim
+not_away : (v : LogMemory) {n links : ℕ} → IsHeaderReady v n links → IsInodeAway v n → ⊥
+not_away v {n} ready away = ⊎_elim
     (λ (has : IsInMemory v (Inode n)). nothing_in_none v (Inode n) has away.1)
     (λ (none : address_in v.map n ≡ 0). let some = away.0 in omega (arith, none, some))
     ready.inside
 
 -- ---- headers, one after the other
-pub headers_applied : (d : DeviceState) (k : CheckpointValue) (m0 : LogMap) (edits : List HeaderEdit) (v w : LogMemory) (m : LogMap)
+pub headers_applied : (d : DeviceState) (k : CheckpointValue) {m0 : LogMap} (edits : List HeaderEdit) {v : LogMemory} (w : LogMemory)
+    {m : LogMap}
     → IsLoose d v k m0 m → AreHeadersReady v edits → AreHeadersFit m edits
     → AppliesHeaders v edits w → IsLoose d w k m0 (after_headers edits m)
-headers_applied d k m0 [] v w m is ready fit same = subst (λ (u : LogMemory). IsLoose d u k m0 m) (sym same) is
-headers_applied d k m0 (e ∷ edits) v w m is ready fit go =
-    headers_applied d k m0 edits go.0 w (after_header e m) (header_applied d v go.0 k m0 m is e ready.0 fit.0 go.1)
-    (headers_ready_then v go.0 e.number (keeps_files v go.0 e go.1) edits ready.1) fit.1 go.2
+headers_applied d k {m0} [] w {m} is ready fit same = subst (λ (u : LogMemory). IsLoose d u k m0 m) (sym same) is
+headers_applied d k {m0} (e ∷ edits) {v} w {m} is ready fit go =
+    headers_applied d k edits w (header_applied d v go.0 k m0 m is e ready.0 fit.0 go.1)
+    (headers_ready_then (keeps_files v e go.1) edits ready.1) fit.1 go.2
 
 pub headers_never_fail : (edits : List HeaderEdit) (v : LogMemory) → AreHeadersReady v edits → FailsHeaders v edits → ⊥
 headers_never_fail [] v ready bad = bad
 headers_never_fail (e ∷ edits) v ready bad = ⊎_elim
-    (λ (away : IsInodeAway v e.number). not_away v e.number e.header.links ready.0 away)
+    (λ (away : IsInodeAway v e.number). not_away v ready.0 away)
     (λ (later : (v' : LogMemory) × AppliesHeader v v' e × FailsHeaders v' edits).
-    headers_never_fail edits later.0 (headers_ready_then v later.0 e.number (keeps_files v later.0 e later.1) edits ready.1) later.2)
-    bad
+    headers_never_fail edits later.0 (headers_ready_then (keeps_files v e later.1) edits ready.1) later.2) bad
 
 pub blocks_ready_after : (edits : List HeaderEdit) (v w : LogMemory) → AppliesHeaders v edits w → (bs : List BlockEdit)
     → AreBlocksReady v bs → AreBlocksReady w bs
 blocks_ready_after [] v w same bs ready = subst (λ (u : LogMemory). AreBlocksReady u bs) (sym same) ready
 blocks_ready_after (e ∷ edits) v w go bs ready =
-    blocks_ready_after edits go.0 w go.2 bs (blocks_ready_then v go.0 e.number (keeps_files v go.0 e go.1) bs ready)
+    blocks_ready_after edits go.0 w go.2 bs (blocks_ready_then v (keeps_files v e go.1) bs ready)
 
 -- ---- blocks
 block_ready_then : (v v' : LogMemory) (e : BlockEdit) → ChangesBlock v v' e.number e.index e.bytes → (l i : ℕ) → HasParent v l i
     → HasParent v' l i
 block_ready_then v v' e go l i was = ⊎_elim
-    (λ (has : HasAbove (blocks_of v.dirty) (Data l i)). inl (above_changed v v' e.number e.index e.bytes e.long go (Data l i) has))
+    (λ (has : HasAbove (blocks_of v.dirty) (Data l i)). inl (above_changed v v' e.long go (Data l i) has))
     (λ (made : (address_in v.map l ≡ 0) × (i < 112)).
-    inr (ap (λ (a : MapValue). address_in a l) (block_stays v v' e.number e.index e.bytes e.long go).1 ∙ made.0, made.1))
-    was
+    inr (ap (λ (a : MapValue). address_in a l) (block_stays v e.long go).1 ∙ made.0, made.1)) was
 
-still_ready : (v v' : LogMemory) (e : BlockEdit) → ChangesBlock v v' e.number e.index e.bytes → (edits : List BlockEdit)
+still_ready : (v : LogMemory) {v' : LogMemory} (e : BlockEdit) → ChangesBlock v v' e.number e.index e.bytes → (edits : List BlockEdit)
     → AreBlocksReady v edits → AreBlocksReady v' edits
-still_ready v v' e go [] was = was
-still_ready v v' e go (f ∷ edits) was = (block_ready_then v v' e go f.number f.index was.0, still_ready v v' e go edits was.1)
+still_ready v e go [] was = was
+still_ready v {v'} e go (f ∷ edits) was = (block_ready_then v v' e go f.number f.index was.0, still_ready v e go edits was.1)
 
-module _ (d : DeviceState) (v : LogMemory) (k : CheckpointValue) (m0 m : LogMap) (is : IsLoose d v k m0 m) (e : BlockEdit) where
+module _ (d : DeviceState) (v : LogMemory) (k : CheckpointValue) {m0 : LogMap} (m : LogMap) (is : IsLoose d v k m0 m) (e : BlockEdit) where
   below_all : e.number < 4096
   below_all = let few = e.few in omega (arith, few)
 
-  block_applied : (v' : LogMemory) → ChangesBlock v v' e.number e.index e.bytes → IsLoose d v' k m0 (after_block e m)
-  block_applied v' go = block_changed d v v' k m0 m is e.number e.index below_all e.bytes e.long go
+  block_applied : {v' : LogMemory} → ChangesBlock v v' e.number e.index e.bytes → IsLoose d v' k m0 (after_block e m)
+  block_applied {v'} go = block_changed d v v' k m0 m is below_all e.long go
 
   -- the block above one of a file that is there
   has_above : HasParent v e.number e.index → HasInode m e.number → HasAbove (blocks_of v.dirty) (Data e.number e.index)
   has_above ready there = ⊎_elim
       (λ (has : HasAbove (blocks_of v.dirty) (Data e.number e.index)). has)
-      (λ (made : (address_in v.map e.number ≡ 0) × (e.index < 112)). absurd (inode_some d v k m0 m is e.number there made.0))
-      ready
+      (λ (made : (address_in v.map e.number ≡ 0) × (e.index < 112)). absurd (inode_some k m is e.number there made.0)) ready
 
   block_not_away : HasParent v e.number e.index → HasInode m e.number → IsBlockAway v e.number e.index → ⊥
   block_not_away ready there away = ⊎_elim
       (λ (none : blocks_of v.dirty (parent (Data e.number e.index)) ≡ None).
       nothing_in_none v (parent (Data e.number e.index)) (has_above ready there) none)
-      (λ (bad : IsBlockMiscounted v e.number e.index). block_counted d v k m0 m is e.number e.index below_all bad)
-      away
+      (λ (bad : IsBlockMiscounted v e.number e.index). block_counted d v k m0 m is below_all bad) away
 
 -- ---- blocks, one after the other
-pub blocks_applied : (d : DeviceState) (k : CheckpointValue) (m0 : LogMap) (edits : List BlockEdit) (v w : LogMemory) (m : LogMap)
+pub blocks_applied : (d : DeviceState) (k : CheckpointValue) (m0 : LogMap) (edits : List BlockEdit) {v : LogMemory} (w : LogMemory)
+    {m : LogMap}
     → IsLoose d v k m0 m → AppliesBlocks v edits w
     → IsLoose d w k m0 (after_blocks edits m)
-blocks_applied d k m0 [] v w m is same = subst (λ (u : LogMemory). IsLoose d u k m0 m) (sym same) is
-blocks_applied d k m0 (e ∷ edits) v w m is go =
-    blocks_applied d k m0 edits go.0 w (after_block e m) (block_applied d v k m0 m is e go.0 go.1) go.2
+blocks_applied d k m0 [] w {m} is same = subst (λ (u : LogMemory). IsLoose d u k m0 m) (sym same) is
+blocks_applied d k m0 (e ∷ edits) {v} w {m} is go =
+    blocks_applied d k m0 edits w (block_applied d v k m is e go.1) go.2
 
-pub blocks_never_fail : (d : DeviceState) (k : CheckpointValue) (m0 : LogMap) (edits : List BlockEdit) (v : LogMemory) (m : LogMap)
+pub blocks_never_fail : (d : DeviceState) (k : CheckpointValue) {m0 : LogMap} (edits : List BlockEdit) {v : LogMemory} {m : LogMap}
     → IsLoose d v k m0 m → AreBlocksReady v edits → AreBlocksFit m edits
     → FailsBlocks v edits → ⊥
-blocks_never_fail d k m0 [] v m is ready fit bad = bad
-blocks_never_fail d k m0 (e ∷ edits) v m is ready fit bad = ⊎_elim
-    (λ (away : IsBlockAway v e.number e.index). block_not_away d v k m0 m is e ready.0 fit.0 away)
+blocks_never_fail d k [] is ready fit bad = bad
+blocks_never_fail d k {m0} (e ∷ edits) {v} {m} is ready fit bad = ⊎_elim
+    (λ (away : IsBlockAway v e.number e.index). block_not_away d v k m is e ready.0 fit.0 away)
     (λ (later : (v' : LogMemory) × ChangesBlock v v' e.number e.index e.bytes × FailsBlocks v' edits).
-    blocks_never_fail d k m0 edits later.0 (after_block e m) (block_applied d v k m0 m is e later.0 later.1)
-    (still_ready v later.0 e later.1 edits ready.1) fit.1 later.2)
-    bad
+    blocks_never_fail d k edits (block_applied d v k m is e later.1) (still_ready v e later.1 edits ready.1) fit.1 later.2) bad
 
 -- ---- the whole batch
-module _ (d : DeviceState) (k : CheckpointValue) (m0 m : LogMap) (headers : List HeaderEdit) (blocks : List BlockEdit) (v : LogMemory)
+module _ (d : DeviceState) (k : CheckpointValue) (m0 : LogMap) {m : LogMap} (headers : List HeaderEdit) (blocks : List BlockEdit)
+    (v : LogMemory)
     (is : IsLoose d v k m0 m)
     (headers_ready : AreHeadersReady v headers) (headers_fit : AreHeadersFit m headers) where
   pub batch_applied : (w : LogMemory) → Applies v headers blocks w → IsLoose d w k m0 (after_batch headers blocks m)
-  batch_applied w go = blocks_applied d k m0 blocks go.0 w (after_headers headers m)
-      (headers_applied d k m0 headers v go.0 m is headers_ready headers_fit go.1) go.2
+  batch_applied w go = blocks_applied d k m0 blocks w (headers_applied d k headers go.0 is headers_ready headers_fit go.1) go.2
 
   pub batch_never_fails : AreBlocksReady v blocks → AreBlocksFit (after_headers headers m) blocks → FailsToApply v headers blocks → ⊥
   batch_never_fails blocks_ready blocks_fit bad = ⊎_elim
       (λ (first : FailsHeaders v headers). headers_never_fail headers v headers_ready first)
       (λ (then : (u : LogMemory) × AppliesHeaders v headers u × FailsBlocks u blocks).
-      blocks_never_fail d k m0 blocks
-      then.0 (after_headers headers m) (headers_applied d k m0 headers v then.0 m is headers_ready headers_fit then.1)
+      blocks_never_fail d k blocks (headers_applied d k headers then.0 is headers_ready headers_fit then.1)
       (blocks_ready_after headers v then.0 then.1 blocks blocks_ready) blocks_fit then.2)
       bad
 
@@ -243,9 +238,9 @@ pub record BlocksSoFar (old now : LogMemory) (edits rest : List BlockEdit) (most
 
 header_stays : (v v' : LogMemory) (e : HeaderEdit) → AppliesHeader v v' e → Stays 1 v v'
 header_stays v v' e go =
-    zero_or (address_in v.map e.number) (Stays 1 v v') (λ none. (go.creates none).stays) (λ some. stays_more v v' (go.changes some).stays)
+    zero_or (address_in v.map e.number) (Stays 1 v v') (λ none. (go.creates none).stays) (λ some. stays_more (go.changes some).stays)
 
-module _ (old now : LogMemory) (edits : List HeaderEdit) (i : ℕ) (e : HeaderEdit) (within : i < length edits) (own : get_or edits i e ≡ e)
+module _ {old now : LogMemory} {edits : List HeaderEdit} {i : ℕ} {e : HeaderEdit} (within : i < length edits) (own : get_or edits i e ≡ e)
     (was : HeadersSoFar old now edits (drop i edits) i) where
   first_header : drop i edits ≡ e ∷ drop (i + 1) edits
   first_header = drop_more edits i e within ∙ ap (λ (f : HeaderEdit). f ∷ drop (i + 1) edits) own
@@ -254,10 +249,10 @@ module _ (old now : LogMemory) (edits : List HeaderEdit) (i : ℕ) (e : HeaderEd
   headers_then next go = record {
     done = λ w rest. was.done w (subst (λ (es : List HeaderEdit). AppliesHeaders now es w) (sym first_header) (next, go, rest));
     failed = λ bad. was.failed (subst (λ (es : List HeaderEdit). FailsHeaders now es) (sym first_header) (inr (next, go, bad)));
-    stays = stays_then i 1 old now next was.stays (header_stays now next e go);
+    stays = stays_then was.stays (header_stays now next e go);
   }
 
-module _ (old now : LogMemory) (edits : List BlockEdit) (i : ℕ) (e : BlockEdit) (within : i < length edits) (own : get_or edits i e ≡ e)
+module _ {old now : LogMemory} {edits : List BlockEdit} {i : ℕ} (e : BlockEdit) (within : i < length edits) (own : get_or edits i e ≡ e)
     (was : BlocksSoFar old now edits (drop i edits) i) where
   first_block : drop i edits ≡ e ∷ drop (i + 1) edits
   first_block = drop_more edits i e within ∙ ap (λ (f : BlockEdit). f ∷ drop (i + 1) edits) own
@@ -267,5 +262,5 @@ module _ (old now : LogMemory) (edits : List BlockEdit) (i : ℕ) (e : BlockEdit
   blocks_then next go = record {
     done = λ w rest. was.done w (subst (λ (es : List BlockEdit). AppliesBlocks now es w) (sym first_block) (next, go, rest));
     failed = λ bad. was.failed (subst (λ (es : List BlockEdit). FailsBlocks now es) (sym first_block) (inr (next, go, bad)));
-    stays = stays_then i 1 old now next was.stays (block_stays now next e.number e.index e.bytes e.long go).0;
+    stays = stays_then was.stays (block_stays now e.long go).0;
   }

@@ -35,9 +35,9 @@ no_entries [] none = refl
 no_entries (x ∷ xs) none = absurd (omega (arith, none))
 
 -- a segment taken from the clean ones, as the tables see it
-pub taken_tables : (map : MapValue) (old new : UsageTable) (s age : ℕ) → TakesSegment old new s age
+pub taken_tables : (map : MapValue) {old new : UsageTable} {s : ℕ} (age : ℕ) → TakesSegment old new s age
     → IsTakenFrom (tables_by map old) (tables_by map new) s
-taken_tables map old new s age t = record {
+taken_tables map {old} {new} age t = record {
   clean = t.clean;
   at = at;
   used = t.used;
@@ -57,9 +57,9 @@ taken_tables map old new s age t = record {
     at (Usage j) = (t.blocks j).1
 
 -- a chunk that begins behind another, as the tables see it
-pub gone_tables : (map : MapValue) (old new : UsageTable) (s age : ℕ) → GoesOn old new s age
+pub gone_tables : (map : MapValue) {old new : UsageTable} {s : ℕ} (age : ℕ) → GoesOn old new s age
     → GoesOnIn (tables_by map old) (tables_by map new) s
-gone_tables map old new s age g = record {
+gone_tables map {old} {new} age g = record {
   some = g.begun;
   room = let r = g.room in omega (arith, r);
   at = at;
@@ -79,7 +79,7 @@ gone_tables map old new s age g = record {
     at (Map j) = refl
     at (Usage j) = g.blocks.address j
 
-module _ (v v' : LogMemory) (name : BlockNameValue) (lives : Bool) (age place : ℕ) (memory : IsMemory v)
+module _ {v v' : LogMemory} {name : BlockNameValue} {lives : Bool} {age place : ℕ} (memory : IsMemory v)
     (p : Places v v' name lives age place) where
   abbrev pub before : Tables
   before = tables_by v.map p.middle
@@ -116,10 +116,9 @@ module _ (v v' : LogMemory) (name : BlockNameValue) (lives : Bool) (age place : 
 
   stale_still : (j : ℕ) → stale_of v.usage j ≡ true → stale_of v'.usage j ≡ true
   stale_still j on = ⊎_elim
-      (λ (none : length v.chunk.names ≡ 0). stays_stale p.middle v'.usage (v'.chunk.segment / 64) j p.noted.blocks
+      (λ (none : length v.chunk.names ≡ 0). stays_stale j p.noted.blocks
       (begins_stale v.usage p.middle v'.chunk.segment age (p.begun none) j on))
-      (λ (some : 0 < length v.chunk.names). stays_stale p.middle v'.usage (v'.chunk.segment / 64) j p.noted.blocks
-      (ap (λ (u : UsageTable). stale_of u j) (p.went_on some).0 ∙ on))
+      (λ (some : 0 < length v.chunk.names). stays_stale j p.noted.blocks (ap (λ (u : UsageTable). stale_of u j) (p.went_on some).0 ∙ on))
       (zero_or_more (length v.chunk.names))
 
   pub long_names : length v'.chunk.names ≡ suc (length v.chunk.names)
@@ -158,50 +157,43 @@ module _ (v v' : LogMemory) (name : BlockNameValue) (lives : Bool) (age place : 
   pub placed_emptied : (s : ℕ) → IsEmptied v.usage s → IsEmptied v'.usage s
   placed_emptied s is =
       let middle : IsEmptied p.middle s = ⊎_elim
-      (λ (none : length v.chunk.names ≡ 0). (stays_emptied v.usage p.middle s is).0 v'.chunk.segment age (p.begun none))
+      (λ (none : length v.chunk.names ≡ 0). (stays_emptied p.middle is).0 v'.chunk.segment age (p.begun none))
       (λ (some : 0 < length v.chunk.names). subst (λ (u : UsageTable). IsEmptied u s) (sym (p.went_on some).0) is)
       (zero_or_more (length v.chunk.names)) in
-      (stays_emptied p.middle v'.usage s middle).1 v'.chunk.segment lives p.noted unkept
+      (stays_emptied v'.usage middle).1 v'.chunk.segment lives p.noted unkept
 
-  module _ (d : DeviceState) (k : CheckpointValue) (m0 m : LogMap) (is : IsLog d v k m0 m) where
+  module _ {d : DeviceState} {k : CheckpointValue} {m0 m : LogMap} (is : IsLog d v k m0 m) where
     pub begun : Running d (blocks_of v.dirty) before k m0 m v'.chunk.segment (Some (entries_of v.chunk))
     begun = ⊎_elim first more (zero_or_more (length v.chunk.names))
       where
         first : length v.chunk.names ≡ 0 → Running d (blocks_of v.dirty) before k m0 m v'.chunk.segment (Some (entries_of v.chunk))
         first none =
-            as_chunk d (blocks_of v.dirty) before k m0 m v'.chunk.segment v'.chunk.segment (Some []) (Some (entries_of v.chunk)) refl
-            (ap Some (sym (no_entries v.chunk.names none)))
-            (⊎_elim
+            as_chunk {b = v'.chunk.segment} refl (ap Some (sym (no_entries v.chunk.names none))) (⊎_elim
             (λ (t : TakesSegment v.usage p.middle v'.chunk.segment age).
-            beginning d (blocks_of v.dirty) (tables_of v) before k m0 m 1024 v'.chunk.segment (is_closed d v k m0 m is none)
-            (let i = t.inside in let e = is.segments in omega (arith, i, e))
-            (taken_tables v.map v.usage p.middle v'.chunk.segment age t))
+            beginning d (blocks_of v.dirty) (tables_of v) before k m0 m 1024 v'.chunk.segment (is_closed is none)
+            (let i = t.inside in let e = is.segments in omega (arith, i, e)) (taken_tables v.map age t))
             (λ (g : GoesOn v.usage p.middle v'.chunk.segment age).
-            going_on d (blocks_of v.dirty) (tables_of v) before k m0 m 1024 v'.chunk.segment (is_closed d v k m0 m is none)
-            (let i = g.inside in let e = is.segments in omega (arith, i, e))
-            (gone_tables v.map v.usage p.middle v'.chunk.segment age g))
-            (p.begun none))
+            going_on d (blocks_of v.dirty) (tables_of v) before k m0 m 1024 v'.chunk.segment (is_closed is none)
+            (let i = g.inside in let e = is.segments in omega (arith, i, e)) (gone_tables v.map age g)) (p.begun none))
 
         more : 0 < length v.chunk.names → Running d (blocks_of v.dirty) before k m0 m v'.chunk.segment (Some (entries_of v.chunk))
         more some =
             let w = p.went_on some in
             subst (λ (u : UsageTable).
-            Running d (blocks_of v.dirty) (tables_by v.map u) k m0 m v'.chunk.segment (Some (entries_of v.chunk))) (sym w.0)
-            (as_chunk d (blocks_of v.dirty) (tables_of v) k m0 m v.chunk.segment v'.chunk.segment (Some (entries_of v.chunk))
-            (Some (entries_of v.chunk)) (sym w.1) refl (is_open d v k m0 m is some))
+            Running d (blocks_of v.dirty) (tables_by v.map u) k m0 m v'.chunk.segment (Some (entries_of v.chunk))) (sym w.0) (as_chunk
+            {y = Some (entries_of v.chunk)} (sym w.1) refl (is_open is some))
 
     -- the place may be written
     pub free_place : IsFreeSector d.content k place
     free_place =
         let inside : v'.chunk.segment < k.segments = let i = p.opened.inside in let s = segments_same in let e = is.segments in
         omega (arith, i, s, e) in
-        subst (λ (n : ℕ). IsFreeSector d.content k n) (sym p.address)
-        (taken_free d (blocks_of v.dirty) before k m0 m v'.chunk.segment (Some (entries_of v.chunk)) begun v'.chunk.segment
+        subst (λ (n : ℕ). IsFreeSector d.content k n) (sym p.address) (taken_free begun v'.chunk.segment
         (before.used v'.chunk.segment) inside (let u = unkept in omega (arith, u)) room_left)
 
-    pub noted : (x : Entry) (map' : MapValue) → lives ≡ is_shown m x → IsAddressed before (tables_by map' v'.usage) x place
+    pub noted : {x : Entry} (map' : MapValue) → lives ≡ is_shown m x → IsAddressed before (tables_by map' v'.usage) x place
         → IsNoted m before (tables_by map' v'.usage) x (place_of before v'.chunk.segment) v'.chunk.segment
-    noted x map' shows at = record {
+    noted {x} map' shows at = record {
       at = subst (λ (n : ℕ). IsAddressed before (tables_by map' v'.usage) x n) place_is at;
       used = p.noted.used;
       live = subst (λ (b : Bool). CountsUp b (live_of p.middle) (live_of v'.usage) v'.chunk.segment) shows p.noted.live;

@@ -28,30 +28,30 @@ data_low : (n i l q : ℕ) → Data n i ≡ Leaf l q → q ≤ 128
 data_low n i l q is = absurd cc
 
 -- what is in memory, by its pointer
-in_memory : (d : DeviceState) (v : LogMemory) (k : CheckpointValue) (m0 m : LogMap) → (is : IsLoose d v k m0 m) → (n i : ℕ)
+in_memory : {d : DeviceState} {v : LogMemory} {k : CheckpointValue} {m0 m : LogMap} → (is : IsLoose d v k m0 m) → (n i : ℕ)
     → is.running.memory.at (Data n i) ≡ 1 → (b : List ℕ) × (blocks_of v.dirty (Data n i) ≡ Some b)
-in_memory d v k m0 m is n i one = is.running.cached.found (Data n i) (n, refl) one
+in_memory is n i one = is.running.cached.found (Data n i) (n, refl) one
 
 module _ (d : DeviceState) (v v' : LogMemory) (k : CheckpointValue) (m0 m : LogMap) (is : IsLoose d v k m0 m) (n i a : ℕ) (few : n < 4096)
     (pointed : IsPointedIn (blocks_of v.dirty) (Data n i) a) where
   at : IsAtAddress (blocks_of v.dirty) (tables_of v) (Data n i) a
-  at = pointed_at (blocks_of v.dirty) (tables_of v) (Data n i) a (data_below n i) (data_low n i) pointed
+  at = pointed_at (blocks_of v.dirty) (tables_of v) a (data_below n i) (data_low n i) pointed
 
   where_it_is : is.running.memory.at (Data n i) ≡ a
-  where_it_is = address_at d (blocks_of v.dirty) (tables_of v) k m0 m (segment_in v.chunk) (chunk_in v.chunk) (Data n i) a is.running at
+  where_it_is = address_at d k m0 m (Data n i) a is.running at
 
   lives_as : not (is_hidden_in v.map n) ≡ is_shown m (Data n i)
   lives_as = shows m (Data n i) n (is_hidden_in v.map n) refl (is.hidden n few)
 
   -- the same tables, where nothing leaves an address
-  still : (dirty : Dirty) (w : LogMap) → v'.map ≡ v.map → v'.usage ≡ v.usage → v'.chunk ≡ v.chunk
+  still : {dirty : Dirty} {w : LogMap} → v'.map ≡ v.map → v'.usage ≡ v.usage → v'.chunk ≡ v.chunk
       → Running d dirty (tables_of v) k m0 w (segment_in v.chunk) (chunk_in v.chunk)
       → Running d dirty (tables_of v') k m0 w (segment_in v'.chunk) (chunk_in v'.chunk)
-  still dirty w map usage chunk run = as_memory d dirty k m0 w v v' (tables_of v) chunk (tables_same v v' map usage) run
+  still {dirty} {w} map usage chunk run = as_memory v v' chunk (tables_same v v' map usage) run
 
-  loosely : (w : LogMap) → ((l : ℕ) → w.header l ≡ m.header l) → v'.map ≡ v.map → length v'.usage.segments ≡ length v.usage.segments
+  loosely : {w : LogMap} → ((l : ℕ) → w.header l ≡ m.header l) → v'.map ≡ v.map → length v'.usage.segments ≡ length v.usage.segments
       → Running d (blocks_of v'.dirty) (tables_of v') k m0 w (segment_in v'.chunk) (chunk_in v'.chunk) → IsLoose d v' k m0 w
-  loosely w headers map segments run = record {
+  loosely headers map segments run = record {
     running = run;
     hidden = λ l lt. ap is_unlinked (headers l) ∙ is.hidden l lt ∙ ap (λ (x : MapValue). is_hidden_in x l) (sym map);
     segments = segments ∙ is.segments;
@@ -62,13 +62,13 @@ module _ (d : DeviceState) (v v' : LogMemory) (k : CheckpointValue) (m0 m : LogM
         → Running d (blocks_of v'.dirty) (tables_of v') k m0 (with_block m n i bytes) (segment_in v'.chunk) (chunk_in v'.chunk)
     stored_low low = ⊎_elim
         (λ (one : a ≡ 1).
-        let old = in_memory d v k m0 m is n i (where_it_is ∙ one) in
-        still (blocks_of v'.dirty) (with_block m n i bytes) go.map (go.departs.none low) go.stays.chunk
+        let old = in_memory is n i (where_it_is ∙ one) in
+        still go.map (go.departs.none low) go.stays.chunk
         (block_rewriting d (blocks_of v.dirty) (blocks_of v'.dirty) (tables_of v) k m0 m (with_block m n i bytes) (segment_in v.chunk)
         (chunk_in v.chunk) n i old.0 bytes is.running old.1 long (is_with_block m n i bytes) (go.changes one)))
         (λ (ne : a ≡ 1 → ⊥).
         let none : a ≡ 0 = omega (arith, low, ne) in
-        still (blocks_of v'.dirty) (with_block m n i bytes) go.map (go.departs.none low) go.stays.chunk
+        still go.map (go.departs.none low) go.stays.chunk
         (block_adding d (blocks_of v.dirty) (blocks_of v'.dirty) (tables_of v) k m0 m (with_block m n i bytes) (segment_in v.chunk)
         (chunk_in v.chunk) n i bytes is.running
         (subst (λ (e : ℕ). IsAtAddress (blocks_of v.dirty) (tables_of v) (Data n i) e) none at) long (is_with_block m n i bytes)
@@ -78,15 +78,13 @@ module _ (d : DeviceState) (v v' : LogMemory) (k : CheckpointValue) (m0 m : LogM
     stored_high : 2 ≤ a
         → Running d (blocks_of v'.dirty) (tables_of v') k m0 (with_block m n i bytes) (segment_in v'.chunk) (chunk_in v'.chunk)
     stored_high high =
-        as_memory d (blocks_of v'.dirty) k m0 (with_block m n i bytes) v v' (tables_of v') go.stays.chunk refl
+        as_memory v v' go.stays.chunk refl
         (block_replacing d (blocks_of v.dirty) (blocks_of v'.dirty) (tables_of v) (tables_of v') k m0 m (with_block m n i bytes)
         (segment_in v.chunk) (chunk_in v.chunk) n i a bytes is.running at high long (is_with_block m n i bytes)
-        (go.comes (λ one. omega (arith, high, one)))
-        (lifts_tables m v.map v'.map v.usage v'.usage (Data n i) (segment_of a) 1 (not (is_hidden_in v.map n)) go.map
-        (go.departs.lifts high) lives_as (data_below n i)))
+        (go.comes (λ one. omega (arith, high, one))) (lifts_tables m 1 go.map (go.departs.lifts high) lives_as (data_below n i)))
 
     pub stored_log : IsLoose d v' k m0 (with_block m n i bytes)
-    stored_log = loosely (with_block m n i bytes) (λ l. refl) go.map go.stays.segments
+    stored_log = loosely (λ l. refl) go.map go.stays.segments
         (below_or a (Running d (blocks_of v'.dirty) (tables_of v') k m0 (with_block m n i bytes) (segment_in v'.chunk) (chunk_in v'.chunk))
         stored_low stored_high)
 
@@ -97,8 +95,8 @@ module _ (d : DeviceState) (v v' : LogMemory) (k : CheckpointValue) (m0 m : LogM
     dropped_low : a < 2 → Running d (blocks_of v'.dirty) (tables_of v') k m0 without (segment_in v'.chunk) (chunk_in v'.chunk)
     dropped_low low = ⊎_elim
         (λ (one : a ≡ 1).
-        let old = in_memory d v k m0 m is n i (where_it_is ∙ one) in
-        still (blocks_of v'.dirty) without go.map (go.departs.none low) go.stays.chunk
+        let old = in_memory is n i (where_it_is ∙ one) in
+        still go.map (go.departs.none low) go.stays.chunk
         (block_removing d (blocks_of v.dirty) (blocks_of v'.dirty) (tables_of v) k m0 m without (segment_in v.chunk)
         (chunk_in v.chunk) n i old.0 is.running old.1 (is_with_block m n i []) (go.leaves (omega (arith, one)))))
         (λ (ne : a ≡ 1 → ⊥).
@@ -108,21 +106,17 @@ module _ (d : DeviceState) (v v' : LogMemory) (k : CheckpointValue) (m0 m : LogM
         subst (λ (w : LogMap). Running d (blocks_of v'.dirty) (tables_of v') k m0 w (segment_in v'.chunk) (chunk_in v'.chunk))
         (sym (with_same_block m n i [] empty))
         (subst (λ (t : TableValue). Running d (blocks_of t) (tables_of v') k m0 m (segment_in v'.chunk) (chunk_in v'.chunk))
-        (sym (go.none none))
-        (still (blocks_of v.dirty) m go.map (go.departs.none low) go.stays.chunk is.running)))
-        (cases_eq a 1)
+        (sym (go.none none)) (still go.map (go.departs.none low) go.stays.chunk is.running))) (cases_eq a 1)
 
     dropped_high : 2 ≤ a → Running d (blocks_of v'.dirty) (tables_of v') k m0 without (segment_in v'.chunk) (chunk_in v'.chunk)
     dropped_high high =
-        as_memory d (blocks_of v'.dirty) k m0 without v v' (tables_of v') go.stays.chunk refl
+        as_memory v v' go.stays.chunk refl
         (block_leaving d (blocks_of v.dirty) (blocks_of v'.dirty) (tables_of v) (tables_of v') k m0 m without (segment_in v.chunk)
         (chunk_in v.chunk) n i a is.running at high (is_with_block m n i [])
-        (go.leaves (omega (arith, high)))
-        (lifts_tables m v.map v'.map v.usage v'.usage (Data n i) (segment_of a) 1 (not (is_hidden_in v.map n)) go.map
-        (go.departs.lifts high) lives_as (data_below n i)))
+        (go.leaves (omega (arith, high))) (lifts_tables m 1 go.map (go.departs.lifts high) lives_as (data_below n i)))
 
     pub dropped_log : IsLoose d v' k m0 without
-    dropped_log = loosely without (λ l. refl) go.map go.stays.segments
+    dropped_log = loosely (λ l. refl) go.map go.stays.segments
         (below_or a (Running d (blocks_of v'.dirty) (tables_of v') k m0 without (segment_in v'.chunk) (chunk_in v'.chunk)) dropped_low
         dropped_high)
 
@@ -131,27 +125,25 @@ module _ (d : DeviceState) (v v' : LogMemory) (k : CheckpointValue) (m0 m : LogM
       (λ (none : bytes ≡ zeros 512).
       subst (λ (b : List ℕ). IsLoose d v' k m0 (with_block m n i b)) (sym (stored_none bytes 512 none)) (dropped_log (go.drops none)))
       (λ (some : bytes ≡ zeros 512 → ⊥). subst (λ (b : List ℕ). IsLoose d v' k m0 (with_block m n i b))
-      (sym (stored_some bytes 512 long some)) (stored_log bytes long (go.stores some)))
-      (blank_or bytes long)
+      (sym (stored_some bytes long some)) (stored_log bytes long (go.stores some))) (blank_or bytes long)
 
 -- a data block of a file is these bytes
-pub block_changed : (d : DeviceState) (v v' : LogMemory) (k : CheckpointValue) (m0 m : LogMap) → IsLoose d v k m0 m → (n i : ℕ) → n < 4096
-    → (bytes : List ℕ) → length bytes ≡ 512
-    → ChangesBlock v v' n i bytes → IsLoose d v' k m0 (with_block m n i (stored bytes))
-block_changed d v v' k m0 m is n i few bytes long go = put_log d v v' k m0 m is n i go.address few go.pointed bytes long go.puts
+pub block_changed : (d : DeviceState) (v v' : LogMemory) (k : CheckpointValue) (m0 m : LogMap) → IsLoose d v k m0 m → {n i : ℕ} → n < 4096
+    → {bytes : List ℕ} → length bytes ≡ 512 → ChangesBlock v v' n i bytes → IsLoose d v' k m0 (with_block m n i (stored bytes))
+block_changed d v v' k m0 m is {n} {i} few {bytes} long go = put_log d v v' k m0 m is n i go.address few go.pointed bytes long go.puts
 
 -- and that doesn't fail
-pub block_counted : (d : DeviceState) (v : LogMemory) (k : CheckpointValue) (m0 m : LogMap) → IsLoose d v k m0 m → (n i : ℕ) → n < 4096
+pub block_counted : (d : DeviceState) (v : LogMemory) (k : CheckpointValue) (m0 m : LogMap) → IsLoose d v k m0 m → {n i : ℕ} → n < 4096
     → IsBlockMiscounted v n i → ⊥
-block_counted d v k m0 m is n i few bad =
-    never_miscounted d v k m0 m is (Data n i) n bad.address refl few
-    (pointed_at (blocks_of v.dirty) (tables_of v) (Data n i) bad.address (data_below n i) (data_low n i) bad.pointed) bad.miscounted
+block_counted d v k m0 m is {n} {i} few bad =
+    never_miscounted d v k m0 m is n refl few
+    (pointed_at (blocks_of v.dirty) (tables_of v) bad.address (data_below n i) (data_low n i) bad.pointed) bad.miscounted
 
 -- what stays then
-pub block_stays : (v v' : LogMemory) (n i : ℕ) (bytes : List ℕ) → length bytes ≡ 512 → ChangesBlock v v' n i bytes
+pub block_stays : (v : LogMemory) {v' : LogMemory} {n i : ℕ} {bytes : List ℕ} → length bytes ≡ 512 → ChangesBlock v v' n i bytes
     → Stays 1 v v' × (v'.map ≡ v.map)
-block_stays v v' n i bytes long go = ⊎_elim
-    (λ (none : bytes ≡ zeros 512). let s = go.puts.drops none in (stays_more v v' s.stays, s.map))
+block_stays v {v'} {bytes} long go = ⊎_elim
+    (λ (none : bytes ≡ zeros 512). let s = go.puts.drops none in (stays_more s.stays, s.map))
     (λ (some : bytes ≡ zeros 512 → ⊥). let s = go.puts.stores some in (s.stays, s.map))
     (blank_or bytes long)
 
@@ -160,31 +152,30 @@ block_stays v v' n i bytes long go = ⊎_elim
 pub grown_log : (d : DeviceState) (v v' : LogMemory) (k : CheckpointValue) (m0 m : LogMap) → IsLoose d v k m0 m → (x : Entry) → IsPointers x
     → IsPointedIn (blocks_of v.dirty) x 0 → Grows v v' x → IsLoose d v' k m0 m
 grown_log d v v' k m0 m is x pointers pointed go = record {
-  running = as_memory d (blocks_of v'.dirty) k m0 m v v' (tables_of v) go.stays.chunk (tables_same v v' go.map go.usage)
+  running = as_memory v v' go.stays.chunk (tables_same v v' go.map go.usage)
       (pointers_growing d (blocks_of v.dirty) (blocks_of v'.dirty) (tables_of v) k m0 m (segment_in v.chunk) (chunk_in v.chunk) x
       (zeros 512) is.running pointers
-      (pointed_at (blocks_of v.dirty) (tables_of v) x 0 (pointers_below x pointers) go.low pointed) (length_zeros 512)
+      (pointed_at (blocks_of v.dirty) (tables_of v) 0 (pointers_below x pointers) go.low pointed) (length_zeros 512)
       (λ w lt. word_zeros 512 w) go.comes);
   hidden = subst (λ (a : MapValue). AreHidden a m) (sym go.map) is.hidden;
   segments = go.stays.segments ∙ is.segments;
 }
 
 -- those that lead nowhere leave
-module _ (d : DeviceState) (k : CheckpointValue) (m0 m : LogMap) (t : Tables) (seg : ℕ) (chunk : Option (List Entry)) (old : TableValue)
+module _ (d : DeviceState) (k : CheckpointValue) (m0 m : LogMap) {t : Tables} {seg : ℕ} {chunk : Option (List Entry)} (old : TableValue)
     (w : Running d (blocks_of old) t k m0 m seg chunk) where
-  pub pruned : (new : TableValue) → Prunes old new → Running d (blocks_of new) t k m0 m seg chunk
-  pruned _ Prunes.nothing = w
-  pruned _ (Prunes.more u new x before empty moves) =
+  pub pruned : {new : TableValue} → Prunes old new → Running d (blocks_of new) t k m0 m seg chunk
+  pruned Prunes.nothing = w
+  pruned (Prunes.more u new x before empty moves) =
       pointers_shrinking d (blocks_of u) (blocks_of new) t k m0 m seg chunk x empty.bytes
-      (pruned u before) empty.pointers empty.there empty.empty moves
+      (pruned before) empty.pointers empty.there empty.empty moves
 
-pub tightened_log : (d : DeviceState) (v v' : LogMemory) (k : CheckpointValue) (m0 m : LogMap) → Tightens v v' → IsLoose d v k m0 m
+pub tightened_log : {d : DeviceState} {v v' : LogMemory} (k : CheckpointValue) {m0 : LogMap} (m : LogMap) → Tightens v v'
+    → IsLoose d v k m0 m
     → IsLog d v' k m0 m
-tightened_log d v v' k m0 m go is =
-    tight_again d v' k m0 m
-    (record {
-      running = as_memory d (blocks_of v'.dirty) k m0 m v v' (tables_of v) go.stays.chunk (tables_same v v' go.map go.usage)
-          (pruned d k m0 m (tables_of v) (segment_in v.chunk) (chunk_in v.chunk) v.dirty is.running v'.dirty go.prunes);
+tightened_log {d} {v} {v'} k {m0} m go is =
+    tight_again (record {
+      running = as_memory v v' go.stays.chunk (tables_same v v' go.map go.usage) (pruned d k m0 m v.dirty is.running go.prunes);
       hidden = subst (λ (a : MapValue). AreHidden a m) (sym go.map) is.hidden;
       segments = go.stays.segments ∙ is.segments;
     })

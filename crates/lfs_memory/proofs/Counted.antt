@@ -130,10 +130,10 @@ abbrev pub IsOneMore : Memory → Entry → (Entry → Bool) → (Entry → Bool
 IsOneMore M x is more = (2 ≤ M.at x → count_of more M (segment_of (M.at x)) ≡ suc (count_of is M (segment_of (M.at x))))
     × ((s : ℕ) → (2 ≤ M.at x → s ≡ segment_of (M.at x) → ⊥) → count_of more M s ≡ count_of is M s)
 
-module _ (M : Memory) (x : Entry) (old : List ℕ) (is more : Entry → Bool) (counted : (s : ℕ) → get_or old s 0 ≡ count_of is M s)
+module _ (M : Memory) (x : Entry) {old : List ℕ} (is more : Entry → Bool) (counted : (s : ℕ) → get_or old s 0 ≡ count_of is M s)
     (up : IsOneMore M x is more) where
-  pub one_added : (new : List ℕ) → CountsOne old new (M.at x) → (s : ℕ) → get_or new s 0 ≡ count_of more M s
-  one_added new one s = ⊎_elim
+  pub one_added : {new : List ℕ} → CountsOne old new (M.at x) → (s : ℕ) → get_or new s 0 ≡ count_of more M s
+  one_added {new} one s = ⊎_elim
       (λ (here : (2 ≤ M.at x) × (s ≡ segment_of (M.at x))).
       ap (λ (s : ℕ). get_or new s 0) here.1 ∙ one.own here.0 ∙ ap suc (counted (segment_of (M.at x))) ∙ sym (up.0 here.0)
       ∙ ap (count_of more M) (sym here.1))
@@ -147,8 +147,8 @@ module _ (M : Memory) (x : Entry) (old : List ℕ) (is more : Entry → Bool) (c
           (λ (a : A). ⊎_elim (λ (b : B). inl (a, b)) (λ (nb : B → ⊥). inr (λ a b. nb b)) two)
           (λ (na : A → ⊥). inr (λ a b. na a)) one
 
-  pub one_fits : (e : Content) (m : LogMap) (o : ℕ) → IsLaid e m M o → IsOver old (M.at x) → ⊥
-  one_fits e m o laid over =
+  pub one_fits : {e : Content} {m : LogMap} {o : ℕ} → IsLaid e m M o → IsOver old (M.at x) → ⊥
+  one_fits laid over =
       let above = over.above in
       ⊎_elim
       (λ (past : 1024 ≤ segment_of (M.at x)).
@@ -194,18 +194,18 @@ module _ (e : Content) (dirty : Dirty) (M : Memory) (held : IsHeldBy e dirty M) 
     more = one_more_counted e held.map M held.opened_at (at_place n p) laid (is_before n first p) (is_before n first (p + 1))
         (before_own n first p) (before_now n first p on) (before_same n first p)
 
-    pub counts_next : (new : List ℕ) → CountsOne old new address → IsCountedTo M n first (p + 1) new
-    counts_next new one =
-        one_added M (at_place n p) old (is_before n first p) (is_before n first (p + 1)) counted more new (subst (CountsOne old new) at one)
+    pub counts_next : {new : List ℕ} → CountsOne old new address → IsCountedTo M n first (p + 1) new
+    counts_next {new} one =
+        one_added M (at_place n p) (is_before n first p) (is_before n first (p + 1)) counted more (subst (CountsOne old new) at one)
 
     pub not_over : IsOver old address → ⊥
-    not_over over = one_fits M (at_place n p) old (is_before n first p) (is_before n first (p + 1)) counted more e held.map held.opened_at
+    not_over over = one_fits M (at_place n p) (is_before n first p) (is_before n first (p + 1)) counted more
         laid (subst (IsOver old) at over)
 
   -- places whose blocks are none of those, or have no address
   pub counts_skip : (q : ℕ) → p ≤ q → ((y : Entry) → is_past n first y ≡ true → p ≤ place y → place y < q → M.at y < 2)
       → IsCountedTo M n first q old
-  counts_skip q le none s = counted s ∙ counts_agree e held.map M held.opened_at laid (is_before n first p) (is_before n first q) agree s
+  counts_skip q le none s = counted s ∙ counts_agree e held.map M laid agree s
     where
       agree : (y : Entry) → 2 ≤ M.at y → is_before n first p y ≡ is_before n first q y
       agree y above = ⊎_elim
@@ -221,10 +221,10 @@ module _ (e : Content) (dirty : Dirty) (M : Memory) (held : IsHeldBy e dirty M) 
           (cases_Bool (is_past n first y))
 
   -- a block at the next place, which is counted or not
-  pub counts_where : (b : Bool) → is_past n first (at_place n p) ≡ b → (address : ℕ) → address ≡ M.at (at_place n p) → (new : List ℕ)
+  pub counts_where : (b : Bool) → is_past n first (at_place n p) ≡ b → {address : ℕ} → address ≡ M.at (at_place n p) → {new : List ℕ}
       → CountsWhere old new address b → IsCountedTo M n first (p + 1) new
-  counts_where true on address at new one = counts_next on address at new (one.yes_counted refl)
-  counts_where false off address at new one =
+  counts_where true on {address} at {new} one = counts_next on address at (one.yes_counted refl)
+  counts_where false off at one =
       subst (IsCountedTo M n first (p + 1)) (sym (one.not_counted refl)) (counts_skip (p + 1) (omega arith) (λ y on from to.
       let here : place y ≡ p = omega (arith, from, to) in
       let is : at_place n p ≡ y = ap (at_place n) (sym here) ∙ at_own n y ((past_cut n first).of_file y on) in
@@ -240,18 +240,19 @@ fewer : (M : Memory) (n first p : ℕ) (bytes : List ℕ) (start i j : ℕ) → 
     → ArePointers M n first p bytes start i
 fewer M n first p bytes start i j le pointers l lt = pointers l (omega (arith, le, lt))
 
-pub words_more : (bytes : List ℕ) (start i address : ℕ) (old mid new : List ℕ) → address ≡ word bytes (start + i)
+pub words_more : (bytes : List ℕ) (start i : ℕ) {address : ℕ} (old : List ℕ) {mid new : List ℕ} → address ≡ word bytes (start + i)
     → CountsWords bytes start i old mid → CountsOne mid new address → CountsWords bytes start (i + 1) old new
-words_more bytes start i address old mid new is before one e dirty M n first p held pointers counted =
+words_more bytes start i {address} old {mid} {new} is before one e dirty M n first p held pointers counted =
     let same : p + i + 1 ≡ p + (i + 1) = omega arith in
     let here = pointers i (omega arith) in
     subst (λ (p : ℕ). IsCountedTo M n first p new) same
     (counts_next e dirty M held n first (p + i) mid (before e dirty M n first p held
-    (fewer M n first p bytes start i (i + 1) (omega arith) pointers) counted) here.1 address (is ∙ here.0) new one)
+    (fewer M n first p bytes start i (i + 1) (omega arith) pointers) counted) here.1 address (is ∙ here.0) one)
 
-pub words_over : (bytes : List ℕ) (start i count address : ℕ) (old mid : List ℕ) → i < count → address ≡ word bytes (start + i)
+pub words_over : (bytes : List ℕ) (start i count : ℕ) {address : ℕ} (old : List ℕ) {mid : List ℕ} → i < count
+    → address ≡ word bytes (start + i)
     → CountsWords bytes start i old mid → IsOver mid address → AreNoWords bytes start count old
-words_over bytes start i count address old mid lt is before over e dirty M n first p held pointers counted =
+words_over bytes start i count {address} old {mid} lt is before over e dirty M n first p held pointers counted =
     let here = pointers i lt in
     not_over e dirty M held n first (p + i) mid (before e dirty M n first p held
     (fewer M n first p bytes start i count (omega (arith, lt)) pointers) counted) here.1 address (is ∙ here.0) over
@@ -264,14 +265,14 @@ words_end bytes start i count old mid is before = subst (λ (i : ℕ). CountsWor
 pub past_data : (n first i : ℕ) → first ≤ i → is_past n first (Data n i) ≡ true
 past_data n first i le = and_from (n == n) (nat_le first i) (eq-eqb n n refl) (le-leb first i le)
 
-same_file : (n : ℕ) (b : Bool) → (n == n && b) ≡ b
-same_file n b = ap (λ (a : Bool). a && b) (eq-eqb n n refl)
+same_file : (n : ℕ) {b : Bool} → (n == n && b) ≡ b
+same_file n {b} = ap (λ (a : Bool). a && b) (eq-eqb n n refl)
 
 pub past_leaf_is : (n first q : ℕ) → is_past n first (Leaf n q) ≡ nat_le first (112 + 128 * q)
-past_leaf_is n first q = same_file n (nat_le first (112 + 128 * q))
+past_leaf_is n first q = same_file n
 
 pub past_double_is : (n first : ℕ) → is_past n first (Double n) ≡ nat_le first 240
-past_double_is n first = same_file n (nat_le first 240)
+past_double_is n first = same_file n
 
 -- none in the part of a leaf that comes before block `first`, the leaf itself included
 pub before_leaf_part : (n first q start : ℕ) → 0 < start → 112 + 128 * q + start ≤ first → (y : Entry) → is_past n first y ≡ true
@@ -306,9 +307,9 @@ before_direct n first start few le (Map j) on to = absurd (cc)
 before_direct n first start few le (Usage j) on to = absurd (cc)
 
 -- ---- blocks of pointers
-module _ (e : Content) (dirty : Dirty) (M : Memory) (held : IsHeldBy e dirty M) where
-  pub never_missing : (x : Entry) (a : ℕ) → IsOfFile x → M.at x ≡ a → (a ≡ 0 → ⊥) → IsMissing e dirty x a → ⊥
-  never_missing x a file at some missing = ⊎_elim
+module _ {e : Content} {dirty : Dirty} {M : Memory} (held : IsHeldBy e dirty M) where
+  pub never_missing : (x : Entry) {a : ℕ} → IsOfFile x → M.at x ≡ a → (a ≡ 0 → ⊥) → IsMissing e dirty x a → ⊥
+  never_missing x {a} file at some missing = ⊎_elim
       (λ (one : a ≡ 1).
       let f = held.cached.found x file (at ∙ one) in
       let none : Some f.0 ≡ None = sym f.1 ∙ missing.inside one in
@@ -321,9 +322,8 @@ module _ (e : Content) (dirty : Dirty) (M : Memory) (held : IsHeldBy e dirty M) 
       absurd (omega (arith, none, long)))
       (cases_eq a 1)
 
-  pub is_held : (x : Entry) (a : ℕ) → IsOfFile x → M.at x ≡ a → (a ≡ 0 → ⊥) → present e dirty x a ≡ M.bytes x
-  is_held x a file at some = ap (present e dirty x) (sym at)
-      ∙ present_is e held.map M held.opened_at dirty held.laid held.cached x file (omega (arith, at, some))
+  pub is_held : (x : Entry) {a : ℕ} → IsOfFile x → M.at x ≡ a → (a ≡ 0 → ⊥) → present e dirty x a ≡ M.bytes x
+  is_held x file at some = ap (present e dirty x) (sym at) ∙ present_is M held.laid held.cached x file (omega (arith, at, some))
 
   -- nothing is below what isn't there
   pub nothing_below : (x : Entry) → M.at (parent x) ≡ 0 → M.at x ≡ 0
@@ -332,9 +332,9 @@ module _ (e : Content) (dirty : Dirty) (M : Memory) (held : IsHeldBy e dirty M) 
       (λ (some : 1 ≤ M.at x). let up = held.laid.down x some in absurd (omega (arith, up, none)))
       (cases_lt (M.at x) 1)
 
-  pub below_of_leaf : (n q : ℕ) → M.at (Leaf n q) ≡ 0 → (y : Entry) → file_of y ≡ Some n → 114 + 129 * q ≤ place y
+  pub below_of_leaf : {n : ℕ} (q : ℕ) → M.at (Leaf n q) ≡ 0 → (y : Entry) → file_of y ≡ Some n → 114 + 129 * q ≤ place y
       → place y < 114 + 129 * q + 129 → M.at y < 2
-  below_of_leaf n q none (Data k i) is from to =
+  below_of_leaf {n} q none (Data k i) is from to =
       let s : k ≡ n = cc in
       ⊎_elim
       (λ (low : i < 112). let at = place_low k i low in absurd (omega (arith, at, from, low)))
@@ -344,22 +344,22 @@ module _ (e : Content) (dirty : Dirty) (M : Memory) (held : IsHeldBy e dirty M) 
       let zero_at = nothing_below (Data k i) (ap M.at (data_parent_high k i high ∙ ap₂ Leaf s same) ∙ none) in
       omega (arith, zero_at))
       (cases_lt i 112)
-  below_of_leaf n q none (Leaf k r) is from to =
+  below_of_leaf {n} q none (Leaf k r) is from to =
       let s : k ≡ n = cc in
       let same : r ≡ q = omega (arith, from, to) in
       let zero_at : M.at (Leaf k r) ≡ 0 = ap M.at (ap₂ Leaf s same) ∙ none in
       omega (arith, zero_at)
-  below_of_leaf n q none (Double k) is from to = absurd (omega (arith, from))
-  below_of_leaf n q none (Inode k) is from to = absurd (omega (arith, from))
-  below_of_leaf n q none (Map j) is from to = absurd (cc)
-  below_of_leaf n q none (Usage j) is from to = absurd (cc)
+  below_of_leaf q none (Double k) is from to = absurd (omega (arith, from))
+  below_of_leaf q none (Inode k) is from to = absurd (omega (arith, from))
+  below_of_leaf q none (Map j) is from to = absurd (cc)
+  below_of_leaf q none (Usage j) is from to = absurd (cc)
 
   leaf_zero : (n q : ℕ) → M.at (Double n) ≡ 0 → 1 ≤ q → M.at (Leaf n q) ≡ 0
   leaf_zero n zero none some = absurd (omega (arith, some))
   leaf_zero n (suc q) none some = nothing_below (Leaf n (suc q)) none
 
-  pub below_of_double : (n : ℕ) → M.at (Double n) ≡ 0 → (y : Entry) → file_of y ≡ Some n → 243 ≤ place y → M.at y < 2
-  below_of_double n none (Data k i) is from =
+  pub below_of_double : {n : ℕ} → M.at (Double n) ≡ 0 → (y : Entry) → file_of y ≡ Some n → 243 ≤ place y → M.at y < 2
+  below_of_double {n} none (Data k i) is from =
       let s : k ≡ n = cc in
       ⊎_elim
       (λ (low : i < 112). let at = place_low k i low in absurd (omega (arith, at, from, low)))
@@ -369,14 +369,14 @@ module _ (e : Content) (dirty : Dirty) (M : Memory) (held : IsHeldBy e dirty M) 
       ∙ leaf_zero k ((i - 112) / 128) (ap (λ (k : ℕ). M.at (Double k)) s ∙ none) (omega (arith, at, from))) in
       omega (arith, zero_at))
       (cases_lt i 112)
-  below_of_double n none (Leaf k r) is from =
+  below_of_double {n} none (Leaf k r) is from =
       let s : k ≡ n = cc in
       let zero_at = leaf_zero k r (ap (λ (k : ℕ). M.at (Double k)) s ∙ none) (omega (arith, from)) in
       omega (arith, zero_at)
-  below_of_double n none (Double k) is from = absurd (omega (arith, from))
-  below_of_double n none (Inode k) is from = absurd (omega (arith, from))
-  below_of_double n none (Map j) is from = absurd (cc)
-  below_of_double n none (Usage j) is from = absurd (cc)
+  below_of_double none (Double k) is from = absurd (omega (arith, from))
+  below_of_double none (Inode k) is from = absurd (omega (arith, from))
+  below_of_double none (Map j) is from = absurd (cc)
+  below_of_double none (Usage j) is from = absurd (cc)
 
   pub no_far_leaf : (n q : ℕ) → 129 ≤ q → M.at (Leaf n q) ≡ 0
   no_far_leaf n q far = ⊎_elim
@@ -385,8 +385,8 @@ module _ (e : Content) (dirty : Dirty) (M : Memory) (held : IsHeldBy e dirty M) 
       (cases_lt (M.at (Leaf n q)) 1)
 
   -- the last place
-  pub past_last : (n : ℕ) (y : Entry) → file_of y ≡ Some n → 16755 ≤ place y → M.at y < 2
-  past_last n (Data k i) is from = ⊎_elim
+  pub past_last : {n : ℕ} (y : Entry) → file_of y ≡ Some n → 16755 ≤ place y → M.at y < 2
+  past_last (Data k i) is from = ⊎_elim
       (λ (low : i < 112). let at = place_low k i low in absurd (omega (arith, at, from, low)))
       (λ (high : 112 ≤ i).
       let at = place_high k i high in
@@ -394,11 +394,11 @@ module _ (e : Content) (dirty : Dirty) (M : Memory) (held : IsHeldBy e dirty M) 
       nothing_below (Data k i) (ap M.at (data_parent_high k i high) ∙ no_far_leaf k ((i - 112) / 128) (omega (arith, at, from))) in
       omega (arith, zero_at))
       (cases_lt i 112)
-  past_last n (Leaf k r) is from = let zero_at = no_far_leaf k r (omega (arith, from)) in omega (arith, zero_at)
-  past_last n (Double k) is from = absurd (omega (arith, from))
-  past_last n (Inode k) is from = absurd (omega (arith, from))
-  past_last n (Map j) is from = absurd (cc)
-  past_last n (Usage j) is from = absurd (cc)
+  past_last (Leaf k r) is from = let zero_at = no_far_leaf k r (omega (arith, from)) in omega (arith, zero_at)
+  past_last (Double k) is from = absurd (omega (arith, from))
+  past_last (Inode k) is from = absurd (omega (arith, from))
+  past_last (Map j) is from = absurd (cc)
+  past_last (Usage j) is from = absurd (cc)
 
   -- where a file isn't there
   leaf_gone : (n q : ℕ) → M.at (Inode n) ≡ 0 → M.at (Leaf n q) ≡ 0
@@ -420,9 +420,9 @@ module _ (e : Content) (dirty : Dirty) (M : Memory) (held : IsHeldBy e dirty M) 
   none_of_file n none (Usage j) is = absurd (cc)
 
   -- the words of a block of pointers, from that to block `first` on
-  pub leaf_words : (n q first start : ℕ) (bytes : List ℕ) → (M.at (Leaf n q) ≡ 0 → ⊥) → bytes ≡ M.bytes (Leaf n q)
+  pub leaf_words : (n q : ℕ) {first start : ℕ} {bytes : List ℕ} → (M.at (Leaf n q) ≡ 0 → ⊥) → bytes ≡ M.bytes (Leaf n q)
       → IsBefore first (112 + 128 * q) 128 start → ArePointers M n first (115 + 129 * q + start) bytes start (128 - start)
-  leaf_words n q first start bytes some is before i low =
+  leaf_words n q {first} {start} some is before i low =
       let few = before.few in
       let here : at_place n (115 + 129 * q + start + i) ≡ Data n (112 + 128 * q + (start + i)) =
       let same : 115 + 129 * q + start + i ≡ 115 + 129 * q + (start + i) = omega arith in
@@ -433,9 +433,9 @@ module _ (e : Content) (dirty : Dirty) (M : Memory) (held : IsHeldBy e dirty M) 
             ∙ past_data n first (112 + 128 * q + (start + i)) (let from = before.reach (omega (arith, few, low)) in omega (arith, from)),
       )
 
-  pub inode_words : (n first start : ℕ) (bytes : List ℕ) → 0 < M.at (Inode n) → bytes ≡ M.bytes (Inode n) → IsBefore first 0 112 start
+  pub inode_words : (n : ℕ) {first start : ℕ} {bytes : List ℕ} → 0 < M.at (Inode n) → bytes ≡ M.bytes (Inode n) → IsBefore first 0 112 start
       → ArePointers M n first (1 + start) bytes (8 + start) (112 - start)
-  inode_words n first start bytes some is before i low =
+  inode_words n {first} {start} some is before i low =
       let few = before.few in
       let one : 1 + start + i - 1 ≡ start + i = omega arith in
       let word_is : 8 + start + i ≡ 8 + (start + i) = omega arith in

@@ -29,17 +29,17 @@ passed_on (Err y) e x gives is = let own : y ≡ e = gives.1 in let same : e ≡
 pub cut_leaf_at : (first : ℕ) → 112 < first → ((first - 112) % 128 ≡ 0 → ⊥) → IsCutLeaf first ((first - 112) / 128)
 cut_leaf_at first high some = record { from = omega (arith, high, some); to = omega (arith, high) }
 
-pub above_cut_leaf : (v : LogMemory) (n first : ℕ) (x : Entry) → x ≡ Leaf n ((first - 112) / 128) → 112 < first
+pub above_cut_leaf : (v : LogMemory) {n first : ℕ} (x : Entry) → x ≡ Leaf n ((first - 112) / 128) → 112 < first
     → ((first - 112) % 128 ≡ 0 → ⊥)
     → ((q : ℕ) → IsCutLeaf first q → IsInMemory v (parent (Leaf n q))) → IsInMemory v (parent x)
-above_cut_leaf v n first x named high some above =
+above_cut_leaf v {first} x named high some above =
     subst (λ (y : Entry). IsInMemory v (parent y)) (sym named) (above ((first - 112) / 128) (cut_leaf_at first high some))
 
 -- so it is ready as it is brought into memory, or isn't stored
-pub cut_leaf_ready : (v : LogMemory) (n first : ℕ) (x : Entry) → x ≡ Leaf n ((first - 112) / 128) → (found : Bool)
+pub cut_leaf_ready : (v : LogMemory) {n : ℕ} (first : ℕ) (x : Entry) → x ≡ Leaf n ((first - 112) / 128) → (found : Bool)
     → (IsTrue found → IsInMemory v x)
     → (IsFalse found → IsAtAddress (blocks_of v.dirty) (tables_of v) x 0) → (q : ℕ) → IsCutLeaf first q → IsLiftedIfStored v (Leaf n q)
-cut_leaf_ready v n first x named found inside none q cut =
+cut_leaf_ready v {n} first x named found inside none q cut =
     let same : (first - 112) / 128 ≡ q = let from = cut.from in let to = cut.to in omega (arith, from, to) in
     subst (λ (y : Entry). IsLiftedIfStored v y) (named ∙ ap (Leaf n) same) (either found inside none)
   where
@@ -57,12 +57,12 @@ pub high_edge : (v : LogMemory) (n first : ℕ) → IsInMemory v (Double n) → 
 high_edge v n first root leaf = record { double = λ more. inl root; leaf = λ q cut. inl (leaf q cut) }
 
 -- ---- so it is in memory, or not stored
-module _ (d : DeviceState) (v : LogMemory) (k : CheckpointValue) (m0 m : LogMap) (is : IsLoose d v k m0 m) where
+module _ (d : DeviceState) (v : LogMemory) (k : CheckpointValue) {m0 : LogMap} (m : LogMap) (is : IsLoose d v k m0 m) where
   pub inside_at : (x : Entry) → IsInMemory v x → is.running.memory.at x ≡ 1
   inside_at x held = (is.running.cached.cached x held.0 held.1).1
 
-  nowhere : (x : Entry) → IsAtAddress (blocks_of v.dirty) (tables_of v) x 0 → is.running.memory.at x ≡ 0
-  nowhere x at = address_at d (blocks_of v.dirty) (tables_of v) k m0 m (segment_in v.chunk) (chunk_in v.chunk) x 0 is.running at
+  nowhere : {x : Entry} → IsAtAddress (blocks_of v.dirty) (tables_of v) x 0 → is.running.memory.at x ≡ 0
+  nowhere {x} at = address_at d k m0 m x 0 is.running at
 
   below_none : (x : Entry) → is.running.memory.at (parent x) ≡ 0 → is.running.memory.at x ≡ 0
   below_none x none = (reading d.content m is.running.memory (segment_in v.chunk) is.running.laid).no_pointer x none
@@ -70,14 +70,13 @@ module _ (d : DeviceState) (v : LogMemory) (k : CheckpointValue) (m0 m : LogMap)
   ready_at : (x : Entry) → IsLiftedIfStored v x → 0 < is.running.memory.at x → is.running.memory.at x ≡ 1
   ready_at x ready some = ⊎_elim
       (λ (held : IsInMemory v x). inside_at x held)
-      (λ (at : IsAtAddress (blocks_of v.dirty) (tables_of v) x 0). let none = nowhere x at in absurd (omega (arith, none, some)))
-      ready
+      (λ (at : IsAtAddress (blocks_of v.dirty) (tables_of v) x 0). let none = nowhere at in absurd (omega (arith, none, some))) ready
 
   none_below_root : (n q : ℕ) → 1 ≤ q → is.running.memory.at (Double n) ≡ 0 → is.running.memory.at (Leaf n q) ≡ 0
   none_below_root n zero some none = absurd (omega (arith, some))
   none_below_root n (suc q) some none = below_none (Leaf n (suc q)) none
 
-  module _ (n first : ℕ) (edge : HasEdge v n first) where
+  module _ (n : ℕ) {first : ℕ} (edge : HasEdge v n first) where
     pub root_at : 240 < first → 0 < is.running.memory.at (Double n) → is.running.memory.at (Double n) ≡ 1
     root_at more = ready_at (Double n) (edge.double more)
 
@@ -86,5 +85,5 @@ module _ (d : DeviceState) (v : LogMemory) (k : CheckpointValue) (m0 m : LogMap)
     leaf_at q from to some = ⊎_elim
         (λ (ready : IsLiftedIfStored v (Leaf n q)). ready_at (Leaf n q) ready some)
         (λ (away : (1 ≤ q) × IsAtAddress (blocks_of v.dirty) (tables_of v) (Double n) 0).
-        let none = none_below_root n q away.0 (nowhere (Double n) away.1) in absurd (omega (arith, none, some)))
+        let none = none_below_root n q away.0 (nowhere away.1) in absurd (omega (arith, none, some)))
         (edge.leaf q (record { from = from; to = to }))

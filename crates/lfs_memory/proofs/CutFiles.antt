@@ -56,7 +56,7 @@ none_cut m n first none = ap (λ (block : ℕ → ℕ → List ℕ). record { he
         (cases_Bool (k == n && nat_le first i))
 
 -- ---- the blocks in memory
-module _ (n first : ℕ) (old mid new : Dirty) (formed : (x : Entry) (b : List ℕ) → file_of x ≡ Some n → old x ≡ Some b → IsFormed x b)
+module _ (n first : ℕ) {old mid new : Dirty} (formed : (x : Entry) (b : List ℕ) → file_of x ≡ Some n → old x ≡ Some b → IsFormed x b)
     (one : LeavesPast old mid n first) (two : ClearsPointers mid new n first) where
   by_past : (P : Type 0) (x : Entry) → (is_past n first x ≡ true → P) → (is_past n first x ≡ false → P) → P
   by_past P x on off = ⊎_elim on off (cases_Bool (is_past n first x))
@@ -70,11 +70,11 @@ module _ (n first : ℕ) (old mid new : Dirty) (formed : (x : Entry) (b : List �
   }
 
 module _ (d : DeviceState) (v v' : LogMemory) (k : CheckpointValue) (m0 m : LogMap) (is : IsLoose d v k m0 m) (n first : ℕ) (low : n < 4096)
-    (lives : Bool) (counts : List ℕ) (shown : lives ≡ not (is_hidden_in v.map n))
+    {lives : Bool} (counts : List ℕ) (shown : lives ≡ not (is_hidden_in v.map n))
     (counted : (s : ℕ) → get_or counts s 0 ≡ count_of (is_past n first) is.running.memory s) where
   -- an honest device has so many blocks there
   pub past_covered : AreUncovered v.usage lives counts → ⊥
-  past_covered = counts_covered d v k m0 m is n low lives shown (is_past n first) (past_cut n first).of_file counts counted
+  past_covered = counts_covered is n low shown (past_cut n first).of_file counts counted
 
   formed_in : (x : Entry) (b : List ℕ) → file_of x ≡ Some n → blocks_of v.dirty x ≡ Some b → IsFormed x b
   formed_in x b own there =
@@ -108,8 +108,8 @@ module _ (d : DeviceState) (v v' : LogMemory) (k : CheckpointValue) (m0 m : LogM
       none = none_at;
       others = others_at;
       used = go.usage.used;
-      named = named_counts d v k m0 m is n low lives shown v'.usage counts go.usage;
-      nameless = nameless_counts d v k m0 m is n low lives shown v'.usage counts go.usage;
+      named = named_counts is n low shown counts go.usage;
+      nameless = nameless_counts is n low shown counts go.usage;
       age = go.usage.age;
       kept = go.usage.kept;
       changed = go.usage.changed;
@@ -118,8 +118,8 @@ module _ (d : DeviceState) (v v' : LogMemory) (k : CheckpointValue) (m0 m : LogM
 
     above : (x : Entry) → is_past n first x ≡ true → 0 < is.running.memory.at x → (parent x ≡ x → ⊥) → is_past n first (parent x) ≡ false
         → is.running.memory.at (parent x) ≡ 1
-    above = past_above d.content m is.running.memory (segment_in v.chunk) n first is.running.laid (inside_at d v k m0 m is (Inode n) inside)
-        (root_at d v k m0 m is n first edge) (leaf_at d v k m0 m is n first edge)
+    above = past_above d.content m is.running.memory (segment_in v.chunk) n first is.running.laid (inside_at d v k m is (Inode n) inside)
+        (root_at d v k m is n edge) (leaf_at d v k m is n edge)
 
     pub cut_log : IsLoose d v' k m0 (cut_from n first m)
     cut_log = record {
@@ -128,7 +128,7 @@ module _ (d : DeviceState) (v v' : LogMemory) (k : CheckpointValue) (m0 m : LogM
           (file_cutting d (blocks_of v.dirty) (blocks_of v'.dirty) (tables_of v) (tables_of v') k m0 m (cut_from n first m)
           (segment_in v.chunk) (chunk_in v.chunk) n (is_past n first) (counts_in counts)
           is.running (past_cut n first) above (λ on has named. absurd (inode_stays on)) counted (is_cut m n first)
-          (detaches n first (blocks_of v.dirty) (blocks_of go.middle) (blocks_of v'.dirty) formed_in go.leaves go.clears) detached);
+          (detaches n first formed_in go.leaves go.clears) detached);
       hidden = λ i small. is.hidden i small ∙ ap (λ (map : MapValue). is_hidden_in map i) (sym go.map);
       segments = go.usage.size ∙ is.segments;
     }
@@ -137,20 +137,20 @@ module _ (d : DeviceState) (v v' : LogMemory) (k : CheckpointValue) (m0 m : LogM
         inode_stays on = absurd (cc)
 
 -- ---- the whole call
-pub uncovered_past : (a b : DeviceState) (v : LogMemory) (n first : ℕ) (lives : Bool) (counts : List ℕ) → n < 4096
+pub uncovered_past : {a b : DeviceState} (v : LogMemory) (n first : ℕ) {lives : Bool} (counts : List ℕ) → n < 4096
     → lives ≡ not (is_hidden_in v.map n) → Looks a b → CountsPast a b v n first counts
     → AreUncovered v.usage lives counts → FailsFromDevice a b v
-uncovered_past a b v n first lives counts low shown looks counted over k m0 m keeps is =
-    absurd (past_covered a v v k m0 m is n first low lives counts shown (counted k m0 m keeps is) over)
+uncovered_past {a} v n first {lives} counts low shown looks counted over k m0 m keeps is =
+    absurd (past_covered a v v k m0 m is n first low counts shown (counted k m0 m keeps is) over)
 
 -- what lifts the blocks above, then the counts, and then what leaves
-module _ (a b c : DeviceState) (v mid v' : LogMemory) (n first : ℕ) (counts : List ℕ) (lawful : IsLawful a) (one : Prepares a b v mid 3)
+module _ (a b c : DeviceState) {v mid v' : LogMemory} {n first : ℕ} {counts : List ℕ} (lawful : IsLawful a) (one : Prepares a b v mid 3)
     (two : Looks b c) (low : n < 4096)
     (inside : IsInMemory mid (Inode n)) (edge : HasEdge mid n first) (counted : CountsPast b c mid n first counts)
     (go : DropsPast mid v' n first (not (is_hidden_in mid.map n)) counts) where
   pub file_cut : Cuts a c v v' n first
   file_cut = record {
-    looks = looks_then a b c lawful one.looks two;
+    looks = looks_then lawful one.looks two;
     memory = kept_memory mid v' one.memory go.usage.size go.chunk go.usage.used go.usage.kept go.usage.last go.usage.address
         (never_fresh mid.usage v'.usage go.usage.stale) go.capacity;
     segments = go.usage.size ∙ one.segments;
@@ -164,14 +164,13 @@ module _ (a b c : DeviceState) (v mid v' : LogMemory) (n first : ℕ) (counts : 
     absent = λ l none. ap (λ (map : MapValue). address_in map l) go.map ∙ one.absent l none;
     log = λ k m0 m keeps is.
         let log = one.log k m0 m (two.carries.kept_before keeps) is in
-        still_log b c v' k m0 (cut_from n first m) two
-        (cut_log b mid v' k m0 m log n first low (not (is_hidden_in mid.map n)) counts refl (counted k m0 m keeps log) go inside edge);
+        still_log two (cut_log b mid v' k m0 m log n first low counts refl (counted k m0 m keeps log) go inside edge);
   }
 
 -- where no file is
-pub nothing_cut : (a b : DeviceState) (v v' : LogMemory) (n first : ℕ) → Prepares a b v v' 1 → (n ≡ 0) ⊎ (address_in v.map n ≡ 0)
+pub nothing_cut : {a b : DeviceState} {v v' : LogMemory} {n first : ℕ} → Prepares a b v v' 1 → (n ≡ 0) ⊎ (address_in v.map n ≡ 0)
     → Cuts a b v v' n first
-nothing_cut a b v v' n first one none = record {
+nothing_cut {b} {v} {v'} {n} {first} one none = record {
   looks = one.looks;
   memory = one.memory;
   segments = one.segments;

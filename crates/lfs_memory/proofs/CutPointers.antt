@@ -37,12 +37,11 @@ module _ (n first : ℕ) where
   not_past i lt = false_from_ne_true (n == n && nat_le first i) (λ on. let le = from_first i on in omega (arith, le, lt))
 
   -- ---- an inode
-  inode_pointers : (kept : ℕ) → KeepsOfInode first kept → (b : List ℕ) → IsFormed (Inode n) b
+  inode_pointers : {kept : ℕ} → KeepsOfInode first kept → (b : List ℕ) → IsFormed (Inode n) b
       → IsCleared (is_past n first) (Inode n) b (zeroed (8 + kept) (114 - kept) b)
-  inode_pointers kept k b formed =
+  inode_pointers {kept} k b formed =
       let few = k.few in
-      inode_cleared (is_past n first) n b (zeroed (8 + kept) (114 - kept) b)
-      (long_zeroed (8 + kept) (114 - kept) b formed.long (omega (arith, few)))
+      inode_cleared (is_past n first) n b (long_zeroed (8 + kept) (114 - kept) b formed.long (omega (arith, few)))
       (holds_zeroed n (8 + kept) (114 - kept) b (formed.inode n refl) (omega arith) (omega (arith, few)))
       (header_zeroed (8 + kept) (114 - kept) b formed.long (omega arith) (omega (arith, few)))
       (λ i low.
@@ -76,9 +75,9 @@ module _ (n first : ℕ) where
           (cases_lt 112 first)
 
   -- ---- a double root
-  root_pointers : (kept : ℕ) → KeepsOfRoot first kept → (b : List ℕ) → length b ≡ 512
+  root_pointers : {kept : ℕ} → KeepsOfRoot first kept → (b : List ℕ) → length b ≡ 512
       → IsCleared (is_past n first) (Double n) b (zeroed kept (128 - kept) b)
-  root_pointers kept k b long =
+  root_pointers {kept} k b long =
       let few = k.few in
       double_cleared (is_past n first) n b (zeroed kept (128 - kept) b) (long_zeroed kept (128 - kept) b long (omega (arith, few)))
       (λ q low. word_cut kept (128 - kept) b long (omega (arith, few)) q low (is_past n first (Leaf n (suc q)))
@@ -111,13 +110,13 @@ module _ (n first : ℕ) where
       (cond-false (is_past n first (Data n (112 + 128 * q + i))) 0 (word b i) (not_past (112 + 128 * q + i) (omega (arith, le, fits)))))
 
 -- ---- one block changes
-module _ (old new : Dirty) (x : Entry) (f : List ℕ → List ℕ) (change : ChangesTo old new x (option_map f (old x))) where
-  now_is : (b : List ℕ) → old x ≡ Some b → new x ≡ Some (f b)
-  now_is b there = change.own ∙ ap (option_map f) there
+module _ {old new : Dirty} {x : Entry} (f : List ℕ → List ℕ) (change : ChangesTo old new x (option_map f (old x))) where
+  now_is : {b : List ℕ} → old x ≡ Some b → new x ≡ Some (f b)
+  now_is there = change.own ∙ ap (option_map f) there
 
-  stays : (y : Entry) (b : List ℕ) → old y ≡ Some b → (c : List ℕ) × (new y ≡ Some c)
-  stays y b there = ⊎_elim
-      (λ (here : y ≡ x). (f b, ap new here ∙ now_is b (ap old (sym here) ∙ there)))
+  stays : (y : Entry) {b : List ℕ} → old y ≡ Some b → (c : List ℕ) × (new y ≡ Some c)
+  stays y {b} there = ⊎_elim
+      (λ (here : y ≡ x). (f b, ap new here ∙ now_is (ap old (sym here) ∙ there)))
       (λ (away : y ≡ x → ⊥). (b, change.others y away ∙ there))
       (same_entry y x)
 
@@ -127,47 +126,47 @@ module _ (old new : Dirty) (x : Entry) (f : List ℕ → List ℕ) (change : Cha
       (λ (away : y ≡ x → ⊥). change.others y away ∙ none)
       (same_entry y x)
 
-changes_at : (old new : Dirty) (x y : Entry) (f : List ℕ → List ℕ) → x ≡ y → ChangesTo old new x (option_map f (old x))
+changes_at : {old new : Dirty} (x : Entry) {y : Entry} (f : List ℕ → List ℕ) → x ≡ y → ChangesTo old new x (option_map f (old x))
     → ChangesTo old new y (option_map f (old y))
-changes_at old new x y f same = subst (λ (x : Entry). ChangesTo old new x (option_map f (old x))) same
+changes_at {old} {new} x f same = subst (λ (x : Entry). ChangesTo old new x (option_map f (old x))) same
 
 -- ---- the leaf
-same_leaf : (first p q kept : ℕ) → 112 + 128 * q + kept ≡ first → kept < 128 → IsCutLeaf first p → p ≡ q
-same_leaf first p q kept at low cut = let from = cut.from in let to = cut.to in omega (arith, at, low, from, to)
+same_leaf : {first : ℕ} (p q kept : ℕ) → 112 + 128 * q + kept ≡ first → kept < 128 → IsCutLeaf first p → p ≡ q
+same_leaf p q kept at low cut = let from = cut.from in let to = cut.to in omega (arith, at, low, from, to)
 
-pub clears_leaf : (n first : ℕ) (old new : Dirty) (x : Entry) (q kept : ℕ) → x ≡ Leaf n q → 112 + 128 * q + kept ≡ first → 0 < kept
+pub clears_leaf : {n first : ℕ} {old new : Dirty} (x : Entry) (q kept : ℕ) → x ≡ Leaf n q → 112 + 128 * q + kept ≡ first → 0 < kept
     → kept < 128
     → ChangesTo old new x (option_map (zeroed kept (128 - kept)) (old x)) → ClearsLeaf old new n first
-clears_leaf n first old new x q kept named at some low change =
+clears_leaf {n} {first} {old} {new} x q kept named at some low change =
     let here : ChangesTo old new (Leaf n q) (option_map (zeroed kept (128 - kept)) (old (Leaf n q))) =
-    changes_at old new x (Leaf n q) (zeroed kept (128 - kept)) named change in
+    changes_at x (zeroed kept (128 - kept)) named change in
     record {
       cleared = λ p b cut there long.
-          let same : Leaf n q ≡ Leaf n p = ap (Leaf n) (sym (same_leaf first p q kept at low cut)) in
+          let same : Leaf n q ≡ Leaf n p = ap (Leaf n) (sym (same_leaf p q kept at low cut)) in
           subst (λ (y : Entry). (c : List ℕ) × (new y ≡ Some c) × IsCleared (is_past n first) y b c) same (
             zeroed kept (128 - kept) b,
-            now_is old new (Leaf n q) (zeroed kept (128 - kept)) here b (ap old same ∙ there),
+            now_is (zeroed kept (128 - kept)) here (ap old same ∙ there),
             leaf_pointers n first q kept at low b long,
           );
-      stay = stays old new (Leaf n q) (zeroed kept (128 - kept)) here;
-      absent = no_more old new (Leaf n q) (zeroed kept (128 - kept)) here;
+      stay = stays (zeroed kept (128 - kept)) here;
+      absent = no_more (zeroed kept (128 - kept)) here;
       others = λ y out. here.others y (out q (record { from = omega (arith, at, some); to = omega (arith, at, low) }));
     }
 
-pub none_below : (first q : ℕ) → first ≤ 112 → IsCutLeaf first q → ⊥
-none_below first q low cut = let from = cut.from in omega (arith, from, low)
+pub none_below : {first : ℕ} (q : ℕ) → first ≤ 112 → IsCutLeaf first q → ⊥
+none_below q low cut = let from = cut.from in omega (arith, from, low)
 
 -- ---- all of them
-module _ (n first : ℕ) (old mid low new : Dirty) (x y : Entry) (inode_kept root_kept : ℕ) (inode : KeepsOfInode first inode_kept)
+module _ {n first : ℕ} {old mid low new : Dirty} (x y : Entry) {inode_kept root_kept : ℕ} (inode : KeepsOfInode first inode_kept)
     (root : KeepsOfRoot first root_kept)
     (is_inode : x ≡ Inode n) (is_root : y ≡ Double n)
     (one : ChangesTo old mid x (option_map (zeroed (8 + inode_kept) (114 - inode_kept)) (old x)))
     (two : ChangesTo mid low y (option_map (zeroed root_kept (128 - root_kept)) (mid y))) (three : ClearsLeaf low new n first) where
   of_inode : ChangesTo old mid (Inode n) (option_map (zeroed (8 + inode_kept) (114 - inode_kept)) (old (Inode n)))
-  of_inode = changes_at old mid x (Inode n) (zeroed (8 + inode_kept) (114 - inode_kept)) is_inode one
+  of_inode = changes_at x (zeroed (8 + inode_kept) (114 - inode_kept)) is_inode one
 
   of_root : ChangesTo mid low (Double n) (option_map (zeroed root_kept (128 - root_kept)) (mid (Double n)))
-  of_root = changes_at mid low y (Double n) (zeroed root_kept (128 - root_kept)) is_root two
+  of_root = changes_at y (zeroed root_kept (128 - root_kept)) is_root two
 
   -- what is neither the inode nor the double root
   before_leaf : (z : Entry) → (z ≡ Inode n → ⊥) → (z ≡ Double n → ⊥) → low z ≡ old z
@@ -202,16 +201,16 @@ module _ (n first : ℕ) (old mid low new : Dirty) (x y : Entry) (inode_kept roo
   cleared_root b there long = (
     zeroed root_kept (128 - root_kept) b,
     not_leaf (Double n) (λ q h. absurd (cc))
-        ∙ now_is mid low (Double n) (zeroed root_kept (128 - root_kept)) of_root b (of_inode.others (Double n) (λ h. absurd (cc)) ∙ there),
-    root_pointers n first root_kept root b long,
+        ∙ now_is (zeroed root_kept (128 - root_kept)) of_root (of_inode.others (Double n) (λ h. absurd (cc)) ∙ there),
+    root_pointers n first root b long,
   )
 
   cleared_inode : (b : List ℕ) → old (Inode n) ≡ Some b → IsFormed (Inode n) b → Cleared (Inode n) b
   cleared_inode b there formed = (
     zeroed (8 + inode_kept) (114 - inode_kept) b,
     not_leaf (Inode n) (λ q h. absurd (cc)) ∙ of_root.others (Inode n) (λ h. absurd (cc))
-        ∙ now_is old mid (Inode n) (zeroed (8 + inode_kept) (114 - inode_kept)) of_inode b there,
-    inode_pointers n first inode_kept inode b formed,
+        ∙ now_is (zeroed (8 + inode_kept) (114 - inode_kept)) of_inode there,
+    inode_pointers n first inode b formed,
   )
 
   cleared_any : (z : Entry) (b : List ℕ) → is_past n first z ≡ false → file_of z ≡ Some n → old z ≡ Some b → IsFormed z b → Cleared z b
@@ -239,11 +238,11 @@ module _ (n first : ℕ) (old mid low new : Dirty) (x y : Entry) (inode_kept roo
   clears_pointers = record {
     cleared = cleared_any;
     stay = λ z b there.
-        let s1 = stays old mid (Inode n) (zeroed (8 + inode_kept) (114 - inode_kept)) of_inode z b there in
-        let s2 = stays mid low (Double n) (zeroed root_kept (128 - root_kept)) of_root z s1.0 s1.1 in
+        let s1 = stays (zeroed (8 + inode_kept) (114 - inode_kept)) of_inode z there in
+        let s2 = stays (zeroed root_kept (128 - root_kept)) of_root z s1.1 in
         three.stay z s2.0 s2.1;
-    absent = λ z none. three.absent z (no_more mid low (Double n) (zeroed root_kept (128 - root_kept)) of_root z
-        (no_more old mid (Inode n) (zeroed (8 + inode_kept) (114 - inode_kept)) of_inode z none));
+    absent = λ z none. three.absent z (no_more (zeroed root_kept (128 - root_kept)) of_root z
+        (no_more (zeroed (8 + inode_kept) (114 - inode_kept)) of_inode z none));
     others = λ z out.
         three.others z (λ q cut h. out (ap file_of h))
         ∙ before_leaf z (λ h. out (ap file_of h)) (λ h. out (ap file_of h));

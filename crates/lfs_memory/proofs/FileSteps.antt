@@ -36,18 +36,17 @@ file_by (suc (suc (suc r))) f i = refl
 pub shows : (m : LogMap) (x : Entry) (n : ℕ) (hidden : Bool) → file_of x ≡ Some n → is_nameless m n ≡ hidden → not hidden ≡ is_shown m x
 shows m x n hidden is same = ap not (sym same) ∙ sym (ap (λ (o : Option ℕ). elim o [ None ↦ true | Some n ↦ not (is_nameless m n) ]) is)
 
-module _ (v v' : LogMemory) (name : BlockNameValue) (lives : Bool) (age place : ℕ) (memory : IsMemory v)
+module _ {v v' : LogMemory} {name : BlockNameValue} {lives : Bool} {age place : ℕ} (memory : IsMemory v)
     (p : Places v v' name lives age place)
-    (d d' : DeviceState) (bytes : List ℕ) (crash : CrashWrites place bytes d d') (carries : Carries d d') (time : Elapses d d')
+    {d d' : DeviceState} {bytes : List ℕ} (crash : CrashWrites place bytes d d') (carries : Carries d d') (time : Elapses d d')
     (lawful : IsLawful d)
     (may : d'.keeps_model → MayWrite place bytes d.content d'.content) where
   pub settled_step : (k : CheckpointValue) (m0 m : LogMap) → d'.keeps_model → IsLog d v k m0 m → IsSettled d' k m0
   settled_step k m0 m keeps is =
-      stays_settled d d' k m0 place bytes is.running.settled (free_place v v' name lives age place memory p d k m0 m is) (may keeps) crash
+      stays_settled m0 place bytes is.running.settled (free_place memory p is) (may keeps) crash
 
   pub quiet_step : Quiet d d' v
-  quiet_step k m0 m keeps is = stays_quiet d d' k m0 place bytes is.running.settled
-      (free_place v v' name lives age place memory p d k m0 m is) (may keeps) crash lawful carries time
+  quiet_step k m0 m keeps is = stays_quiet m0 place bytes is.running.settled (free_place memory p is) (may keeps) crash lawful carries time
 
   pub place_stops : d.failures < d'.failures → Stops d d' v
   place_stops failed = record {
@@ -57,10 +56,10 @@ module _ (v v' : LogMemory) (name : BlockNameValue) (lives : Bool) (age place : 
     quiet = quiet_step;
   }
 
-module _ (v v' : LogMemory) (name : BlockNameValue) (lives : Bool) (age place : ℕ) (memory : IsMemory v)
+module _ {v v' : LogMemory} {name : BlockNameValue} {lives : Bool} {age place : ℕ} (memory : IsMemory v)
     (p : Places v v' name lives age place)
-    (x : Entry) (f : ℕ) (of_file : file_of x ≡ Some f) (map' : MapValue) (points : IsPointedAt v.map map' x place) where
-  addressed : IsAddressed (before v v' name lives age place memory p) (tables_by map' v'.usage) x place
+    (x : Entry) {f : ℕ} (of_file : file_of x ≡ Some f) {map' : MapValue} (points : IsPointedAt v.map map' x place) where
+  addressed : IsAddressed (before memory p) (tables_by map' v'.usage) x place
   addressed = record { own = own x of_file points; others = others }
     where
       own : (y : Entry) → file_of y ≡ Some f → IsPointedAt v.map map' y place → parent y ≡ y → (tables_by map' v'.usage).at y ≡ place
@@ -71,7 +70,7 @@ module _ (v v' : LogMemory) (name : BlockNameValue) (lives : Bool) (age place : 
       own (Map j) is points up = absurd cc
       own (Usage j) is points up = absurd cc
 
-      others : (y : Entry) → parent y ≡ y → (y ≡ x → ⊥) → (tables_by map' v'.usage).at y ≡ (before v v' name lives age place memory p).at y
+      others : (y : Entry) → parent y ≡ y → (y ≡ x → ⊥) → (tables_by map' v'.usage).at y ≡ (before memory p).at y
       others (Data n i) up ne = refl
       others (Leaf n q) up ne = refl
       others (Double n) up ne = refl
@@ -79,7 +78,7 @@ module _ (v v' : LogMemory) (name : BlockNameValue) (lives : Bool) (age place : 
       others (Map j) up ne = ap (λ (l : List ℕ). get_or l j 0) points.blocks
       others (Usage j) up ne = p.noted.blocks.address j
 
-  module _ (d d' : DeviceState) (bytes : List ℕ) (dirty' : TableValue) (crash : CrashWrites place bytes d d') (carries : Carries d d')
+  module _ {d d' : DeviceState} (bytes : List ℕ) (dirty' : TableValue) (crash : CrashWrites place bytes d d') (carries : Carries d d')
       (time : Elapses d d') (lawful : IsLawful d) where
     abbrev pub after : LogMemory
     after = record { map = map'; usage = v'.usage; dirty = dirty'; chunk = v'.chunk }
@@ -89,46 +88,42 @@ module _ (v v' : LogMemory) (name : BlockNameValue) (lives : Bool) (age place : 
         (moves : Moves (blocks_of v.dirty) (blocks_of dirty') x place) (few : f < 4096) (hides : lives ≡ not (is_hidden_in v.map f)) where
       log : (k : CheckpointValue) (m0 m : LogMap) → d'.keeps_model → IsLog d v k m0 m → IsLog d' after k m0 m
       log k m0 m keeps is =
-          let same_place = place_is v v' name lives age place memory p in
+          let same_place = place_is memory p in
           let es = entries_of v.chunk in
-          let running = begun v v' name lives age place memory p d k m0 m is in
-          let moved : Moves (blocks_of v.dirty) (blocks_of dirty') x (place_of (before v v' name lives age place memory p)
+          let running = begun memory p is in
+          let moved : Moves (blocks_of v.dirty) (blocks_of dirty') x (place_of (before memory p)
           v'.chunk.segment) = subst (λ (n : ℕ). Moves (blocks_of v.dirty) (blocks_of dirty') x n) same_place moves in
-          let next = stepping d d' (blocks_of v.dirty) (blocks_of dirty') (before v v' name lives age place memory p)
-          (tables_by map' v'.usage) k m0 m v'.chunk.segment es x bytes
-          running (room_left v v' name lives age place memory p) low there (is.tight x bytes there)
+          let next = stepping d d' (blocks_of v.dirty) (blocks_of dirty') (before memory p)
+          (tables_by map' v'.usage) k m0 m v'.chunk.segment es x bytes running (room_left memory p) low there (is.tight x bytes there)
           (subst (λ (n : ℕ). IsWritten d d' n bytes) same_place (record { content = is_put keeps; crash = crash }))
-          moved
-          (noted v v' name lives age place memory p d k m0 m is x map'
-          (hides ∙ shows m x f (is_hidden_in v.map f) of_file (is.hidden f few)) addressed) in
+          moved (noted memory p is map' (hides ∙ shows m x f (is_hidden_in v.map f) of_file (is.hidden f few)) addressed) in
           record {
-            running = as_chunk d' (blocks_of dirty') (tables_by map' v'.usage) k m0 m v'.chunk.segment (segment_in v'.chunk)
-                (Some (es ++ x ∷ [])) (chunk_in v'.chunk)
-                (sym (segment_after v v' name lives age place memory p))
-                (sym (opened_after v v' name lives age place memory p ∙ ap (λ (e : Entry). Some (es ++ e ∷ [])) named)) next;
+            running = as_chunk (sym (segment_after memory p))
+                (sym (opened_after memory p ∙ ap (λ (e : Entry). Some (es ++ e ∷ [])) named)) next;
             hidden = λ n lt. is.hidden n lt ∙ ap (λ (l : List Bool). get_or l n false) (sym points.hidden);
-            segments = segments_same v v' name lives age place memory p ∙ is.segments;
-            tight = stepping_tight d (blocks_of v.dirty) (blocks_of dirty') (before v v' name lives age place memory p) k m0 m
-                v'.chunk.segment es x bytes running (room_left v v' name lives age place memory p) there moved is.tight;
+            segments = segments_same memory p ∙ is.segments;
+            tight = stepping_tight d (blocks_of v.dirty) (blocks_of dirty') (before memory p) k m0 m
+                v'.chunk.segment es x bytes running (room_left memory p) there moved is.tight;
           }
 
       pub file_goes : dirty'.capacity ≡ v.dirty.capacity → d'.failures ≡ d.failures → GoesUpTo 63 d d' v after 1
       file_goes capacity no_failure = record {
         carries = carries;
-        memory = memory_after v v' name lives age place memory p map' dirty' capacity;
-        segments = segments_same v v' name lives age place memory p;
-        room = let r = takes_place v v' name lives age place memory p in omega (arith, r);
+        memory = memory_after memory p map' dirty' capacity;
+        segments = segments_same memory p;
+        room = let r = takes_place memory p in omega (arith, r);
         no_failure = no_failure;
-        emptied = placed_emptied v v' name lives age place memory p;
+        emptied = placed_emptied memory p;
         log = log;
-        quiet = quiet_step v v' name lives age place memory p d d' bytes crash carries time lawful (λ keeps. left_new (is_put keeps));
+        quiet = quiet_step memory p {bytes = bytes} crash carries time lawful (λ keeps. left_new (is_put keeps));
       }
 
 -- the same memory by other words
-pub goes_to : (most : ℕ) (d d' : DeviceState) (v w : LogMemory) (usage : UsageTable) (dirty : TableValue) (chunk : Chunk) (n : ℕ)
+pub goes_to : (most : ℕ) {d d' : DeviceState} {v : LogMemory} (w : LogMemory) {usage : UsageTable} {dirty : TableValue} {chunk : Chunk}
+    (n : ℕ)
     → w.usage ≡ usage → w.dirty ≡ dirty → w.chunk ≡ chunk
     → GoesUpTo most d d' v (record { map = w.map; usage = usage; dirty = dirty; chunk = chunk }) n → GoesUpTo most d d' v w n
-goes_to most d d' v w usage dirty chunk n u t c goes =
+goes_to most {d} {d'} {v} w {usage} {dirty} {chunk} n u t c goes =
     subst (λ (x : Chunk). GoesUpTo most d d' v (record { map = w.map; usage = w.usage; dirty = w.dirty; chunk = x }) n) (sym c)
     (subst (λ (x : TableValue). GoesUpTo most d d' v (record { map = w.map; usage = w.usage; dirty = x; chunk = chunk }) n) (sym t)
     (subst (λ (x : UsageTable). GoesUpTo most d d' v (record { map = w.map; usage = x; dirty = dirty; chunk = chunk }) n) (sym u) goes))

@@ -34,8 +34,8 @@ use Rattle.lfs_memory.proofs.Lifted.{is_lifted, is_named, map_addressed, on_devi
 use Rattle.lfs_memory.proofs.Presents.{looks_none}
 
 -- ---- one block that leaves its address
-pub taken_traced : (M : Memory) (x : Entry) (M' : Memory) → IsTaken M x 1 M' → HasTraces M M'
-taken_traced M x M' go y above = ⊎_elim
+pub taken_traced : (M : Memory) {x : Entry} (M' : Memory) → IsTaken M x 1 M' → HasTraces M M'
+taken_traced M {x} M' go y above = ⊎_elim
     (λ (here : y ≡ x). let one = ap M'.at here ∙ go.at in absurd (omega (arith, above, one)))
     (λ (ne : y ≡ x → ⊥). sym (go.others y ne))
     (same_entry y x)
@@ -47,9 +47,10 @@ pub traces_then : (L M N : Memory) → HasTraces L M → HasTraces M N → HasTr
 traces_then L M N one two y above = let same = two y above in one y (omega (arith, same, above)) ∙ same
 
 -- ---- a device that was only looked at
-pub still_traced : (d d' : DeviceState) (v : LogMemory) (k : CheckpointValue) (m0 m : LogMap) → Looks d d' → (is : IsLoose d v k m0 m)
+pub still_traced : (d : DeviceState) {d' : DeviceState} {v : LogMemory} (k : CheckpointValue) {m0 : LogMap} (m : LogMap) → Looks d d'
+    → (is : IsLoose d v k m0 m)
     → (is' : IsLoose d' v k m0 m) × HasTraces is.running.memory is'.running.memory
-still_traced d d' v k m0 m looks is =
+still_traced d {d'} {v} k {m0} m looks is =
     let w = is.running in
     let same = looks.untouched in
     let after : IsLoose d' v k m0 m = record {
@@ -72,7 +73,8 @@ still_traced d d' v k m0 m looks is =
     (after, traces_none w.memory)
 
 -- ---- a block of the inode map
-module _ (d : DeviceState) (dirty : Dirty) (t t' : Tables) (k : CheckpointValue) (m0 m : LogMap) (seg : ℕ) (chunk : Option (List Entry))
+module _ (d : DeviceState) {dirty : Dirty} {t : Tables} (t' : Tables) (k : CheckpointValue) (m0 m : LogMap) {seg : ℕ}
+    {chunk : Option (List Entry)}
     (j : ℕ) (w : Running d dirty t k m0 m seg chunk) where
   abbrev Traced : Type 0
   Traced = (w' : Running d dirty t' k m0 m seg chunk) × HasTraces w.memory w'.memory
@@ -80,8 +82,8 @@ module _ (d : DeviceState) (dirty : Dirty) (t t' : Tables) (k : CheckpointValue)
   map_fetched : 2 ≤ t.at (Map j) → IsLifted m t t' (Map j) 1 (segment_of (t.at (Map j))) → Traced
   unfolding left_memory taken_memory
   map_fetched above go =
-      let p = left_taken d dirty t t' k m0 m seg chunk w (Map j) (map_table j) 1 (omega arith) in
-      let next = left_memory d dirty t t' k m0 m seg chunk w (Map j) (map_table j) 1 (omega arith) in
+      let p = left_taken d t' k m w (Map j) (map_table j) 1 (omega arith) in
+      let next = left_memory d t' k m w (Map j) (map_table j) 1 (omega arith) in
       let same : w.memory.at (Map j) ≡ t.at (Map j) = w.tables.at (Map j) refl in
       let was : 2 ≤ w.memory.at (Map j) = omega arith in (
         record {
@@ -89,23 +91,23 @@ module _ (d : DeviceState) (dirty : Dirty) (t t' : Tables) (k : CheckpointValue)
           laid = map_lifting d.content m w.memory seg j next w.laid (record { taken = p; bytes = refl });
           segments = w.segments;
           settled = w.settled;
-          cached = left_cached d dirty t t' k m0 m seg chunk w (Map j) (map_table j) 1 (omega arith);
+          cached = left_cached d t' k m w (Map j) (map_table j) 1 (omega arith);
           tables = lifted_tables d.content m w.memory seg (Map j) 1 next t t' w.laid was p w.tables
               (subst (λ (a : ℕ). IsLifted m t t' (Map j) 1 (segment_of a)) (sym same) go);
-          fresh = λ i off low. let no = lifted_fresh m t t' (Map j) 1 (segment_of (t.at (Map j))) go i off in
+          fresh = λ i off low. let no = lifted_fresh m t t' (Map j) 1 go i off in
               no.1 (w.memory.bytes (Usage i)) (w.fresh i no.0 low);
           part = part_same t t' go.used go.kept w.part;
           kept = kept_same d.content k t t' go.kept w.kept;
-          opened = still_open d dirty t t' k m0 m seg chunk w (Map j) (map_table j) 1 (omega arith) chunk w.opened go.kept;
+          opened = still_open d t' k m w (Map j) (map_table j) 1 (omega arith) chunk w.opened go.kept;
         },
-        taken_traced w.memory (Map j) next p,
+        taken_traced w.memory next p,
       )
 
   map_added : t.at (Map j) ≡ 0 → IsReaddressed t t' (Map j) 1 → Traced
   unfolding left_memory taken_memory
   map_added none go =
-      let p = left_taken d dirty t t' k m0 m seg chunk w (Map j) (map_table j) 1 (omega arith) in
-      let next = left_memory d dirty t t' k m0 m seg chunk w (Map j) (map_table j) 1 (omega arith) in
+      let p = left_taken d t' k m w (Map j) (map_table j) 1 (omega arith) in
+      let next = left_memory d t' k m w (Map j) (map_table j) 1 (omega arith) in
       let was : w.memory.at (Map j) ≡ 0 = w.tables.at (Map j) refl ∙ none in
       let counts = unplaced_counts d.content m w.memory seg (Map j) 1 next w.laid (omega (arith, was)) p in (
         record {
@@ -113,7 +115,7 @@ module _ (d : DeviceState) (dirty : Dirty) (t t' : Tables) (k : CheckpointValue)
           laid = map_lifting d.content m w.memory seg j next w.laid (record { taken = p; bytes = refl });
           segments = w.segments;
           settled = w.settled;
-          cached = left_cached d dirty t t' k m0 m seg chunk w (Map j) (map_table j) 1 (omega arith);
+          cached = left_cached d t' k m w (Map j) (map_table j) 1 (omega arith);
           tables = record {
             at = addressed t t' (Map j) 1 w.memory next go.at p.at p.others w.tables.at;
             used = λ s. go.used s ∙ w.tables.used s;
@@ -124,13 +126,13 @@ module _ (d : DeviceState) (dirty : Dirty) (t t' : Tables) (k : CheckpointValue)
               (λ q lt. (go.used (64 * i + q), go.live (64 * i + q), go.age (64 * i + q))) (w.fresh i (sym (go.stale i) ∙ off) low);
           part = part_same t t' go.used go.kept w.part;
           kept = kept_same d.content k t t' go.kept w.kept;
-          opened = still_open d dirty t t' k m0 m seg chunk w (Map j) (map_table j) 1 (omega arith) chunk w.opened go.kept;
+          opened = still_open d t' k m w (Map j) (map_table j) 1 (omega arith) chunk w.opened go.kept;
         },
-        taken_traced w.memory (Map j) next p,
+        taken_traced w.memory next p,
       )
 
 -- ---- as memory has it
-module _ (d : DeviceState) (v v' : LogMemory) (k : CheckpointValue) (m0 m : LogMap) (is : IsLoose d v k m0 m) where
+module _ {d : DeviceState} {v : LogMemory} (v' : LogMemory) {k : CheckpointValue} {m0 m : LogMap} (is : IsLoose d v k m0 m) where
   abbrev pub TracedIn : Dirty → Chunk → Type 0
   TracedIn dirty c = (w' : Running d dirty (tables_of v') k m0 m (segment_in c) (chunk_in c)) × HasTraces is.running.memory w'.memory
 
@@ -148,10 +150,8 @@ module _ (d : DeviceState) (v v' : LogMemory) (k : CheckpointValue) (m0 m : LogM
   fetched_now : 2 ≤ block_in v.map j → (is' : IsLoose d v' k m0 m) × HasTraces is.running.memory is'.running.memory
   fetched_now above =
       let l = go.lifted above in
-      loose_traced d v v' k m0 m is go.chunk go.hidden l.size
-      (subst (λ (dirty : Dirty). TracedIn d v v' k m0 m is dirty v.chunk) (sym (ap blocks_of go.dirty))
-      (map_fetched d (blocks_of v.dirty) (tables_of v) (tables_of v') k m0 m (segment_in v.chunk) (chunk_in v.chunk) j is.running above
-      (record {
+      loose_traced v' is go.chunk go.hidden l.size (subst (λ (dirty : Dirty). TracedIn v' is dirty v.chunk) (sym (ap blocks_of go.dirty))
+      (map_fetched d (tables_of v') k m0 m j is.running above (record {
         at = map_addressed d v k m0 m is j v' go l.blocks.address;
         used = l.used;
         live = l.live;
@@ -164,10 +164,9 @@ module _ (d : DeviceState) (v v' : LogMemory) (k : CheckpointValue) (m0 m : LogM
   added_now : block_in v.map j ≡ 0 → (is' : IsLoose d v' k m0 m) × HasTraces is.running.memory is'.running.memory
   added_now none =
       let e = go.added none in
-      loose_traced d v v' k m0 m is go.chunk go.hidden (ap (λ (u : UsageTable). length u.segments) e)
-      (subst (λ (dirty : Dirty). TracedIn d v v' k m0 m is dirty v.chunk) (sym (ap blocks_of go.dirty))
-      (map_added d (blocks_of v.dirty) (tables_of v) (tables_of v') k m0 m (segment_in v.chunk) (chunk_in v.chunk) j is.running none
-      (record {
+      loose_traced v' is go.chunk go.hidden (ap (λ (u : UsageTable). length u.segments) e)
+      (subst (λ (dirty : Dirty). TracedIn v' is dirty v.chunk) (sym (ap blocks_of go.dirty))
+      (map_added d (tables_of v') k m0 m j is.running none (record {
         at = map_addressed d v k m0 m is j v' go (λ i. ap (λ (u : UsageTable). address_of u i) e);
         used = λ i. ap (λ (u : UsageTable). used_of u i) e;
         live = λ i. ap (λ (u : UsageTable). live_of u i) e;
@@ -183,15 +182,15 @@ two_or_less (suc zero) = inr (inl refl)
 two_or_less (suc (suc n)) = inr (inr (omega arith))
 
 -- ---- calls
-pub gathers_looks : (d d' : DeviceState) (v : LogMemory) → Looks d d' → Gathers d d' v v
-gathers_looks d d' v looks = record { used = λ s. refl; kept = λ s. refl; traces = λ k m0 m keeps is. still_traced d d' v k m0 m looks is }
+pub gathers_looks : {d d' : DeviceState} {v : LogMemory} → Looks d d' → Gathers d d' v v
+gathers_looks {d} {d'} {v} looks = record { used = λ s. refl; kept = λ s. refl; traces = λ k m0 m keeps is. still_traced d k m looks is }
 
-pub gathers_none : (d : DeviceState) (v v' : LogMemory) → v' ≡ v → Gathers d d v v'
-gathers_none d v v' same = subst (λ (w : LogMemory). Gathers d d v w) (sym same) (gathers_looks d d v (looks_none d))
+pub gathers_none : {d : DeviceState} {v v' : LogMemory} → v' ≡ v → Gathers d d v v'
+gathers_none {d} {v} same = subst (λ (w : LogMemory). Gathers d d v w) (sym same) (gathers_looks {v = v} (looks_none d))
 
-pub gathers_then : (a b c : DeviceState) (v v' v'' : LogMemory) → (c.keeps_model → b.keeps_model) → Gathers a b v v' → Gathers b c v' v''
+pub gathers_then : {a b c : DeviceState} {v v' v'' : LogMemory} → (c.keeps_model → b.keeps_model) → Gathers a b v v' → Gathers b c v' v''
     → Gathers a c v v''
-gathers_then a b c v v' v'' back one two = record {
+gathers_then back one two = record {
   used = λ s. two.used s ∙ one.used s;
   kept = λ s. two.kept s ∙ one.kept s;
   traces = λ k m0 m keeps is.
@@ -210,35 +209,34 @@ map_gathers d v v' j go = ⊎_elim
       traces = λ k m0 m keeps is. added_now d v v' k m0 m is j go none;
     })
     (λ (some : (block_in v.map j ≡ 1) ⊎ (2 ≤ block_in v.map j)). ⊎_elim
-    (λ (one : block_in v.map j ≡ 1). gathers_none d v v' (go.same one))
+    (λ (one : block_in v.map j ≡ 1). gathers_none {d = d} (go.same one))
     (λ (above : 2 ≤ block_in v.map j).
     let l = go.lifted above in
     record { used = l.used; kept = l.kept; traces = λ k m0 m keeps is. fetched_now d v v' k m0 m is j go above })
     some)
     (two_or_less (block_in v.map j))
 
-pub map_of_gathers : (d : DeviceState) (v v' : LogMemory) (j : ℕ) → (v' ≡ v) ⊎ MapLifts v v' j → Gathers d d v v'
-map_of_gathers d v v' j o = ⊎_elim (λ (same : v' ≡ v). gathers_none d v v' same) (λ (go : MapLifts v v' j). map_gathers d v v' j go) o
+pub map_of_gathers : (d : DeviceState) {v v' : LogMemory} {j : ℕ} → (v' ≡ v) ⊎ MapLifts v v' j → Gathers d d v v'
+map_of_gathers d {v} {v'} {j} o = ⊎_elim (λ (same : v' ≡ v). gathers_none {d = d} same)
+    (λ (go : MapLifts v v' j). map_gathers d v v' j go) o
 
-pub bring_gathers : (d d' : DeviceState) (v v' : LogMemory) (x : Entry) (f address : ℕ) (lives : Bool) (bytes : List ℕ) → Looks d d'
+pub bring_gathers : (d d' : DeviceState) {v v' : LogMemory} (x : Entry) {f address : ℕ} {lives : Bool} {bytes : List ℕ} → Looks d d'
     → file_of x ≡ Some f → f < 4096 → IsAtAddress (blocks_of v.dirty) (tables_of v) x address → 2 ≤ address
     → lives ≡ not (is_hidden_in v.map f)
     → ((n : ℕ) → x ≡ Inode n → is_hidden_in v.map n ≡ false → block_in v.map (n / 128) ≡ 1)
     → (d'.keeps_model → bytes ≡ present d.content (blocks_of v.dirty) x address)
     → Brings v v' x address lives bytes → Gathers d d' v v'
-bring_gathers d d' v v' x f address lives bytes looks file low at above is_lives mapped read go = record {
+bring_gathers d d' {v} {v'} x {f} {address} {lives} {bytes} looks file low at above is_lives mapped read go = record {
   used = go.usage.used;
   kept = go.usage.kept;
   traces = λ k m0 m keeps is.
-      let first = still_traced d d' v k m0 m looks is in
+      let first = still_traced d k m looks is in
       let now = first.0 in
       let there : block d'.content address ≡ bytes = ap (λ (c : Content). block c address) looks.untouched.content
       ∙ sym (read keeps ∙ on_device d.content (blocks_of v.dirty) x address (omega (arith, above))) in
-      let second = loose_traced d' v v' k m0 m now go.chunk go.hidden go.usage.size
+      let second = loose_traced v' now go.chunk go.hidden go.usage.size
       (fetching_traces d' (blocks_of v.dirty) (blocks_of v'.dirty) (tables_of v) (tables_of v') k m0 m (segment_in v.chunk)
-      (chunk_in v.chunk) x address bytes
-      now.running (f, file) at above there (is_named d' v k m0 m now x f address lives file low at above is_lives v' bytes go there mapped)
-      go.dirty
-      (is_lifted d' v k m0 m now x f address lives file low at above is_lives v' bytes go)) in
+      (chunk_in v.chunk) x address bytes now.running (f, file) at above there (is_named now file low at above is_lives go there mapped)
+      go.dirty (is_lifted now file low at above is_lives go)) in
       (second.0, traces_then is.running.memory now.running.memory second.0.running.memory first.1 second.1);
 }

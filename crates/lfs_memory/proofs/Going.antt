@@ -9,35 +9,35 @@ use Rattle.lfs_model.proofs.Settled.{settled_stands}
 use Rattle.lfs_memory.specs.declared.memory.LogMemory.{LogMemory}
 use Rattle.lfs_memory.specs.Memory.{HasRoom, IsMemory, Goes, GoesUpTo, Stops, Quiet}
 
-pub goes_none : (d : DeviceState) (v : LogMemory) → IsLawful d → IsMemory v → Goes d d v v 0
-goes_none d v lawful memory = record {
-  carries = carries_none d;
+pub goes_none : {d : DeviceState} (v : LogMemory) → IsLawful d → IsMemory v → Goes d d v v 0
+goes_none {d} v lawful memory = record {
+  carries = carries_none;
   memory = memory;
   segments = refl;
   room = omega arith;
   no_failure = refl;
   emptied = λ s is. is;
   log = λ k m0 m keeps is. is;
-  quiet = λ k m0 m keeps is. started d (λ c. StandsOn k.segments c m0) lawful (settled_stands d k m0 is.running.settled);
+  quiet = λ k m0 m keeps is. started (λ c. StandsOn k.segments c m0) lawful (settled_stands d k m0 is.running.settled);
 }
 
-quiet_then : (p : ℕ) (a b c : DeviceState) (v v' : LogMemory) (n : ℕ) → GoesUpTo p a b v v' n → (c.keeps_model → b.keeps_model)
+quiet_then : {p : ℕ} (a b c : DeviceState) {v v' : LogMemory} {n : ℕ} → GoesUpTo p a b v v' n → (c.keeps_model → b.keeps_model)
     → Quiet b c v' → Quiet a c v
-quiet_then p a b c v v' n one back quiet k m0 m keeps is =
+quiet_then a b c one back quiet k m0 m keeps is =
     let P : Content → Type 0 = λ x. StandsOn k.segments x m0 in
-    joined a b c P P P (one.quiet k m0 m (back keeps) is) (quiet k m0 m keeps (one.log k m0 m (back keeps) is)) (λ x h. h) (λ x h. h)
+    joined P P P (one.quiet k m0 m (back keeps) is) (quiet k m0 m keeps (one.log k m0 m (back keeps) is)) (λ x h. h) (λ x h. h)
 
-pub goes_then : (p q : ℕ) (a b c : DeviceState) (v v' v'' : LogMemory) (n l : ℕ) → GoesUpTo p a b v v' n → GoesUpTo q b c v' v'' l
+pub goes_then : {p q : ℕ} {a b c : DeviceState} {v v' v'' : LogMemory} {n l : ℕ} → GoesUpTo p a b v v' n → GoesUpTo q b c v' v'' l
     → GoesUpTo q a c v v'' (n + l)
-goes_then p q a b c v v' v'' n l one two = record {
-  carries = carries_then a b c one.carries two.carries;
+goes_then {p} {a} {b} {c} {v} {v'} {n} one two = record {
+  carries = carries_then one.carries two.carries;
   memory = two.memory;
   segments = two.segments ∙ one.segments;
   room = let x = one.room in let y = two.room in omega (arith, x, y);
   no_failure = two.no_failure ∙ one.no_failure;
   emptied = λ s is. two.emptied s (one.emptied s is);
   log = λ k m0 m keeps is. two.log k m0 m keeps (one.log k m0 m (two.carries.kept_before keeps) is);
-  quiet = quiet_then p a b c v v' n one two.carries.kept_before two.quiet;
+  quiet = quiet_then a b c one two.carries.kept_before two.quiet;
 }
 
 pub goes_at_most : (a b : DeviceState) (v v' : LogMemory) (n l : ℕ) → n ≤ l → Goes a b v v' n → Goes a b v v' l
@@ -52,13 +52,13 @@ goes_at_most a b v v' n l le one = record {
   quiet = one.quiet;
 }
 
-pub stops_then : (p : ℕ) (a b c : DeviceState) (v v' : LogMemory) (n : ℕ) → GoesUpTo p a b v v' n → Stops b c v' → Stops a c v
-stops_then p a b c v v' n one two = record {
-  carries = carries_then a b c one.carries two.carries;
+pub stops_then : {p : ℕ} {a b c : DeviceState} {v v' : LogMemory} {n : ℕ} → GoesUpTo p a b v v' n → Stops b c v' → Stops a c v
+stops_then {p} {a} {b} {c} {v} {v'} {n} one two = record {
+  carries = carries_then one.carries two.carries;
   cause = λ k m0 m keeps is. (let worse = two.cause k m0 m keeps (one.log k m0 m (two.carries.kept_before keeps) is) in
       let same = one.no_failure in omega (arith, worse, same));
   settled = λ k m0 m keeps is. two.settled k m0 m keeps (one.log k m0 m (two.carries.kept_before keeps) is);
-  quiet = quiet_then p a b c v v' n one two.carries.kept_before two.quiet;
+  quiet = quiet_then a b c one two.carries.kept_before two.quiet;
 }
 
 pub on_err : {T E : Type 0} (r : Result T E) (P : Type 0) → P → OnErr r P
@@ -69,8 +69,8 @@ pub err_ok : {T E : Type 0} (r : Result T E) (e : E) (P : Type 0) → IsErr r ×
 err_ok (Ok x) e P gives = absurd gives.1
 err_ok (Err e') e P gives = tt
 
-pub has_room_still : (p : ℕ) (d d' : DeviceState) (v v' : LogMemory) (n : ℕ) → GoesUpTo p d d' v v' n → HasRoom d v → HasRoom d' v'
-has_room_still p d d' v v' n goes room = let size = goes.carries.size in let same = goes.segments in omega (arith, room, size, same)
+pub has_room_still : {p : ℕ} {d d' : DeviceState} {v v' : LogMemory} {n : ℕ} → GoesUpTo p d d' v v' n → HasRoom d v → HasRoom d' v'
+has_room_still goes room = let size = goes.carries.size in let same = goes.segments in omega (arith, room, size, same)
 
 pub ok_then : {T E : Type 0} (r : Result T E) (P Q : Type 0) → (P → Q) → OnOk r P → OnOk r Q
 ok_then (Ok x) P Q go p = go p

@@ -23,9 +23,9 @@ use Rattle.lfs_memory.proofs.LogMaps.{is_with_header}
 use Rattle.lfs_memory.proofs.Looses.{as_memory, tables_same}
 
 -- an inode in memory is one
-pub inode_held : (d : DeviceState) (v : LogMemory) (k : CheckpointValue) (m0 m : LogMap) → IsLoose d v k m0 m → (n : ℕ) (old : List ℕ)
+pub inode_held : {d : DeviceState} {v : LogMemory} {k : CheckpointValue} {m0 m : LogMap} → IsLoose d v k m0 m → (n : ℕ) {old : List ℕ}
     → blocks_of v.dirty (Inode n) ≡ Some old → HoldsInode n old
-inode_held d v k m0 m is n old there =
+inode_held is n {old} there =
     let w = is.running in
     let c = w.cached.cached (Inode n) old there in
     let one = c.1 in
@@ -36,31 +36,29 @@ pub hidden_with : (map map' : MapValue) (m : LogMap) (n : ℕ) (h : Header) → 
     → ((l : ℕ) → (l ≡ n → ⊥) → is_hidden_in map' l ≡ is_hidden_in map l)
     → AreHidden map' (with_header m n (Some h))
 hidden_with map map' m n h hidden own others l lt = ⊎_elim
-    (λ (here : l ≡ n). ap (is_nameless (with_header m n (Some h))) here ∙ ap is_unlinked (is_with_header m n (Some h)).own ∙ own
+    (λ (here : l ≡ n). ap (is_nameless (with_header m n (Some h))) here ∙ ap is_unlinked (is_with_header m n {h = Some h}).own ∙ own
     ∙ ap (is_hidden_in map') (sym here))
-    (λ (ne : l ≡ n → ⊥). ap is_unlinked ((is_with_header m n (Some h)).others l ne) ∙ hidden l lt ∙ sym (others l ne))
-    (cases_eq l n)
+    (λ (ne : l ≡ n → ⊥). ap is_unlinked ((is_with_header m n {h = Some h}).others l ne) ∙ hidden l lt ∙ sym (others l ne)) (cases_eq l n)
 
 pub nameless_with : (m : LogMap) (n : ℕ) (h : Header) → is_nameless (with_header m n (Some h)) n ≡ (h.links == 0)
-nameless_with m n h = ap is_unlinked (is_with_header m n (Some h)).own
+nameless_with m n h = ap is_unlinked (is_with_header m n {h = Some h}).own
 
 -- An inode in memory has another header; the file has a name after it where it had one, and its inode map block is to be written then.
-pub header_changed : (d : DeviceState) (v v' : LogMemory) (k : CheckpointValue) (m0 m : LogMap) → IsLoose d v k m0 m → (n : ℕ) → n < 4096
-    → (kind : Kind) (form links size : ℕ) → FitsHeader kind form links size
+pub header_changed : (d : DeviceState) (v v' : LogMemory) (k : CheckpointValue) (m0 m : LogMap) → IsLoose d v k m0 m → {n : ℕ} → n < 4096
+    → {kind : Kind} {form links size : ℕ} → FitsHeader kind form links size
     → (links == 0) ≡ is_hidden_in v.map n → ((links == 0) ≡ false → block_in v.map (n / 128) ≡ 1)
     → ChangesHeader v v' n kind form links size → IsLoose d v' k m0 (with_header m n (Some (header_with kind form links size)))
-header_changed d v v' k m0 m is n few kind form links size fits same mapped go =
+header_changed d v v' k m0 m is {n} few {kind} {form} {links} {size} fits same mapped go =
     let h = header_with kind form links size in
     let m' = with_header m n (Some h) in
-    let holds = inode_held d v k m0 m is n go.old go.there in
-    let says : header (headed kind form n links size go.old) ≡ h = header_headed n go.old holds kind form links size fits in
+    let holds = inode_held is n go.there in
+    let says : header (headed kind form n links size go.old) ≡ h = header_headed n holds fits in
     record {
-      running = as_memory d (blocks_of v'.dirty) k m0 m' v v' (tables_of v) go.stays.chunk (tables_same v v' go.map go.usage)
+      running = as_memory v v' go.stays.chunk (tables_same v v' go.map go.usage)
           (header_changing d (blocks_of v.dirty) (blocks_of v'.dirty) (tables_of v) k m0 m m' (segment_in v.chunk)
-          (chunk_in v.chunk) n go.old (headed kind form n links size go.old) is.running go.there
-          (holds_headed n go.old holds kind form links size fits)
+          (chunk_in v.chunk) n go.old (headed kind form n links size go.old) is.running go.there (holds_headed n holds fits)
           (λ w high low. headed_words kind form n links size go.old w (omega (arith, high)))
-          (subst (λ (g : Header). IsWithHeader m n (Some g) m') (sym says) (is_with_header m n (Some h)))
+          (subst (λ (g : Header). IsWithHeader m n (Some g) m') (sym says) (is_with_header m n {h = Some h}))
           (nameless_with m n h ∙ same ∙ sym (is.hidden n few))
           (λ named. mapped (sym (nameless_with m n h) ∙ named))
           go.changes);
@@ -91,22 +89,22 @@ module _ (v v' : LogMemory) (n : ℕ) (kind : Kind) (form links size : ℕ) (go 
   }
 
 -- A file is made under a number that had none; its inode map block is to be written, if it has a name.
-pub file_created : (d : DeviceState) (v v' : LogMemory) (k : CheckpointValue) (m0 m : LogMap) → IsLoose d v k m0 m → (n : ℕ) → 1 ≤ n
+pub file_created : (d : DeviceState) (v v' : LogMemory) (k : CheckpointValue) (m0 m : LogMap) → IsLoose d v k m0 m → {n : ℕ} → 1 ≤ n
     → n < 4096 → address_in v.map n ≡ 0
-    → (kind : Kind) (form links size : ℕ) → FitsHeader kind form links size → ((links == 0) ≡ false → block_in v.map (n / 128) ≡ 1)
+    → {kind : Kind} {form links size : ℕ} → FitsHeader kind form links size → ((links == 0) ≡ false → block_in v.map (n / 128) ≡ 1)
     → Creates v v' n kind form links size → IsLoose d v' k m0 (with_header m n (Some (header_with kind form links size)))
-file_created d v v' k m0 m is n some few none kind form links size fits mapped go =
+file_created d v v' k m0 m is {n} some few none {kind} {form} {links} {size} fits mapped go =
     let h = header_with kind form links size in
     let m' = with_header m n (Some h) in
     let bytes = headed kind form n links size (zeros 512) in
     let high : n ≤ 4095 = omega (arith, few) in
     let says : header bytes ≡ h = header_new n some high kind form links size fits in
     record {
-      running = as_memory d (blocks_of v'.dirty) k m0 m' v v' (tables_of v') go.stays.chunk refl
+      running = as_memory v v' go.stays.chunk refl
           (file_creating d (blocks_of v.dirty) (blocks_of v'.dirty) (tables_of v) (tables_of v') k m0 m m' (segment_in v.chunk)
           (chunk_in v.chunk) n bytes is.running none
-          (holds_new n some high kind form links size fits) (λ w low up. new_words kind form n links size w (omega (arith, low)))
-          (subst (λ (g : Header). IsWithHeader m n (Some g) m') (sym says) (is_with_header m n (Some h)))
+          (holds_new n some high fits) (λ w low up. new_words kind form n links size w (omega (arith, low)))
+          (subst (λ (g : Header). IsWithHeader m n (Some g) m') (sym says) (is_with_header m n {h = Some h}))
           (λ named. mapped (sym (nameless_with m n h) ∙ named))
           go.changes (readdressed v v' n kind form links size go));
       hidden = hidden_with v.map v'.map m n h is.hidden (sym go.hidden.own) go.hidden.others;

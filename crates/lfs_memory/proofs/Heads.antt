@@ -53,9 +53,9 @@ headed_sector i kind form n links size bytes own is =
     ∙ sym (sector_is (relabeled i kind form links size))
 
 -- an inode with another header is one
-pub holds_headed : (n : ℕ) (old : List ℕ) → HoldsInode n old → (kind : Kind) (form links size : ℕ) → FitsHeader kind form links size
+pub holds_headed : (n : ℕ) {old : List ℕ} → HoldsInode n old → {kind : Kind} {form links size : ℕ} → FitsHeader kind form links size
     → HoldsInode n (headed kind form n links size old)
-holds_headed n old holds kind form links size fits = record {
+holds_headed n {old} holds {kind} {form} {links} {size} fits = record {
   value = relabeled holds.value kind form links size;
   spelt = headed_sector holds.value kind form n links size old holds.own (ap (drop 16) holds.spelt ∙ tail_is holds.value);
   fits = record {
@@ -91,11 +91,11 @@ headed_words kind form n links size old w high =
     ap (λ (b : List ℕ). number_of (take 4 b))
     (past (kind_byte kind) form n links size (drop 16 old) (4 * w) (omega (arith, high)) ∙ dropped 16 (4 * w) old (omega (arith, high)))
 
-pub header_headed : (n : ℕ) (old : List ℕ) → HoldsInode n old → (kind : Kind) (form links size : ℕ) → FitsHeader kind form links size
+pub header_headed : (n : ℕ) {old : List ℕ} → HoldsInode n old → {kind : Kind} {form links size : ℕ} → FitsHeader kind form links size
     → header (headed kind form n links size old) ≡ header_with kind form links size
 unfolding holds_headed
-header_headed n old holds kind form links size fits =
-    header_holds n (headed kind form n links size old) (holds_headed n old holds kind form links size fits)
+header_headed n {old} holds {kind} {form} {links} {size} fits =
+    header_holds n (holds_headed n holds fits)
 
 -- ---- a new inode, whose pointers are 0
 zeros_then : (a b : ℕ) → zeros (a + b) ≡ zeros a ++ zeros b
@@ -136,10 +136,10 @@ length_same : (n : ℕ) → length {A = ℕ} (replicate n 0) ≡ n
 length_same zero = refl
 length_same (suc n) = ap (λ (k : ℕ). suc k) (length_same n)
 
-pub holds_new : (n : ℕ) → 1 ≤ n → n ≤ 4095 → (kind : Kind) (form links size : ℕ) → FitsHeader kind form links size
+pub holds_new : (n : ℕ) → 1 ≤ n → n ≤ 4095 → {kind : Kind} {form links size : ℕ} → FitsHeader kind form links size
     → HoldsInode n (headed kind form n links size (zeros 512))
 unfolding Are32
-holds_new n low high kind form links size fits = record {
+holds_new n low high {kind} {form} {links} {size} fits = record {
   value = new_inode kind form n links size;
   spelt = headed_sector (new_inode kind form n links size) kind form n links size (zeros 512) refl (new_tail kind form n links size);
   fits = record {
@@ -160,7 +160,7 @@ pub header_new : (n : ℕ) → 1 ≤ n → n ≤ 4095 → (kind : Kind) (form li
     → header (headed kind form n links size (zeros 512)) ≡ header_with kind form links size
 unfolding holds_new
 header_new n low high kind form links size fits =
-    header_holds n (headed kind form n links size (zeros 512)) (holds_new n low high kind form links size fits)
+    header_holds n (holds_new n low high fits)
 
 pub new_words : (kind : Kind) (form n links size w : ℕ) → 4 ≤ w → word (headed kind form n links size (zeros 512)) w ≡ 0
 new_words kind form n links size w high = headed_words kind form n links size (zeros 512) w high ∙ word_zeros 512 w

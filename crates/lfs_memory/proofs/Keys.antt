@@ -7,13 +7,13 @@ pub at_most_one : (b : Bool) (n : ℕ) → cond b n (n + 1) ≤ n + 1
 at_most_one true n = omega arith
 at_most_one false n = omega arith
 
-low_by : (r f i n q : ℕ) → (r ≡ 1 → i ≤ 128) → entry_by (kind_by r) f i ≡ Leaf n q → q ≤ 128
-low_by zero f i n q low is = absurd cc
-low_by (suc zero) f i n q low is = let same : i ≡ q = cc in let l = low refl in omega (arith, same, l)
-low_by (suc (suc zero)) f i n q low is = absurd cc
-low_by (suc (suc (suc r))) f i n q low is = absurd cc
+low_by : (r f i : ℕ) {n q : ℕ} → (r ≡ 1 → i ≤ 128) → entry_by (kind_by r) f i ≡ Leaf n q → q ≤ 128
+low_by zero f i low is = absurd cc
+low_by (suc zero) f i {q} low is = let same : i ≡ q = cc in let l = low refl in omega (arith, same, l)
+low_by (suc (suc zero)) f i low is = absurd cc
+low_by (suc (suc (suc r))) f i low is = absurd cc
 
 -- leaves are few
-pub leaf_low : (c : ℕ) → IsCode c → (n q : ℕ) → entry_at c ≡ Leaf n q → q ≤ 128
-leaf_low c is n q leaf =
-    low_by (c / 134217728) (c / 32768 % 4096) (c % 32768) n q (λ one. is.leaf_index (omega (arith, one)) (omega (arith, one))) leaf
+pub leaf_low : {c : ℕ} → IsCode c → (n q : ℕ) → entry_at c ≡ Leaf n q → q ≤ 128
+leaf_low {c} is n q leaf =
+    low_by (c / 134217728) (c / 32768 % 4096) (c % 32768) (λ one. is.leaf_index (omega (arith, one)) (omega (arith, one))) leaf

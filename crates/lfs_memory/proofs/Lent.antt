@@ -13,12 +13,12 @@ use Rattle.lfs_inodes.specs.Present.{present}
 use Rattle.lfs_memory.specs.Present.{Looks, IsMissing}
 use Rattle.lfs_memory.proofs.Lifted.{on_device}
 
-pub lent_looks : (d d' : DeviceState) (a : ℕ) (r : Result (Bor (List ℕ)) ReadFault) → OnlyReads d d' a r → Looks d d'
-lent_looks d d' a r reads = record { untouched = reads.untouched; carries = reads.carries; time = reads.time; told = reads.told }
+pub lent_looks : {d d' : DeviceState} {a : ℕ} {r : Result (Bor (List ℕ)) ReadFault} → OnlyReads d d' a r → Looks d d'
+lent_looks reads = record { untouched = reads.untouched; carries = reads.carries; time = reads.time; told = reads.told }
 
-pub lent_present : (content : Content) (dirty : Dirty) (x : Entry) (a : ℕ) (bytes : List ℕ) → 2 ≤ a → cell_at content a ≡ Some bytes
+pub lent_present : (content : Content) (dirty : Dirty) (x : Entry) (a : ℕ) {bytes : List ℕ} → 2 ≤ a → cell_at content a ≡ Some bytes
     → bytes ≡ present content dirty x a
-lent_present content dirty x a bytes above is =
+lent_present content dirty x a above is =
     sym (on_device content dirty x a (λ one. omega (arith, one, above)) ∙ block_at content a (omega (arith, above)) ∙ ap bytes_of is)
 
 -- one that it doesn't lend, and one past its end

@@ -95,16 +95,16 @@ kept_memory v v' memory size chunk used kept last address stale capacity = recor
   few = let f = memory.few in let c = ap (λ (c : Capacity). c.limit) capacity in omega (arith, f, c, size);
 }
 
-with_chunk : (d : DeviceState) (dirty : Dirty) (t : Tables) (k : CheckpointValue) (m0 m : LogMap) (c c' : Chunk) → c' ≡ c
+with_chunk : (d : DeviceState) {dirty : Dirty} {t : Tables} (k : CheckpointValue) (m0 m : LogMap) {c c' : Chunk} → c' ≡ c
     → Running d dirty t k m0 m (segment_in c) (chunk_in c) → Running d dirty t k m0 m (segment_in c') (chunk_in c')
-with_chunk d dirty t k m0 m c c' e w = subst (λ (c : Chunk). Running d dirty t k m0 m (segment_in c) (chunk_in c)) (sym e) w
+with_chunk d {dirty} {t} k m0 m {c} e w = subst (λ (c : Chunk). Running d dirty t k m0 m (segment_in c) (chunk_in c)) (sym e) w
 
 pub same_hidden : (map map' : MapValue) (m : LogMap) → map'.hidden ≡ map.hidden → AreHidden map m → AreHidden map' m
 same_hidden map map' m e is n low = is n low ∙ ap (λ (l : List Bool). get_or l n false) (sym e)
 
 -- ---- a block of a file
-module _ (d : DeviceState) (v : LogMemory) (k : CheckpointValue) (m0 m : LogMap) (is : IsLoose d v k m0 m) (x : Entry) (f address : ℕ)
-    (lives : Bool)
+module _ {d : DeviceState} {v : LogMemory} {k : CheckpointValue} {m0 m : LogMap} (is : IsLoose d v k m0 m) {x : Entry} {f address : ℕ}
+    {lives : Bool}
     (file : file_of x ≡ Some f) (low : f < 4096) (at : IsAtAddress (blocks_of v.dirty) (tables_of v) x address) (above : 2 ≤ address)
     (is_lives : lives ≡ not (is_hidden_in v.map f)) where
   abbrev M : Memory
@@ -114,7 +114,7 @@ module _ (d : DeviceState) (v : LogMemory) (k : CheckpointValue) (m0 m : LogMap)
   of_file = (f, file)
 
   pub stands_at : M.at x ≡ address
-  stands_at = address_at d (blocks_of v.dirty) (tables_of v) k m0 m (segment_in v.chunk) (chunk_in v.chunk) x address is.running at
+  stands_at = address_at d k m0 m x address is.running at
 
   shown_by : (o : Option ℕ) → o ≡ Some f → elim o [ None ↦ true | Some n ↦ not (is_nameless m n) ] ≡ not (is_nameless m f)
   shown_by None e = absurd (cc)
@@ -142,9 +142,9 @@ module _ (d : DeviceState) (v : LogMemory) (k : CheckpointValue) (m0 m : LogMap)
   }
 
   pub is_read : IsMissing d.content (blocks_of v.dirty) x address → ⊥
-  is_read missing = not_missing d v k m0 m is x address of_file stands_at (omega (arith, above)) missing
+  is_read missing = not_missing d v k m0 m is x of_file stands_at (omega (arith, above)) missing
 
-  module _ (v' : LogMemory) (bytes : List ℕ) (go : Brings v v' x address lives bytes) where
+  module _ {v' : LogMemory} {bytes : List ℕ} (go : Brings v v' x address lives bytes) where
     addresses : (n : ℕ) → (Inode n ≡ x → ⊥) → address_in v'.map n ≡ address_in v.map n
     addresses n ne = ⊎_elim
         (λ (w : (n : ℕ) × (x ≡ Inode n)). (go.inode w.0 w.1).others n (λ h. ne (ap Inode h ∙ sym w.1)))
@@ -187,7 +187,7 @@ module _ (d : DeviceState) (v : LogMemory) (k : CheckpointValue) (m0 m : LogMap)
 
       pub log_brought : IsLoose d v' k m0 m
       log_brought = record {
-        running = with_chunk d (blocks_of v'.dirty) (tables_of v') k m0 m v.chunk v'.chunk go.chunk
+        running = with_chunk d k m0 m go.chunk
             (fetching d (blocks_of v.dirty) (blocks_of v'.dirty) (tables_of v) (tables_of v') k m0 m (segment_in v.chunk)
             (chunk_in v.chunk) x address bytes
             is.running of_file at above there is_named go.dirty is_lifted);
@@ -221,9 +221,9 @@ module _ (d : DeviceState) (v : LogMemory) (k : CheckpointValue) (m0 m : LogMap)
     same_dirty : blocks_of v'.dirty ≡ blocks_of v.dirty
     same_dirty = ap blocks_of go.dirty
 
-    with_dirty : (t : Tables) → Running d (blocks_of v.dirty) t k m0 m (segment_in v.chunk) (chunk_in v.chunk)
+    with_dirty : {t : Tables} → Running d (blocks_of v.dirty) t k m0 m (segment_in v.chunk) (chunk_in v.chunk)
         → Running d (blocks_of v'.dirty) t k m0 m (segment_in v'.chunk) (chunk_in v'.chunk)
-    with_dirty t w = with_chunk d (blocks_of v'.dirty) t k m0 m v.chunk v'.chunk go.chunk
+    with_dirty {t} w = with_chunk d k m0 m go.chunk
         (subst (λ (dirty : Dirty). Running d dirty t k m0 m (segment_in v.chunk) (chunk_in v.chunk)) (sym same_dirty) w)
 
     map_tables : ((i : ℕ) → address_of v'.usage i ≡ address_of v.usage i) → (y : Entry) → (y ≡ Map j → ⊥)
@@ -246,7 +246,7 @@ module _ (d : DeviceState) (v : LogMemory) (k : CheckpointValue) (m0 m : LogMap)
     with_map : length v'.usage.segments ≡ length v.usage.segments
         → Running d (blocks_of v.dirty) (tables_of v') k m0 m (segment_in v.chunk) (chunk_in v.chunk) → IsLoose d v' k m0 m
     with_map size w = record {
-      running = with_dirty (tables_of v') w;
+      running = with_dirty w;
       hidden = same_hidden v.map v'.map m go.hidden is.hidden;
       segments = size ∙ is.segments;
     }
@@ -290,8 +290,8 @@ module _ (d : DeviceState) (v : LogMemory) (k : CheckpointValue) (m0 m : LogMap)
         (two_or_less (block_in v.map j))
 
 -- ---- calls one after the other
-pub prepares_looks : (d d' : DeviceState) (v : LogMemory) → IsLawful d → IsMemory v → Looks d d' → Prepares d d' v v 0
-prepares_looks d d' v lawful memory looks = record {
+pub prepares_looks : {d d' : DeviceState} (v : LogMemory) → IsLawful d → IsMemory v → Looks d d' → Prepares d d' v v 0
+prepares_looks {d} {d'} v lawful memory looks = record {
   looks = looks;
   memory = memory;
   segments = refl;
@@ -305,13 +305,13 @@ prepares_looks d d' v lawful memory looks = record {
   hidden = refl;
   mapped = λ j is. is;
   absent = λ l none. none;
-  log = λ k m0 m keeps is. still_log d d' v k m0 m looks is;
+  log = λ k m0 m keeps is. still_log looks is;
 }
 
-pub prepares_then : (a b c : DeviceState) (v v' v'' : LogMemory) (n l : ℕ) → IsLawful a → Prepares a b v v' n → Prepares b c v' v'' l
+pub prepares_then : {a b c : DeviceState} {v v' v'' : LogMemory} {n l : ℕ} → IsLawful a → Prepares a b v v' n → Prepares b c v' v'' l
     → Prepares a c v v'' (n + l)
-prepares_then a b c v v' v'' n l lawful one two =
-    let looks = looks_then a b c lawful one.looks two.looks in
+prepares_then {a} {b} {c} {l} lawful one two =
+    let looks = looks_then lawful one.looks two.looks in
     record {
       looks = looks;
       memory = two.memory;
@@ -329,8 +329,8 @@ prepares_then a b c v v' v'' n l lawful one two =
       log = λ k m0 m keeps is. two.log k m0 m keeps (one.log k m0 m (two.looks.carries.kept_before keeps) is);
     }
 
-pub prepares_at_most : (a b : DeviceState) (v v' : LogMemory) (n l : ℕ) → n ≤ l → Prepares a b v v' n → Prepares a b v v' l
-prepares_at_most a b v v' n l le one = record {
+pub prepares_at_most : {a b : DeviceState} {v v' : LogMemory} {n l : ℕ} → n ≤ l → Prepares a b v v' n → Prepares a b v v' l
+prepares_at_most le one = record {
   looks = one.looks;
   memory = one.memory;
   segments = one.segments;
@@ -347,9 +347,9 @@ prepares_at_most a b v v' n l le one = record {
   log = one.log;
 }
 
-pub prepares_excused : (a b c : DeviceState) (v v' : LogMemory) (n : ℕ) → Prepares a b v v' n → Looks b c → FailsFromDevice b c v'
+pub prepares_excused : {a b c : DeviceState} {v v' : LogMemory} {n : ℕ} → Prepares a b v v' n → Looks b c → FailsFromDevice b c v'
     → FailsFromDevice a c v
-prepares_excused a b c v v' n one two failed k m0 m keeps is =
+prepares_excused one two failed k m0 m keeps is =
     let back = two.carries.kept_before keeps in
     let rose = failed k m0 m keeps (one.log k m0 m back is) in
     let before = one.looks.carries.failures in
@@ -362,22 +362,22 @@ on_device content dirty x a ne = cond-false _ _ _ (not_one a ne)
     not_one : (a : ℕ) → (a ≡ 1 → ⊥) → (a == 1) ≡ false
     not_one a ne = grind (arith, nat_tests)
 
-pub brings_memory : (v v' : LogMemory) (x : Entry) (address : ℕ) (lives : Bool) (bytes : List ℕ) → IsMemory v
+pub brings_memory : (v v' : LogMemory) (x : Entry) {address : ℕ} {lives : Bool} {bytes : List ℕ} → IsMemory v
     → Brings v v' x address lives bytes → IsMemory v'
-brings_memory v v' x address lives bytes memory go =
+brings_memory v v' x {address} memory go =
     kept_memory v v' memory go.usage.size go.chunk go.usage.used go.usage.kept go.usage.last go.usage.blocks.address
-    (λ j. stays_stale v.usage v'.usage (segment_of address / 64) j go.usage.blocks) go.capacity
+    (λ j. stays_stale j go.usage.blocks) go.capacity
 
-pub bring_prepares : (d d' : DeviceState) (v v' : LogMemory) (x : Entry) (f address : ℕ) (lives : Bool) (bytes : List ℕ) → IsLawful d
+pub bring_prepares : (d d' : DeviceState) {v v' : LogMemory} (x : Entry) {f address : ℕ} {lives : Bool} {bytes : List ℕ} → IsLawful d
     → IsMemory v → Looks d d'
     → file_of x ≡ Some f → f < 4096 → IsAtAddress (blocks_of v.dirty) (tables_of v) x address → 2 ≤ address
     → lives ≡ not (is_hidden_in v.map f)
     → ((n : ℕ) → x ≡ Inode n → is_hidden_in v.map n ≡ false → block_in v.map (n / 128) ≡ 1)
     → (d'.keeps_model → bytes ≡ present d.content (blocks_of v.dirty) x address)
     → Brings v v' x address lives bytes → Prepares d d' v v' 1
-bring_prepares d d' v v' x f address lives bytes lawful memory looks file low at above is_lives mapped read go = record {
+bring_prepares d d' {v} {v'} x {f} {address} {lives} {bytes} lawful memory looks file low at above is_lives mapped read go = record {
   looks = looks;
-  memory = brings_memory v v' x address lives bytes memory go;
+  memory = brings_memory v v' x memory go;
   segments = go.usage.size;
   clean = go.usage.clean;
   used = go.usage.used;
@@ -399,33 +399,32 @@ bring_prepares d d' v v' x f address lives bytes lawful memory looks file low at
       (λ (other : (n : ℕ) → x ≡ Inode n → ⊥). ap (λ (map : MapValue). address_in map l) (go.others other) ∙ none)
       (inode_or_not x);
   log =
-      λ k m0 m keeps is. log_brought d' v k m0 m (still_log d d' v k m0 m looks is) x f address lives file low at above is_lives v' bytes go
+      λ k m0 m keeps is. log_brought (still_log looks is) file low at above is_lives go
       (ap (λ (c : Content). block c address) looks.untouched.content
       ∙ sym (read keeps ∙ on_device d.content (blocks_of v.dirty) x address (omega (arith, above)))) mapped;
 }
 
 -- where the block isn't counted, or isn't read, a call of the device failed
-pub bring_lost : (d : DeviceState) (v : LogMemory) (x : Entry) (f address : ℕ) (lives : Bool) → file_of x ≡ Some f → f < 4096
+pub bring_lost : (d : DeviceState) (v : LogMemory) (x : Entry) {f address : ℕ} {lives : Bool} → file_of x ≡ Some f → f < 4096
     → IsAtAddress (blocks_of v.dirty) (tables_of v) x address → 2 ≤ address
     → lives ≡ not (is_hidden_in v.map f) → (IsCountedAbove v.usage address lives → ⊥) → FailsFromDevice d d v
-bring_lost d v x f address lives file low at above is_lives lost k m0 m keeps is =
-    absurd (lost (is_counted d v k m0 m is x f address lives file low at above is_lives))
+bring_lost d v x {f} {address} {lives} file low at above is_lives lost k m0 m keeps is =
+    absurd (lost (is_counted is file low at above is_lives))
 
-pub bring_unread : (d d' : DeviceState) (v : LogMemory) (x : Entry) (f address : ℕ) → file_of x ≡ Some f → f < 4096
+pub bring_unread : (d d' : DeviceState) (v : LogMemory) (x : Entry) {f address : ℕ} → file_of x ≡ Some f → f < 4096
     → IsAtAddress (blocks_of v.dirty) (tables_of v) x address → 2 ≤ address
     → (d'.keeps_model → (d.failures < d'.failures) ⊎ IsMissing d.content (blocks_of v.dirty) x address) → FailsFromDevice d d' v
-bring_unread d d' v x f address file low at above unread k m0 m keeps is = ⊎_elim
+bring_unread d d' v x {f} {address} file low at above unread k m0 m keeps is = ⊎_elim
     (λ (failed : d.failures < d'.failures). failed)
     (λ (missing : IsMissing d.content (blocks_of v.dirty) x address).
-    absurd (is_read d v k m0 m is x f address (not (is_hidden_in v.map f)) file low at above refl missing))
-    (unread keeps)
+    absurd (is_read is {lives = not (is_hidden_in v.map f)} file low at above refl missing)) (unread keeps)
 
 pub map_prepares : (d : DeviceState) (v v' : LogMemory) (j : ℕ) → IsLawful d → IsMemory v → MapLifts v v' j → Prepares d d v v' 0
 map_prepares d v v' j lawful memory go = ⊎_elim
     (λ (above : 2 ≤ block_in v.map j).
     let l = go.lifted above in
     made (kept_memory v v' memory l.size go.chunk l.used l.kept l.last l.blocks.address
-    (λ i. stays_stale v.usage v'.usage (segment_of (block_in v.map j) / 64) i l.blocks) capacity) l.size l.clean l.used l.kept)
+    (λ i. stays_stale i l.blocks) capacity) l.size l.clean l.used l.kept)
     (λ (small : block_in v.map j < 2). ⊎_elim
     (λ (none : block_in v.map j ≡ 0).
     let e = go.added none in
@@ -436,9 +435,7 @@ map_prepares d v v' j lawful memory go = ⊎_elim
     size (ap (λ (u : UsageTable). clean_in u.segments) e) (λ s. ap (λ (u : UsageTable). used_of u s) e)
     (λ s. ap (λ (u : UsageTable). kept_of u s) e))
     (λ (some : block_in v.map j ≡ 0 → ⊥). subst (λ (w : LogMemory). Prepares d d v w 0) (sym (go.same (omega (arith, small, some))))
-    (prepares_looks d d v lawful memory (looks_none d)))
-    (cases_eq (block_in v.map j) 0))
-    (two_or_less (block_in v.map j))
+    (prepares_looks v lawful memory (looks_none d))) (cases_eq (block_in v.map j) 0)) (two_or_less (block_in v.map j))
   where
     two_or_less : (n : ℕ) → (2 ≤ n) ⊎ (n < 2)
     two_or_less zero = inr (omega arith)
@@ -469,20 +466,20 @@ map_prepares d v v' j lawful memory go = ⊎_elim
       log = λ k m0 m keeps is. log_mapped d v k m0 m is j v' go;
     }
 
-pub map_lost : (d : DeviceState) (v : LogMemory) (j : ℕ) → IsMapLost v j → FailsFromDevice d d v
-map_lost d v j lost k m0 m keeps is = absurd (lost.lost (map_counted d v k m0 m is j lost.above))
+pub map_lost : (d : DeviceState) {v : LogMemory} {j : ℕ} → IsMapLost v j → FailsFromDevice d d v
+map_lost d {v} {j} lost k m0 m keeps is = absurd (lost.lost (map_counted d v k m0 m is j lost.above))
 
-pub map_of_prepares : (d : DeviceState) (v v' : LogMemory) (j : ℕ) → IsLawful d → IsMemory v → (v' ≡ v) ⊎ MapLifts v v' j
+pub map_of_prepares : {d : DeviceState} {v v' : LogMemory} {j : ℕ} → IsLawful d → IsMemory v → (v' ≡ v) ⊎ MapLifts v v' j
     → Prepares d d v v' 0
-map_of_prepares d v v' j lawful memory o = ⊎_elim
-    (λ (same : v' ≡ v). subst (λ (w : LogMemory). Prepares d d v w 0) (sym same) (prepares_looks d d v lawful memory (looks_none d)))
+map_of_prepares {d} {v} {v'} {j} lawful memory o = ⊎_elim
+    (λ (same : v' ≡ v). subst (λ (w : LogMemory). Prepares d d v w 0) (sym same) (prepares_looks v lawful memory (looks_none d)))
     (λ (go : MapLifts v v' j). map_prepares d v v' j lawful memory go)
     o
 
 -- ---- where blocks are
-pub inode_stands : (v : LogMemory) (x : Entry) (n a : ℕ) → x ≡ Inode n → address_in v.map n ≡ a
+pub inode_stands : (v : LogMemory) (x : Entry) {n : ℕ} (a : ℕ) → x ≡ Inode n → address_in v.map n ≡ a
     → IsAtAddress (blocks_of v.dirty) (tables_of v) x a
-inode_stands v x n a named at = record {
+inode_stands v x {n} a named at = record {
   top = λ top. ap (tables_of v).at named ∙ at;
   pointed = λ ne. absurd (ne (ap parent named ∙ sym named));
   low = λ k q leaf. absurd (let e : Inode n ≡ Leaf k q = sym named ∙ leaf in cc);
@@ -491,22 +488,20 @@ inode_stands v x n a named at = record {
 pub not_inside : (d : DeviceState) (v : LogMemory) (x : Entry) (f : ℕ) → file_of x ≡ Some f
     → IsAtAddress (blocks_of v.dirty) (tables_of v) x 1 → blocks_of v.dirty x ≡ None → FailsFromDevice d d v
 not_inside d v x f file at none k m0 m keeps is =
-    absurd (not_missing d v k m0 m is x 1 (f, file)
-    (address_at d (blocks_of v.dirty) (tables_of v) k m0 m (segment_in v.chunk) (chunk_in v.chunk) x 1 is.running at) (omega arith)
+    absurd (not_missing d v k m0 m is x (f, file) (address_at d k m0 m x 1 is.running at) (omega arith)
     (record { inside = λ one. none; outside = λ ne. absurd (ne refl) }))
 
 -- nothing happened
-pub prepares_none : (d : DeviceState) (v v' : LogMemory) (most : ℕ) → v' ≡ v → IsLawful d → IsMemory v → Prepares d d v v' most
-prepares_none d v v' most same lawful memory = subst (λ (w : LogMemory). Prepares d d v w most) (sym same)
-    (prepares_at_most d d v v 0 most (omega arith) (prepares_looks d d v lawful memory (looks_none d)))
+pub prepares_none : {d : DeviceState} {v v' : LogMemory} {most : ℕ} → v' ≡ v → IsLawful d → IsMemory v → Prepares d d v v' most
+prepares_none {d} {v} {most} same lawful memory = subst (λ (w : LogMemory). Prepares d d v w most) (sym same)
+    (prepares_at_most {l = most} (omega arith) (prepares_looks v lawful memory (looks_none d)))
 
 -- how one call after another ends
-pub ends_then : {T : Type 0} (a b c : DeviceState) (v v' v'' : LogMemory) (n : ℕ) → Prepares a b v v' n → b.failures ≡ a.failures
-    → Looks b c
-    → (r : Result T LiftFault) → EndsLifting b c v' v'' r → EndsLifting a c v v'' r
-ends_then a b c v v' v'' n one same looks r two = record {
+pub ends_then : {T : Type 0} {a b c : DeviceState} {v v' v'' : LogMemory} (n : ℕ) → Prepares a b v v' n → b.failures ≡ a.failures
+    → Looks b c → {r : Result T LiftFault} → EndsLifting b c v' v'' r → EndsLifting a c v v'' r
+ends_then {a} {b} {c} {v} {v'} n one same looks {r} two = record {
   full = two.full;
-  failed = λ is. prepares_excused a b c v v' n one looks (two.failed is);
+  failed = λ is. prepares_excused one looks (two.failed is);
   no_failure = ok_then r _ _ (λ still. still ∙ same) two.no_failure;
 }
 
@@ -515,6 +510,6 @@ pub pointed_stands : (v : LogMemory) (x : Entry) (a : ℕ) → (parent x ≡ x �
     → IsPointedIn (blocks_of v.dirty) x a → IsAtAddress (blocks_of v.dirty) (tables_of v) x a
 pointed_stands v x a below low pointed = record { top = λ top. absurd (below top); pointed = λ ne. pointed; low = low }
 
-pub word_read : (b : List ℕ) (at place r : ℕ) → place ≡ at → r ≡ read32 (4 * place) b → word b at ≡ r
+pub word_read : (b : List ℕ) (at place : ℕ) {r : ℕ} → place ≡ at → r ≡ read32 (4 * place) b → word b at ≡ r
 unfolding word
-word_read b at place r same read = ap (λ (p : ℕ). read32 (4 * p) b) (sym same) ∙ sym read
+word_read b at place same read = ap (λ (p : ℕ). read32 (4 * p) b) (sym same) ∙ sym read

@@ -13,8 +13,8 @@ use Rattle.lfs_memory.specs.Changing.{is_blank, stored, with_block, with_header}
 equal_yes : (k n : ℕ) → k ≡ n → (k == n) ≡ true
 equal_yes k n is = grind (arith, nat_tests)
 
-equal_no : (k n : ℕ) → (k ≡ n → ⊥) → (k == n) ≡ false
-equal_no k n ne = grind (arith, nat_tests)
+equal_no : {k n : ℕ} → (k ≡ n → ⊥) → (k == n) ≡ false
+equal_no ne = grind (arith, nat_tests)
 
 both_no : (a b : Bool) → (a ≡ true → b ≡ true → ⊥) → (a && b) ≡ false
 both_no false b never = refl
@@ -27,7 +27,7 @@ both_yes true false e = absurd cc
 both_yes false b e = absurd cc
 
 pub equal_is : (k n : ℕ) → (k == n) ≡ true → k ≡ n
-equal_is k n e = ⊎_elim (λ (is : k ≡ n). is) (λ (ne : k ≡ n → ⊥). let no = equal_no k n ne in absurd cc) (cases_eq k n)
+equal_is k n e = ⊎_elim (λ (is : k ≡ n). is) (λ (ne : k ≡ n → ⊥). let no = equal_no ne in absurd cc) (cases_eq k n)
 
 -- ---- another block
 own_block : (m : LogMap) (n i : ℕ) (bytes : List ℕ) → cond ((n == n) && (i == i)) bytes (m.block n i) ≡ bytes
@@ -61,10 +61,10 @@ with_same_block m n i bytes is = ap (λ (f : ℕ → ℕ → List ℕ). record m
         here on = let p = both_yes (k == n) (l == i) on in let x = equal_is k n p.0 in let y = equal_is l i p.1 in cc
 
 -- ---- another header
-pub is_with_header : (m : LogMap) (n : ℕ) (h : Option Header) → IsWithHeader m n h (with_header m n h)
-is_with_header m n h = record {
+pub is_with_header : (m : LogMap) (n : ℕ) {h : Option Header} → IsWithHeader m n h (with_header m n h)
+is_with_header m n {h} = record {
   own = ap (λ (b : Bool). cond b h (m.header n)) (equal_yes n n refl);
-  others = λ k ne. ap (λ (b : Bool). cond b h (m.header k)) (equal_no k n ne);
+  others = λ k ne. ap (λ (b : Bool). cond b h (m.header k)) (equal_no ne);
   block = λ k l. refl;
   version = refl;
 }
@@ -84,8 +84,8 @@ zeros_blank (suc b ∷ bytes) on = let z = equal_is (suc b) 0 (both_yes (suc b =
 pub stored_none : (bytes : List ℕ) (n : ℕ) → bytes ≡ zeros n → stored bytes ≡ []
 stored_none bytes n is = ap (λ (b : Bool). cond b [] bytes) (ap is_blank is ∙ blank_zeros n)
 
-pub stored_some : (bytes : List ℕ) (n : ℕ) → length bytes ≡ n → (bytes ≡ zeros n → ⊥) → stored bytes ≡ bytes
-stored_some bytes n long some = ⊎_elim
+pub stored_some : (bytes : List ℕ) {n : ℕ} → length bytes ≡ n → (bytes ≡ zeros n → ⊥) → stored bytes ≡ bytes
+stored_some bytes long some = ⊎_elim
     (λ (on : is_blank bytes ≡ true). absurd (some (zeros_blank bytes on ∙ ap zeros long)))
     (λ (off : is_blank bytes ≡ false). ap (λ (b : Bool). cond b [] bytes) off)
     (cases_Bool (is_blank bytes))

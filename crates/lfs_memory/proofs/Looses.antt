@@ -24,9 +24,9 @@ use Rattle.lfs_memory.proofs.FileSteps.{shows}
 pub loose : (d : DeviceState) (v : LogMemory) (k : CheckpointValue) (m0 m : LogMap) → IsLog d v k m0 m → IsLoose d v k m0 m
 loose d v k m0 m is = record { running = is.running; hidden = is.hidden; segments = is.segments }
 
-pub tight_again : (d : DeviceState) (v : LogMemory) (k : CheckpointValue) (m0 m : LogMap) → IsLoose d v k m0 m → IsTight (blocks_of v.dirty)
+pub tight_again : {d : DeviceState} {v : LogMemory} {k : CheckpointValue} {m0 m : LogMap} → IsLoose d v k m0 m → IsTight (blocks_of v.dirty)
     → IsLog d v k m0 m
-tight_again d v k m0 m is tight = record { running = is.running; hidden = is.hidden; segments = is.segments; tight = tight }
+tight_again is tight = record { running = is.running; hidden = is.hidden; segments = is.segments; tight = tight }
 
 -- ---- memory
 pub stays_memory : (v v' : LogMemory) → IsMemory v → v'.chunk ≡ v.chunk → length v'.usage.segments ≡ length v.usage.segments
@@ -55,9 +55,9 @@ below_or (suc zero) P low high = low (omega arith)
 below_or (suc (suc a)) P low high = high (omega arith)
 
 -- ---- a block that leaves its address
-pub stays_put : (n : ℕ) (v v' : LogMemory) → v'.usage ≡ v.usage → v'.chunk ≡ v.chunk → v'.dirty.capacity ≡ v.dirty.capacity
+pub stays_put : (n : ℕ) {v : LogMemory} (v' : LogMemory) → v'.usage ≡ v.usage → v'.chunk ≡ v.chunk → v'.dirty.capacity ≡ v.dirty.capacity
     → length v'.dirty.blocks ≤ length v.dirty.blocks + n → Stays n v v'
-stays_put n v v' usage chunk capacity blocks = record {
+stays_put n {v} v' usage chunk capacity blocks = record {
   memory = stays_same v v' chunk usage capacity;
   chunk = chunk;
   segments = ap (λ (u : UsageTable). length u.segments) usage;
@@ -66,8 +66,8 @@ stays_put n v v' usage chunk capacity blocks = record {
   blocks = blocks;
 }
 
-pub stays_more : (v v' : LogMemory) → Stays 0 v v' → Stays 1 v v'
-stays_more v v' s = record {
+pub stays_more : {v v' : LogMemory} → Stays 0 v v' → Stays 1 v v'
+stays_more s = record {
   memory = s.memory;
   chunk = s.chunk;
   segments = s.segments;
@@ -76,20 +76,20 @@ stays_more v v' s = record {
   blocks = let b = s.blocks in omega (arith, b);
 }
 
-tops_same : (map map' : MapValue) (old new : UsageTable) → map' ≡ map → ((j : ℕ) → table_at map new (Usage j) ≡ table_at map old (Usage j))
+tops_same : {map map' : MapValue} (old new : UsageTable) → map' ≡ map → ((j : ℕ) → table_at map new (Usage j) ≡ table_at map old (Usage j))
     → (y : Entry) → table_at map' new y ≡ table_at map old y
-tops_same map map' old new is same (Data n i) = refl
-tops_same map map' old new is same (Leaf n q) = refl
-tops_same map map' old new is same (Double n) = refl
-tops_same map map' old new is same (Inode n) = ap (λ (a : MapValue). table_at a old (Inode n)) is
-tops_same map map' old new is same (Map j) = ap (λ (a : MapValue). table_at a old (Map j)) is
-tops_same map map' old new is same (Usage j) = same j
+tops_same old new is same (Data n i) = refl
+tops_same old new is same (Leaf n q) = refl
+tops_same old new is same (Double n) = refl
+tops_same old new is same (Inode n) = ap (λ (a : MapValue). table_at a old (Inode n)) is
+tops_same old new is same (Map j) = ap (λ (a : MapValue). table_at a old (Map j)) is
+tops_same old new is same (Usage j) = same j
 
-pub lifts_tables : (m : LogMap) (map map' : MapValue) (old new : UsageTable) (x : Entry) (s w : ℕ) (lives : Bool) → map' ≡ map
+pub lifts_tables : (m : LogMap) {map map' : MapValue} {old new : UsageTable} {x : Entry} {s : ℕ} (w : ℕ) {lives : Bool} → map' ≡ map
     → Lifts old new s lives → lives ≡ is_shown m x → (parent x ≡ x → ⊥)
     → IsLifted m (tables_by map old) (tables_by map' new) x w s
-lifts_tables m map map' old new x s w lives same go shows below = record {
-  at = record { own = λ top. absurd (below top); others = λ y top ne. tops_same map map' old new same (λ j. go.blocks.address j) y };
+lifts_tables m {map} {map'} {old} {new} {s} w same go shows below = record {
+  at = record { own = λ top. absurd (below top); others = λ y top ne. tops_same old new same (λ j. go.blocks.address j) y };
   used = go.used;
   live = subst (λ (b : Bool). CountsDown b (live_of old) (live_of new) s) shows go.live;
   held = subst (λ (b : Bool). CountsDown (not b) (held_of old) (held_of new) s) shows go.held;
@@ -99,16 +99,16 @@ lifts_tables m map map' old new x s w lives same go shows below = record {
 }
 
 -- ---- the pointer to a block below another
-pub pointed_at : (dirty : Dirty) (t : Tables) (x : Entry) (a : ℕ) → (parent x ≡ x → ⊥) → ((n q : ℕ) → x ≡ Leaf n q → q ≤ 128)
+pub pointed_at : (dirty : Dirty) (t : Tables) {x : Entry} (a : ℕ) → (parent x ≡ x → ⊥) → ((n q : ℕ) → x ≡ Leaf n q → q ≤ 128)
     → IsPointedIn dirty x a → IsAtAddress dirty t x a
-pointed_at dirty t x a below low p = record { top = λ top. absurd (below top); pointed = λ ne. p; low = low }
+pointed_at dirty t a below low p = record { top = λ top. absurd (below top); pointed = λ ne. p; low = low }
 
 -- ---- a running log by other words
-pub as_memory : (d : DeviceState) (dirty : Dirty) (k : CheckpointValue) (m0 m : LogMap) (v v' : LogMemory) (t : Tables) → v'.chunk ≡ v.chunk
+pub as_memory : {d : DeviceState} {dirty : Dirty} {k : CheckpointValue} {m0 m : LogMap} (v v' : LogMemory) {t : Tables} → v'.chunk ≡ v.chunk
     → t ≡ tables_of v'
     → Running d dirty t k m0 m (segment_in v.chunk) (chunk_in v.chunk)
     → Running d dirty (tables_of v') k m0 m (segment_in v'.chunk) (chunk_in v'.chunk)
-as_memory d dirty k m0 m v v' t chunk same w =
+as_memory {d} {dirty} {k} {m0} {m} v v' chunk same w =
     subst (λ (c : Chunk). Running d dirty (tables_of v') k m0 m (segment_in c) (chunk_in c)) (sym chunk)
     (subst (λ (u : Tables). Running d dirty u k m0 m (segment_in v.chunk) (chunk_in v.chunk)) same w)
 
@@ -119,7 +119,7 @@ tables_same v v' map usage = ap (λ (a : MapValue). tables_by a v.usage) (sym ma
 module _ (d : DeviceState) (v : LogMemory) (k : CheckpointValue) (m0 m : LogMap) (is : IsLoose d v k m0 m) (x : Entry) (a : ℕ)
     (at : IsAtAddress (blocks_of v.dirty) (tables_of v) x a) (above : 2 ≤ a) where
   where_is : is.running.memory.at x ≡ a
-  where_is = address_at d (blocks_of v.dirty) (tables_of v) k m0 m (segment_in v.chunk) (chunk_in v.chunk) x a is.running at
+  where_is = address_at d k m0 m x a is.running at
 
   there : 2 ≤ is.running.memory.at x
   there = let e = where_is in omega (arith, e, above)
@@ -131,8 +131,8 @@ module _ (d : DeviceState) (v : LogMemory) (k : CheckpointValue) (m0 m : LogMap)
       (is_taken M x 1 M.bytes (omega arith)) p).0 on in
       omega (arith, c)
 
-  pub counted : (lives : Bool) → lives ≡ is_shown m x → IsCountedThere v.usage a lives
-  counted lives shows =
+  pub counted : {lives : Bool} → lives ≡ is_shown m x → IsCountedThere v.usage a lives
+  counted shows =
       let w = is.running in
       let e = where_is in
       record {
@@ -145,8 +145,9 @@ module _ (d : DeviceState) (v : LogMemory) (k : CheckpointValue) (m0 m : LogMap)
       }
 
 -- so its leaving doesn't fail
-pub never_miscounted : (d : DeviceState) (v : LogMemory) (k : CheckpointValue) (m0 m : LogMap) → IsLoose d v k m0 m → (x : Entry) (n a : ℕ)
+pub never_miscounted : (d : DeviceState) (v : LogMemory) (k : CheckpointValue) (m0 m : LogMap) → IsLoose d v k m0 m
+    → {x : Entry} (n : ℕ) {a : ℕ}
     → file_of x ≡ Some n → n < 4096
     → IsAtAddress (blocks_of v.dirty) (tables_of v) x a → IsMiscounted v.usage a (not (is_hidden_in v.map n)) → ⊥
-never_miscounted d v k m0 m is x n a file few at bad =
-    bad.1 (counted d v k m0 m is x a at bad.0 (not (is_hidden_in v.map n)) (shows m x n (is_hidden_in v.map n) file (is.hidden n few)))
+never_miscounted d v k m0 m is {x} n {a} file few at bad =
+    bad.1 (counted d v k m0 m is x a at bad.0 (shows m x n (is_hidden_in v.map n) file (is.hidden n few)))

@@ -29,23 +29,20 @@ pub closed_chunk : (c : Chunk) → length c.names ≡ 0 → chunk_in c ≡ None
 closed_chunk c none = ap (λ (n : ℕ). cond {A = Option (List Entry)} (n == 0) None (Some (entries_of c))) none
 
 -- the segment and the entries of a running log by other words
-pub as_chunk : (d : DeviceState) (dirty : Dirty) (t : Tables) (k : CheckpointValue) (m0 m : LogMap) (a b : ℕ) (x y : Option (List Entry))
+pub as_chunk : {d : DeviceState} {dirty : Dirty} {t : Tables} {k : CheckpointValue} {m0 m : LogMap} {a b : ℕ} {x y : Option (List Entry)}
     → a ≡ b → x ≡ y → Running d dirty t k m0 m a x → Running d dirty t k m0 m b y
-as_chunk d dirty t k m0 m a b x y s c w =
+as_chunk {d} {dirty} {t} {k} {m0} {m} {b} {x} s c w =
     subst (λ (o : Option (List Entry)). Running d dirty t k m0 m b o) c (subst (λ (n : ℕ). Running d dirty t k m0 m n x) s w)
 
-module _ (d : DeviceState) (v : LogMemory) (k : CheckpointValue) (m0 m : LogMap) (is : IsLog d v k m0 m) where
+module _ {d : DeviceState} {v : LogMemory} {k : CheckpointValue} {m0 m : LogMap} (is : IsLog d v k m0 m) where
   pub is_open : 0 < length v.chunk.names → Running d (blocks_of v.dirty) (tables_of v) k m0 m v.chunk.segment (Some (entries_of v.chunk))
-  is_open some = as_chunk d (blocks_of v.dirty) (tables_of v) k m0 m (segment_in v.chunk) v.chunk.segment (chunk_in v.chunk)
-      (Some (entries_of v.chunk))
-      (open_segment v.chunk some) (open_chunk v.chunk some) is.running
+  is_open some = as_chunk (open_segment v.chunk some) (open_chunk v.chunk some) is.running
 
   pub is_closed : length v.chunk.names ≡ 0 → Running d (blocks_of v.dirty) (tables_of v) k m0 m 1024 None
-  is_closed none = as_chunk d (blocks_of v.dirty) (tables_of v) k m0 m (segment_in v.chunk) 1024 (chunk_in v.chunk) None
-      (closed_segment v.chunk none) (closed_chunk v.chunk none) is.running
+  is_closed none = as_chunk (closed_segment v.chunk none) (closed_chunk v.chunk none) is.running
 
 -- a write to a free sector, done or failed
-module _ (d d' : DeviceState) (k : CheckpointValue) (m0 : LogMap) (at : ℕ) (bytes : List ℕ) (settled : IsSettled d k m0)
+module _ {d d' : DeviceState} {k : CheckpointValue} (m0 : LogMap) (at : ℕ) (bytes : List ℕ) (settled : IsSettled d k m0)
     (free : IsFreeSector d.content k at)
     (may : MayWrite at bytes d.content d'.content) (crash : CrashWrites at bytes d d') where
   pub stays_settled : IsSettled d' k m0
@@ -54,11 +51,11 @@ module _ (d d' : DeviceState) (k : CheckpointValue) (m0 : LogMap) (at : ℕ) (by
   pub stays_quiet : IsLawful d → Carries d d' → Elapses d d' → LeavesOnly d d' (λ c. StandsOn k.segments c m0)
   stays_quiet lawful carries time =
       let P : Content → Type 0 = λ c. StandsOn k.segments c m0 in
-      goes_on d d d' P (started d P lawful (settled_stands d k m0 settled)) carries time (settled_stands d' k m0 stays_settled)
+      goes_on P (started P lawful (settled_stands d k m0 settled)) carries time (settled_stands d' k m0 stays_settled)
 
 -- a sector that the acknowledged checkpoint has no use for
-pub taken_free : (d : DeviceState) (dirty : Dirty) (t : Tables) (k : CheckpointValue) (m0 m : LogMap) (seg : ℕ)
-    (chunk : Option (List Entry)) → Running d dirty t k m0 m seg chunk
+pub taken_free : {d : DeviceState} {dirty : Dirty} {t : Tables} {k : CheckpointValue} {m0 m : LogMap} {seg : ℕ}
+    {chunk : Option (List Entry)} → Running d dirty t k m0 m seg chunk
     → (s place : ℕ) → s < k.segments → t.kept s ≤ place → place < 64 → IsFreeSector d.content k (2 + 64 * s + place)
-taken_free d dirty t k m0 m seg chunk w s place below free low =
+taken_free w s place below free low =
     record { segment = s; place = place; is = refl; within = low; below = below; unused = let u = w.kept s below in omega (arith, u, free) }

@@ -30,7 +30,7 @@ use Rattle.lfs_memory.proofs.Ranges.{passing, passing_more, passing_nothing, pas
 -- ---- runs that are read
 
 -- the pointers of an inode
-module _ (a b : DeviceState) (v : LogMemory) (n address : ℕ) (x : Entry) (looks : Looks a b) (some : 1 ≤ n)
+module _ (a b : DeviceState) (v : LogMemory) {n address : ℕ} (x : Entry) (looks : Looks a b) (some : 1 ≤ n)
     (at : address ≡ address_in v.map n) (there : 0 < address) (named : x ≡ Inode n) where
   on_map : 0 < address_in v.map n
   on_map = omega (arith, at, there)
@@ -61,23 +61,24 @@ module _ (a b : DeviceState) (v : LogMemory) (n address : ℕ) (x : Entry) (look
       → (fault ≡ kind.Failed → a.failures < b.failures) → FailsFromDevice a b v
   inode_run_failed kind.Unreadable away failed k m0 m keeps is =
       let gone = away refl keeps in
-      absurd (not_missing a v k m0 m is (Inode n) address (n, refl) (inode_at a v k m0 m is n ∙ sym at) there
+      absurd (not_missing a v k m0 m is (Inode n) (n, refl) (inode_at a v k m0 m is n ∙ sym at) there
       (record { inside = λ one. absurd (gone.outside one); outside = λ ne. gone.lost.lost }))
   inode_run_failed kind.Failed away failed k m0 m keeps is = failed refl
 
   -- an inode that should be in memory, and isn't
   pub inode_lacks : address ≡ 1 → blocks_of v.dirty x ≡ None → FailsFromDevice a b v
   inode_lacks one none k m0 m keeps is =
-      absurd (not_missing a v k m0 m is (Inode n) address (n, refl) (inode_at a v k m0 m is n ∙ sym at) there
+      absurd (not_missing a v k m0 m is (Inode n) (n, refl) (inode_at a v k m0 m is n ∙ sym at) there
       (record { inside = λ e. subst (λ (y : Entry). blocks_of v.dirty y ≡ None) named none; outside = λ ne. absurd (ne one) }))
 
 -- those of a leaf
-module _ (a b c : DeviceState) (v : LogMemory) (n q address first : ℕ) (x : Entry) (shown : List ℕ) (one : Looks a b) (two : Looks b c)
+module _ {a b : DeviceState} (c : DeviceState) (v : LogMemory) {n : ℕ} (q : ℕ) {address first : ℕ} (x : Entry) {shown : List ℕ}
+    (one : Looks a b) (two : Looks b c)
     (some : 1 ≤ n) (at : address ≡ address_in v.map n) (there : 0 < address) (named : x ≡ Inode n)
     (below : q ≤ 128) (read : b.keeps_model → shown ≡ present a.content (blocks_of v.dirty) x address)
     (begins : first ≡ word shown (leaf_first q)) where
   inode_is : b.keeps_model → shown ≡ present a.content (blocks_of v.dirty) (Inode n) (address_in v.map n)
-  inode_is keeps = shown_is a b v n address x one some at there named shown (read keeps)
+  inode_is keeps = shown_is a b v x one some at there named shown (read keeps)
 
   pub leaf_run : (numbers : List ℕ)
       → ((inode : List ℕ) → first ≡ word inode (leaf_first q) → c.keeps_model
@@ -129,9 +130,9 @@ ok_for (Err e) n first end i low high from = tt
 -- ---- a run that is kept
 
 -- it stays one where a call only reads
-pub run_still : (a b : DeviceState) (v : LogMemory) (kept : Option PointerRun) → Looks a b → KeepsRun a v kept → KeepsRun b v kept
-run_still a b v None looks is = tt
-run_still a b v (Some r) looks is = λ i inside.
+pub run_still : {a b : DeviceState} (v : LogMemory) (kept : Option PointerRun) → Looks a b → KeepsRun a v kept → KeepsRun b v kept
+run_still v None looks is = tt
+run_still v (Some r) looks is = λ i inside.
     let p = is i inside in
     record {
       some = p.some;
@@ -154,12 +155,12 @@ module _ (a b : DeviceState) (v : LogMemory) (r : PointerRun) (looks : Looks a b
       let found = subst (λ (e : Content). pointer_in r i ≡ data_now e (blocks_of v.dirty) r.number
       (present e (blocks_of v.dirty) (Inode r.number) (address_in v.map r.number)) i) looks.untouched.content (p.value keeps) in
       ap (λ (n : ℕ). is.running.memory.at (Data n i)) (sym inside.own)
-      ∙ sym (found ∙ data_at a v k m0 m is r.number i shown p.there (inode_bytes a v k m0 m is r.number shown p.there refl) p.low)
+      ∙ sym (found ∙ data_at a v k m0 m is r.number i p.there (inode_bytes a v k m0 m is r.number shown p.there refl) p.low)
 
-pub kept_found : (a b : DeviceState) (v : LogMemory) (kept : Option PointerRun) (n i p : ℕ) → Looks a b → KeepsRun b v kept
+pub kept_found : {a b : DeviceState} (v : LogMemory) (kept : Option PointerRun) (n i p : ℕ) → Looks a b → KeepsRun b v kept
     → IsKeptFor kept n i → IfSome kept (λ r. p ≡ pointer_in r i) → AnswersAddress a b v (Data n i) p
-kept_found a b v None n i p looks run inside found = absurd inside
-kept_found a b v (Some r) n i p looks run inside found =
+kept_found v None n i p looks run inside found = absurd inside
+kept_found {a} {b} v (Some r) n i p looks run inside found =
     subst (AnswersAddress a b v (Data n i)) (sym found) (in_run a b v r looks run n i inside)
 
 pub kept_some : (b : DeviceState) (v : LogMemory) (kept : Option PointerRun) (n i : ℕ) → KeepsRun b v kept → IsKeptFor kept n i
@@ -184,9 +185,9 @@ no_way a b v n i none k m0 m keeps is = ⊎_elim
 pub blocks_none : (pointer : ℕ → ℕ) (from : ℕ) → blocks_in pointer from from ≡ 0
 blocks_none pointer from = let none : from - from ≡ 0 = omega arith in ap (passing (λ i. not (pointer i == 0)) from) none
 
-pub blocks_more : (pointer : ℕ → ℕ) (from i count : ℕ) → from ≤ i → blocks_in pointer from i ≡ count
+pub blocks_more : (pointer : ℕ → ℕ) (from i : ℕ) {count : ℕ} → from ≤ i → blocks_in pointer from i ≡ count
     → blocks_in pointer from (i + 1) ≡ count + bool_byte (not (pointer i == 0))
-blocks_more pointer from i count order was =
+blocks_more pointer from i order was =
     let next : i + 1 - from ≡ i - from + 1 = omega (arith, order) in
     let more = ap (passing (λ i. not (pointer i == 0)) from) next
     ∙ passing_more (λ i. not (pointer i == 0)) from (i - from) i (omega (arith, order)) in
@@ -211,22 +212,23 @@ some_test a on = ⊎_elim
     (cases_eq a 0)
 
 -- a block is stored exactly where it has an address
-pub block_test : (d : DeviceState) (v : LogMemory) (k : CheckpointValue) (m0 m : LogMap) (is : IsLoose d v k m0 m) (n i a : ℕ)
+pub block_test : {d : DeviceState} {v : LogMemory} {k : CheckpointValue} {m0 : LogMap} (m : LogMap) (is : IsLoose d v k m0 m) (n i : ℕ)
+    {a : ℕ}
     → is.running.memory.at (Data n i) ≡ a → is_stored m n i ≡ not (a == 0)
-block_test d v k m0 m is n i a at = same_tests (is_stored m n i) (not (a == 0))
+block_test m is n i {a} at = same_tests (is_stored m n i) (not (a == 0))
     (λ on. let has = (is.running.laid.blocks n i).0 (ltb-true 0 (length (m.block n i)) on) in test_some a (omega (arith, has, at)))
     (λ on. let some = some_test a on in lt-ltb 0 (length (m.block n i)) ((is.running.laid.blocks n i).1 (omega (arith, some, at))))
 
-pub kept_count : (a b : DeviceState) (v : LogMemory) (kept : Option PointerRun) (n from end count : ℕ) → Looks a b → KeepsRun b v kept
+pub kept_count : {a b : DeviceState} (v : LogMemory) (kept : Option PointerRun) (n from end count : ℕ) → Looks a b → KeepsRun b v kept
     → IsKeptFor kept n from → from < end → IfSome kept (CountsRun from end count)
     → AnswersCount a b v n from end count
 unfolding stored_in
-kept_count a b v None n from end count looks run inside order counted = absurd inside
-kept_count a b v (Some r) n from end count looks run inside order counted = λ k m0 m keeps is.
+kept_count v None n from end count looks run inside order counted = absurd inside
+kept_count {a} {b} v (Some r) n from end count looks run inside order counted = λ k m0 m keeps is.
     let low = inside.low in
     let most = counted.inside in
     passing_same (is_stored m n) (λ i. not (pointer_in r i == 0)) from (end - from)
-    (λ i le lt. block_test a v k m0 m is n i (pointer_in r i)
+    (λ i le lt. block_test m is n i
     (in_run a b v r looks run n i (record { own = inside.own; low = omega (arith, low, le); high = omega (arith, most, lt, order) }) k m0 m
     keeps is))
     ∙ counted.value
@@ -235,7 +237,7 @@ pub no_way_count : (a b : DeviceState) (v : LogMemory) (n from end : ℕ) → Ha
 unfolding stored_in
 no_way_count a b v n from end none k m0 m keeps is =
     passing_nothing (is_stored m n) from (end - from)
-    (λ i le lt. block_test a v k m0 m is n i 0 (no_way a b v n i (later i le none) k m0 m keeps is))
+    (λ i le lt. block_test m is n i (no_way a b v n i (later i le none) k m0 m keeps is))
   where
     later : (i : ℕ) → from ≤ i → HasNoWay v n from → HasNoWay v n i
     later i le none =
@@ -248,40 +250,41 @@ pub record CountedTo (a b : DeviceState) (v : LogMemory) (n from at count : ℕ)
   pub few : count + from ≤ at
   pub answer : AnswersCount a b v n from at count
 
-pub counted_none : (a : DeviceState) (v : LogMemory) (n from : ℕ) → CountedTo a a v n from from 0
+pub counted_none : {a : DeviceState} {v : LogMemory} {n from : ℕ} → CountedTo a a v n from from 0
 unfolding stored_in
-counted_none a v n from = record {
+counted_none {a} {n} {from} = record {
   looks = looks_none a;
   no_failure = refl;
   few = omega arith;
   answer = λ k m0 m keeps is. (let none : from - from ≡ 0 = omega arith in ap (passing (is_stored m n) from) none);
 }
 
-pub counted_more : (a b c : DeviceState) (v : LogMemory) (n from at end count more : ℕ) → IsLawful a → CountedTo a b v n from at count
+pub counted_more : (a b c : DeviceState) {v : LogMemory} {n from at end count : ℕ} (more : ℕ) → IsLawful a → CountedTo a b v n from at count
     → Looks b c → c.failures ≡ b.failures → at < end → more ≤ end - at
     → AnswersCount b c v n at end more → CountedTo a c v n from end (count + more)
 unfolding stored_in
-counted_more a b c v n from at end count more lawful was looks no_failure order few answer = record {
-  looks = looks_then a b c lawful was.looks looks;
+counted_more a b c {v} {n} {from} {at} {end} {count} more lawful was looks no_failure order few answer = record {
+  looks = looks_then lawful was.looks looks;
   no_failure = no_failure ∙ was.no_failure;
   few = let before = was.few in omega (arith, before, few, order);
   answer = λ k m0 m keeps is.
       let low = was.few in
       let P : ℕ → Bool = is_stored m n in
       let before : passing P from (at - from) ≡ count = was.answer k m0 m (looks.carries.kept_before keeps) is in
-      let part : passing P at (end - at) ≡ more = answer k m0 m keeps (still_log a b v k m0 m was.looks is) in
+      let part : passing P at (end - at) ≡ more = answer k m0 m keeps (still_log was.looks is) in
       let both : passing P from (end - from) ≡ passing P from (at - from) + passing P at (end - at) =
       passing_split P from (at - from) (end - at) at (end - from) (omega (arith, low)) (omega (arith, low, order)) in
       both ∙ ap₂ (λ (x y : ℕ). x + y) before part;
 }
 
-pub counted_fault : (a b c : DeviceState) (v : LogMemory) (n from at count : ℕ) → CountedTo a b v n from at count → FailsFromDevice b c v
+pub counted_fault : {a b : DeviceState} (c : DeviceState) {v : LogMemory} {n from at count : ℕ} → CountedTo a b v n from at count
+    → FailsFromDevice b c v
     → FailsFromDevice a c v
-counted_fault a b c v n from at count was failed k m0 m keeps is =
-    let rose = failed k m0 m keeps (still_log a b v k m0 m was.looks is) in
+counted_fault {a} {b} c {v} was failed k m0 m keeps is =
+    let rose = failed k m0 m keeps (still_log was.looks is) in
     let before = was.no_failure in
     omega (arith, rose, before)
 
-pub counted_all : (a b : DeviceState) (v : LogMemory) (n from at to count : ℕ) → at ≡ to → CountedTo a b v n from at count
+pub counted_all : {a b : DeviceState} {v : LogMemory} {n from at to count : ℕ} → at ≡ to → CountedTo a b v n from at count
     → AnswersCount a b v n from to count
-counted_all a b v n from at to count same was = subst (λ (e : ℕ). AnswersCount a b v n from e count) same was.answer
+counted_all {a} {b} {v} {n} {from} {count} same was = subst (λ (e : ℕ). AnswersCount a b v n from e count) same was.answer

@@ -48,25 +48,25 @@ grow_prepares d v v' x memory pointers at go = record {
 }
 
 -- after a call that only looked
-prepares_same : (d d' : DeviceState) (v v' : LogMemory) (n l : ℕ) → IsLawful d → IsMemory v → v' ≡ v → Prepares d d' v v' n
+prepares_same : (d d' : DeviceState) (v : LogMemory) {v' : LogMemory} {n : ℕ} (l : ℕ) → IsLawful d → IsMemory v → v' ≡ v
+    → Prepares d d' v v' n
     → Prepares d d' v v' l
-prepares_same d d' v v' n l lawful memory same one =
+prepares_same d d' v l lawful memory same one =
     subst (λ (w : LogMemory). Prepares d d' v w l) (sym same)
-    (prepares_at_most d d' v v 0 l (omega arith) (prepares_looks d d' v lawful memory one.looks))
+    (prepares_at_most {l = l} (omega arith) (prepares_looks v lawful memory one.looks))
 
-pub grown_after : (d d' : DeviceState) (v v' v'' : LogMemory) (x : Entry) → IsLawful d → IsMemory v → v' ≡ v → IsPointers x
+pub grown_after : {d d' : DeviceState} {v v' v'' : LogMemory} (x : Entry) → IsLawful d → IsMemory v → v' ≡ v → IsPointers x
     → IsAtAddress (blocks_of v'.dirty) (tables_of v') x 0 → Grows v' v'' x
     → Prepares d d' v v' 1 → Prepares d d' v v'' 1
-grown_after d d' v v' v'' x lawful memory same pointers at go one =
-    prepares_then d d' d' v v' v'' 0 1 lawful (prepares_same d d' v v' 1 0 lawful memory same one)
-    (grow_prepares d' v' v'' x one.memory pointers at go)
+grown_after {d} {d'} {v} {v'} {v''} x lawful memory same pointers at go one =
+    prepares_then lawful (prepares_same d d' v 0 lawful memory same one) (grow_prepares d' v' v'' x one.memory pointers at go)
 
 -- ---- room
 lacks_more : (v : LogMemory) (a b : ℕ) → a ≤ b → LacksRoom v a → LacksRoom v b
 lacks_more v a b le lacks = omega (arith, le, lacks)
 
-lacks_then : (d d' : DeviceState) (v v' : LogMemory) (a b : ℕ) → Prepares d d' v v' a → LacksRoom v' b → LacksRoom v (a + b)
-lacks_then d d' v v' a b one lacks = let few = one.few in let capacity = ap (λ (c : Capacity). c.limit) one.capacity in
+lacks_then : {d d' : DeviceState} {v v' : LogMemory} {a : ℕ} (b : ℕ) → Prepares d d' v v' a → LacksRoom v' b → LacksRoom v (a + b)
+lacks_then b one lacks = let few = one.few in let capacity = ap (λ (c : Capacity). c.limit) one.capacity in
     omega (arith, few, capacity, lacks)
 
 -- ---- what stays
@@ -78,8 +78,8 @@ pub record Keeps (v w : LogMemory) : Type 0 where
 keeps_none : (v : LogMemory) → Keeps v v
 keeps_none v = record { stay = λ x is. is; absent = λ l is. is; mapped = λ j is. is }
 
-pub keeps_prepared : (d d' : DeviceState) (v v' w : LogMemory) (n : ℕ) → Prepares d d' v v' n → Keeps v' w → Keeps v w
-keeps_prepared d d' v v' w n one two = record {
+pub keeps_prepared : {d d' : DeviceState} {v v' w : LogMemory} {n : ℕ} → Prepares d d' v v' n → Keeps v' w → Keeps v w
+keeps_prepared one two = record {
   stay = λ x is. two.stay x (one.stay x is);
   absent = λ l is. two.absent l (one.absent l is);
   mapped = λ j is. two.mapped j (one.mapped j is);
@@ -91,8 +91,8 @@ ready_kept v w n i keeps was = ⊎_elim
     (λ (made : (address_in v.map n ≡ 0) × (i < 112)). inr (keeps.absent n made.0, made.1))
     was
 
-header_ready_kept : (v w : LogMemory) (n links : ℕ) → Keeps v w → IsHeaderReady v n links → IsHeaderReady w n links
-header_ready_kept v w n links keeps was = record {
+header_ready_kept : (v : LogMemory) {w : LogMemory} {n links : ℕ} → Keeps v w → IsHeaderReady v n links → IsHeaderReady w n links
+header_ready_kept v {n} keeps was = record {
   inside = ⊎_elim
       (λ (has : IsInMemory v (Inode n)). inl (keeps.stay (Inode n) has))
       (λ (none : address_in v.map n ≡ 0). inr (keeps.absent n none))
@@ -103,7 +103,7 @@ header_ready_kept v w n links keeps was = record {
 pub headers_ready_kept : (v w : LogMemory) (edits : List HeaderEdit) → Keeps v w → AreHeadersReady v edits → AreHeadersReady w edits
 headers_ready_kept v w [] keeps was = was
 headers_ready_kept v w (e ∷ edits) keeps was =
-    (header_ready_kept v w e.number e.header.links keeps was.0, headers_ready_kept v w edits keeps was.1)
+    (header_ready_kept v keeps was.0, headers_ready_kept v w edits keeps was.1)
 
 -- ---- a data block
 pub way_high : (v : LogMemory) (n i : ℕ) → 112 ≤ i → IsInMemory v (Leaf n ((i - 112) / 128)) → HasParent v n i
@@ -118,13 +118,13 @@ excused_within d d' v n i failed k m0 m keeps is within = failed k m0 m keeps is
 
 -- ---- a header
 -- after the inode map's block
-module _ (d d' : DeviceState) (v v' v'' : LogMemory) (j : ℕ) (lawful : IsLawful d) (memory : IsMemory v)
+module _ {d d' : DeviceState} {v v' v'' : LogMemory} {j : ℕ} (lawful : IsLawful d) (memory : IsMemory v)
     (named : (v' ≡ v) ⊎ MapLifts v v' j) (one : Prepares d d' v' v'' 1) where
   pub named_prepares : Prepares d d' v v'' 1
-  named_prepares = prepares_then d d d' v v' v'' 0 1 lawful (map_of_prepares d v v' j lawful memory named) one
+  named_prepares = prepares_then lawful (map_of_prepares lawful memory named) one
 
   pub named_excused : FailsFromDevice d d' v' → FailsFromDevice d d' v
-  named_excused failed = prepares_excused d d d' v v' 0 (map_of_prepares d v v' j lawful memory named) one.looks failed
+  named_excused failed = prepares_excused (map_of_prepares lawful memory named) one.looks failed
 
 -- ---- headers, one after the other
 pub record HeadersPrepared (d0 d : DeviceState) (v0 v : LogMemory) (edits rest : List HeaderEdit) (i : ℕ) : Type 0 where
@@ -132,27 +132,26 @@ pub record HeadersPrepared (d0 d : DeviceState) (v0 v : LogMemory) (edits rest :
   pub ready : (w : LogMemory) → Keeps v w → AreHeadersReady w rest → AreHeadersReady w edits
   pub no_failure : d.failures ≡ d0.failures
 
-module _ (d0 d : DeviceState) (v0 v : LogMemory) (edits : List HeaderEdit) (i : ℕ) (e : HeaderEdit) (lawful : IsLawful d0)
+module _ {d0 d : DeviceState} {v0 v : LogMemory} {edits : List HeaderEdit} {i : ℕ} {e : HeaderEdit} (lawful : IsLawful d0)
     (within : i < length edits) (own : get_or edits i e ≡ e)
-    (was : HeadersPrepared d0 d v0 v edits (drop i edits) i) (d' : DeviceState) (v' : LogMemory) (one : Prepares d d' v v' 1) where
+    (was : HeadersPrepared d0 d v0 v edits (drop i edits) i) {d' : DeviceState} {v' : LogMemory} (one : Prepares d d' v v' 1) where
   first_header : drop i edits ≡ e ∷ drop (i + 1) edits
   first_header = drop_more edits i e within ∙ ap (λ (f : HeaderEdit). f ∷ drop (i + 1) edits) own
 
   pub headers_next : IsHeaderReady v' e.number e.header.links → d'.failures ≡ d.failures
       → HeadersPrepared d0 d' v0 v' edits (drop (i + 1) edits) (i + 1)
   headers_next ready no_failure = record {
-    prepares = prepares_then d0 d d' v0 v v' i 1 lawful was.prepares one;
-    ready = λ w keeps rest. was.ready w (keeps_prepared d d' v v' w 1 one keeps)
-        (subst (AreHeadersReady w) (sym first_header) (header_ready_kept v' w e.number e.header.links keeps ready, rest));
+    prepares = prepares_then lawful was.prepares one;
+    ready = λ w keeps rest. was.ready w (keeps_prepared one keeps)
+        (subst (AreHeadersReady w) (sym first_header) (header_ready_kept v' keeps ready, rest));
     no_failure = no_failure ∙ was.no_failure;
   }
 
   pub headers_fault : Prepares d0 d' v0 v' (length edits)
-  headers_fault = prepares_at_most d0 d' v0 v' (i + 1) (length edits) (omega (arith, within))
-      (prepares_then d0 d d' v0 v v' i 1 lawful was.prepares one)
+  headers_fault = prepares_at_most (omega (arith, within)) (prepares_then lawful was.prepares one)
 
   pub headers_excused : FailsFromDevice d d' v → FailsFromDevice d0 d' v0
-  headers_excused failed = prepares_excused d0 d d' v0 v i was.prepares one.looks failed
+  headers_excused failed = prepares_excused was.prepares one.looks failed
 
 -- ---- blocks that stand beside each other
 row_low : (i : ℕ) → i < 112 → row_of i ≡ 0
@@ -211,9 +210,9 @@ way_cases v (Some b) e last = ⊎_elim
     (λ (off : is_beside b e ≡ false). inl (ap (λ (t : Bool). cond {A = ℕ} t 0 3) off))
     (cases_Bool (is_beside b e))
 
-module _ (d0 d : DeviceState) (v0 v : LogMemory) (edits : List BlockEdit) (i : ℕ) (e : BlockEdit) (lawful0 : IsLawful d0)
+module _ {d0 d : DeviceState} {v0 v : LogMemory} {edits : List BlockEdit} (i : ℕ) {e : BlockEdit} (lawful0 : IsLawful d0)
     (lawful : IsLawful d) (within : i < length edits) (own : get_or edits i e ≡ e)
-    (was : BlocksPrepared d0 d v0 v edits (drop i edits)) (d' : DeviceState) (v' : LogMemory) (one : Prepares d d' v v' 3) where
+    (was : BlocksPrepared d0 d v0 v edits (drop i edits)) {d' : DeviceState} {v' : LogMemory} (one : Prepares d d' v v' 3) where
   first_block : drop i edits ≡ e ∷ drop (i + 1) edits
   first_block = drop_more edits i e within ∙ ap (λ (f : BlockEdit). f ∷ drop (i + 1) edits) own
 
@@ -224,8 +223,7 @@ module _ (d0 d : DeviceState) (v0 v : LogMemory) (edits : List BlockEdit) (i : �
   sharp same = ⊎_elim
       (λ (three : way_from was.before e ≡ 3). subst (Prepares d d' v v') (sym three) one)
       (λ (none : (way_from was.before e ≡ 0) × HasParent v e.number e.index).
-      prepares_same d d' v v' 3 (way_from was.before e) lawful was.prepares.memory (same none.1) one)
-      (way_cases v was.before e was.last)
+      prepares_same d d' v (way_from was.before e) lawful was.prepares.memory (same none.1) one) (way_cases v was.before e was.last)
 
   pub blocks_next : (HasParent v e.number e.index → v' ≡ v) → HasParent v' e.number e.index → d'.failures ≡ d.failures
       → BlocksPrepared d0 d' v0 v' edits (drop (i + 1) edits)
@@ -234,8 +232,8 @@ module _ (d0 d : DeviceState) (v0 v : LogMemory) (edits : List BlockEdit) (i : �
     last = λ b is. let own : e ≡ b = some_is e b is in subst (λ (f : BlockEdit). HasParent v' f.number f.index) own ready;
     most = was.most + way_from was.before e;
     all = let sum = sum_is in omega (arith, sum);
-    prepares = prepares_then d0 d d' v0 v v' was.most (way_from was.before e) lawful0 was.prepares (sharp same);
-    ready = λ w keeps rest. was.ready w (keeps_prepared d d' v v' w 3 one keeps)
+    prepares = prepares_then lawful0 was.prepares (sharp same);
+    ready = λ w keeps rest. was.ready w (keeps_prepared one keeps)
         (subst (AreBlocksReady w) (sym first_block) (ready_kept v' w e.number e.index keeps ready, rest));
     within = λ m all. (subst (AreWithin m) first_block (was.within m all)).1;
     no_failure = no_failure ∙ was.no_failure;
@@ -252,11 +250,10 @@ module _ (d0 d : DeviceState) (v0 v : LogMemory) (edits : List BlockEdit) (i : �
         (way_cases v was.before e was.last)
 
     pub blocks_fault : Prepares d0 d' v0 v' (ways edits)
-    blocks_fault = prepares_at_most d0 d' v0 v' (was.most + 3) (ways edits) three_more
-        (prepares_then d0 d d' v0 v v' was.most 3 lawful0 was.prepares one)
+    blocks_fault = prepares_at_most three_more (prepares_then lawful0 was.prepares one)
 
     pub blocks_short : LacksRoom v 3 → LacksRoom v0 (ways edits)
-    blocks_short lacks = lacks_more v0 (was.most + 3) (ways edits) three_more (lacks_then d0 d v0 v was.most 3 was.prepares lacks)
+    blocks_short lacks = lacks_more v0 (was.most + 3) (ways edits) three_more (lacks_then 3 was.prepares lacks)
 
   pub blocks_excused : IsExcusedWithin d d' v e.number e.index → AreExcusedWithin d0 d' v0 edits
   blocks_excused failed k m0 m keeps is all =
@@ -266,16 +263,16 @@ module _ (d0 d : DeviceState) (v0 v : LogMemory) (edits : List BlockEdit) (i : �
       omega (arith, rose, before)
 
 -- ---- blocks after headers
-pub headers_ready_after : (d d' : DeviceState) (v w : LogMemory) (n : ℕ) (edits : List HeaderEdit) → Prepares d d' v w n
+pub headers_ready_after : {d d' : DeviceState} {v w : LogMemory} {n : ℕ} (edits : List HeaderEdit) → Prepares d d' v w n
     → AreHeadersReady v edits → AreHeadersReady w edits
-headers_ready_after d d' v w n edits one was = headers_ready_kept v w edits (keeps_prepared d d' v w w n one (keeps_none w)) was
+headers_ready_after {d} {d'} {v} {w} {n} edits one was = headers_ready_kept v w edits (keeps_prepared one (keeps_none w)) was
 
 pub all_excused : (d d' : DeviceState) (v : LogMemory) (edits : List BlockEdit) → FailsFromDevice d d' v → AreExcusedWithin d d' v edits
 all_excused d d' v edits failed k m0 m keeps is all = failed k m0 m keeps is
 
-pub excused_then : (a b c : DeviceState) (v w : LogMemory) (n : ℕ) (edits : List BlockEdit) → Prepares a b v w n → Looks b c
+pub excused_then : {a b c : DeviceState} {v w : LogMemory} {n : ℕ} (edits : List BlockEdit) → Prepares a b v w n → Looks b c
     → AreExcusedWithin b c w edits → AreExcusedWithin a c v edits
-excused_then a b c v w n edits one two failed k m0 m keeps is all =
+excused_then edits one two failed k m0 m keeps is all =
     let back = two.carries.kept_before keeps in
     let rose = failed k m0 m keeps (one.log k m0 m back is) all in
     let before = one.looks.carries.failures in

@@ -33,20 +33,21 @@ use Rattle.lfs_memory.specs.Present.{Looks, IsMissing, FailsFromDevice, AnswersI
 use Rattle.lfs_memory.specs.Present.{as_header}
 
 -- ---- calls that only read
-pub still_log : (d d' : DeviceState) (v : LogMemory) (k : CheckpointValue) (m0 m : LogMap) → Looks d d' → IsLoose d v k m0 m
+pub still_log : {d d' : DeviceState} {v : LogMemory} {k : CheckpointValue} {m0 m : LogMap} → Looks d d' → IsLoose d v k m0 m
     → IsLoose d' v k m0 m
-still_log d d' v k m0 m looks is = record {
+still_log {d} {d'} {v} {k} {m0} {m} looks is = record {
   running = staying d d' (blocks_of v.dirty) (tables_of v) k m0 m (segment_in v.chunk) (chunk_in v.chunk) is.running looks.untouched;
   hidden = is.hidden;
   segments = is.segments;
 }
 
 -- a stop meanwhile leaves what is acknowledged
-pub looks_quiet : (d d' : DeviceState) (v : LogMemory) (k : CheckpointValue) (m0 m : LogMap) → IsLawful d → Looks d d' → IsLoose d v k m0 m
+pub looks_quiet : {d : DeviceState} (d' : DeviceState) {v : LogMemory} (k : CheckpointValue) (m0 m : LogMap) → IsLawful d → Looks d d'
+    → IsLoose d v k m0 m
     → LeavesOnly d d' (λ c. StandsOn k.segments c m0)
-looks_quiet d d' v k m0 m lawful looks is =
+looks_quiet {d} d' k m0 m lawful looks is =
     let P : Content → Type 0 = λ c. StandsOn k.segments c m0 in
-    goes_on d d d' P (started d P lawful (settled_stands d k m0 is.running.settled)) looks.carries looks.time
+    goes_on P (started P lawful (settled_stands d k m0 is.running.settled)) looks.carries looks.time
     (settled_stands d' k m0 (settled_still d d' k m0 is.running.settled looks.untouched))
 
 -- ---- what is there
@@ -60,8 +61,8 @@ module _ (d : DeviceState) (v : LogMemory) (k : CheckpointValue) (m0 m : LogMap)
   laid : IsLaid d.content m M (segment_in v.chunk)
   laid = is.running.laid
 
-  pub not_missing : (x : Entry) (a : ℕ) → IsOfFile x → M.at x ≡ a → 0 < a → IsMissing d.content dirty x a → ⊥
-  not_missing x a file at some missing = ⊎_elim
+  pub not_missing : (x : Entry) {a : ℕ} → IsOfFile x → M.at x ≡ a → 0 < a → IsMissing d.content dirty x a → ⊥
+  not_missing x {a} file at some missing = ⊎_elim
       (λ (one : a ≡ 1).
       let f = is.running.cached.found x file (at ∙ one) in
       let e : Some f.0 ≡ None = sym f.1 ∙ missing.inside one in
@@ -74,13 +75,12 @@ module _ (d : DeviceState) (v : LogMemory) (k : CheckpointValue) (m0 m : LogMap)
       absurd (omega (arith, none, long)))
       (cases_eq a 1)
 
-  not_away : (x : Entry) (a : ℕ) → IsOfFile x → M.at x ≡ a → IsAway d.content a → ⊥
-  not_away x a file at away =
-      not_missing x a file at away.lost.some (record { inside = λ one. absurd (away.outside one); outside = λ ne. away.lost.lost })
+  not_away : (x : Entry) {a : ℕ} → IsOfFile x → M.at x ≡ a → IsAway d.content a → ⊥
+  not_away x {a} file at away =
+      not_missing x file at away.lost.some (record { inside = λ one. absurd (away.outside one); outside = λ ne. away.lost.lost })
 
-  pub is_there : (x : Entry) (a : ℕ) → IsOfFile x → M.at x ≡ a → 0 < a → present d.content dirty x a ≡ M.bytes x
-  is_there x a file at some = ap (present d.content dirty x) (sym at)
-      ∙ present_is d.content m M (segment_in v.chunk) dirty laid is.running.cached x file (omega (arith, at, some))
+  pub is_there : (x : Entry) {a : ℕ} → IsOfFile x → M.at x ≡ a → 0 < a → present d.content dirty x a ≡ M.bytes x
+  is_there x file at some = ap (present d.content dirty x) (sym at) ∙ present_is M laid is.running.cached x file (omega (arith, at, some))
 
   -- ---- inodes
   pub inode_at : (n : ℕ) → M.at (Inode n) ≡ address_in v.map n
@@ -104,7 +104,7 @@ module _ (d : DeviceState) (v : LogMemory) (k : CheckpointValue) (m0 m : LogMap)
 
   pub inode_bytes : (n : ℕ) (out : List ℕ) → 0 < address_in v.map n → out ≡ present d.content dirty (Inode n) (address_in v.map n)
       → out ≡ M.bytes (Inode n)
-  inode_bytes n out some e = e ∙ is_there (Inode n) (address_in v.map n) (n, refl) (inode_at n) some
+  inode_bytes n out some e = e ∙ is_there (Inode n) (n, refl) (inode_at n) some
 
   pub inode_answer : (n : ℕ) (out : List ℕ) → 0 < address_in v.map n → out ≡ present d.content dirty (Inode n) (address_in v.map n)
       → HoldsInode n out × (m.header n ≡ Some (header out))
@@ -137,26 +137,25 @@ module _ (d : DeviceState) (v : LogMemory) (k : CheckpointValue) (m0 m : LogMap)
           (λ (some : M.at (Leaf n q) ≡ 0 → ⊥). let low = laid.low n q (omega (arith, some)) in absurd (omega (arith, far, low)))
           (cases_eq (M.at (Leaf n q)) 0)
 
-  pub data_at : (n i : ℕ) (inode : List ℕ) → 0 < address_in v.map n → inode ≡ M.bytes (Inode n) → i < 16624
+  pub data_at : (n i : ℕ) {inode : List ℕ} → 0 < address_in v.map n → inode ≡ M.bytes (Inode n) → i < 16624
       → data_now d.content dirty n inode i ≡ M.at (Data n i)
-  data_at n i inode some e low =
+  data_at n i some e low =
       let at = inode_at n in
       ap (λ (b : List ℕ). data_now d.content dirty n b i) e
       ∙ present_is_laid d.content m M (segment_in v.chunk) dirty laid is.running.cached n i (omega (arith, at, some)) low
 
-  pub data_not_away : (n i : ℕ) (inode : List ℕ) → 0 < address_in v.map n → inode ≡ M.bytes (Inode n) → i < 16624
+  pub data_not_away : (n i : ℕ) {inode : List ℕ} → 0 < address_in v.map n → inode ≡ M.bytes (Inode n) → i < 16624
       → IsDataAway d.content dirty n inode i → ⊥
-  data_not_away n i inode some e low away =
+  data_not_away n i some e low away =
       let at = inode_at n in
       let there : 0 < M.at (Inode n) = omega (arith, at, some) in
       let w : IsDataAway d.content dirty n (M.bytes (Inode n)) i = subst (λ (b : List ℕ). IsDataAway d.content dirty n b i) e away in
       ⊎_elim
       (λ (root : IsLeafAway d.content (M.bytes (Inode n)) ((i - 112) / 128)).
-      not_away (Double n) (word (M.bytes (Inode n)) 121) (n, refl) (sym (laid.spells (Inode n) there).double) root.1)
+      not_away (Double n) (n, refl) (sym (laid.spells (Inode n) there).double) root.1)
       (λ (leaf : IsAway d.content (leaf_now d.content dirty n (M.bytes (Inode n)) ((i - 112) / 128))).
-      not_away (Leaf n ((i - 112) / 128)) _ (n, refl)
-      (sym (leaf_is d.content m M (segment_in v.chunk) dirty laid is.running.cached n there ((i - 112) / 128) (omega (arith, low)))) leaf)
-      w.1
+      not_away (Leaf n ((i - 112) / 128)) (n, refl)
+      (sym (leaf_is M laid is.running.cached n there ((i - 112) / 128) (omega (arith, low)))) leaf) w.1
 
   pub no_block : (n i : ℕ) → M.at (Data n i) ≡ 0 → m.block n i ≡ []
   no_block n i none = (reading d.content m M (segment_in v.chunk) laid).no_block n i none
@@ -164,7 +163,7 @@ module _ (d : DeviceState) (v : LogMemory) (k : CheckpointValue) (m0 m : LogMap)
   pub block_is : (n i a : ℕ) (out : List ℕ) → M.at (Data n i) ≡ a → 0 < a → out ≡ present d.content dirty (Data n i) a → m.block n i ≡ out
   block_is n i a out at some e =
       sym ((reading d.content m M (segment_in v.chunk) laid).block n i (omega (arith, at, some)))
-      ∙ sym (e ∙ is_there (Data n i) a (n, refl) at some)
+      ∙ sym (e ∙ is_there (Data n i) (n, refl) at some)
 
 -- ---- answers
 module _ (d d' : DeviceState) (v : LogMemory) (n a : ℕ) (x : Entry) (at : a ≡ address_in v.map n) (named : x ≡ Inode n)
@@ -172,8 +171,8 @@ module _ (d d' : DeviceState) (v : LogMemory) (n a : ℕ) (x : Entry) (at : a �
   there : 0 < address_in v.map n
   there = omega (arith, at, some)
 
-  pub inode_answered : (out : List ℕ) → (d'.keeps_model → out ≡ present d.content (blocks_of v.dirty) x a) → AnswersInode d d' v n out true
-  inode_answered out read k m0 m keeps is = inode_answer d v k m0 m is n out there
+  pub inode_answered : {out : List ℕ} → (d'.keeps_model → out ≡ present d.content (blocks_of v.dirty) x a) → AnswersInode d d' v n out true
+  inode_answered {out} read k m0 m keeps is = inode_answer d v k m0 m is n out there
       (read keeps ∙ ap (λ (y : Entry). present d.content (blocks_of v.dirty) y a) named
       ∙ ap (present d.content (blocks_of v.dirty) (Inode n)) at)
 
@@ -181,7 +180,7 @@ module _ (d d' : DeviceState) (v : LogMemory) (n a : ℕ) (x : Entry) (at : a �
   inode_failed unread k m0 m keeps is = ⊎_elim
       (λ (failed : d.failures < d'.failures). failed)
       (λ (missing : IsMissing d.content (blocks_of v.dirty) x a).
-      absurd (not_missing d v k m0 m is x a (subst IsOfFile (sym named) (n, refl))
+      absurd (not_missing d v k m0 m is x (subst IsOfFile (sym named) (n, refl))
       (ap is.running.memory.at named ∙ inode_at d v k m0 m is n ∙ sym at) (omega (arith, some)) missing))
       (unread keeps)
 
@@ -201,15 +200,15 @@ module _ (a b c : DeviceState) (v : LogMemory) (n i : ℕ) (inode : List ℕ) (o
   inode_read : (k : CheckpointValue) (m0 m : LogMap) → c.keeps_model → (is : IsLoose a v k m0 m) → inode ≡ is.running.memory.bytes (Inode n)
   inode_read k m0 m keeps is = inode_bytes a v k m0 m is n inode some (read (two.carries.kept_before keeps))
 
-  pub address_found : (address : ℕ) → (c.keeps_model → address ≡ data_now b.content (blocks_of v.dirty) n inode i)
+  pub address_found : {address : ℕ} → (c.keeps_model → address ≡ data_now b.content (blocks_of v.dirty) n inode i)
       → AnswersAddress a c v (Data n i) address
-  address_found address found k m0 m keeps is =
+  address_found found k m0 m keeps is =
       sym (found keeps ∙ ap (λ (e : Content). data_now e (blocks_of v.dirty) n inode i) one.untouched.content
-      ∙ data_at a v k m0 m is n i inode some (inode_read k m0 m keeps is) low)
+      ∙ data_at a v k m0 m is n i some (inode_read k m0 m keeps is) low)
 
   pub address_away : (c.keeps_model → IsDataAway b.content (blocks_of v.dirty) n inode i) → FailsFromDevice a c v
   address_away away k m0 m keeps is =
-      absurd (data_not_away a v k m0 m is n i inode some (inode_read k m0 m keeps is) low
+      absurd (data_not_away a v k m0 m is n i some (inode_read k m0 m keeps is) low
       (subst (λ (e : Content). IsDataAway e (blocks_of v.dirty) n inode i) one.untouched.content (away keeps)))
 
 -- a failure after calls that only read
@@ -227,15 +226,15 @@ address_failed a b c v n i inode kind.Unreadable one two some low read away fail
 address_failed a b c v n i inode kind.Failed one two some low read away failed = excused_then a b c v one two (failed refl)
 
 -- a block whose address is known
-pub block_absent : (a b : DeviceState) (v : LogMemory) (n i address : ℕ) → AnswersAddress a b v (Data n i) address → address ≡ 0
+pub block_absent : (a b : DeviceState) (v : LogMemory) (n i : ℕ) {address : ℕ} → AnswersAddress a b v (Data n i) address → address ≡ 0
     → AnswersBlock a b v n i [] false
-block_absent a b v n i address at none k m0 m keeps is = no_block a v k m0 m is n i (at k m0 m keeps is ∙ none)
+block_absent a b v n i at none k m0 m keeps is = no_block a v k m0 m is n i (at k m0 m keeps is ∙ none)
 
-module _ (a b c : DeviceState) (v : LogMemory) (n i address : ℕ) (x : Entry) (one : Looks a b) (two : Looks b c) (named : x ≡ Data n i)
+module _ {a b c : DeviceState} (v : LogMemory) {n i address : ℕ} (x : Entry) (one : Looks a b) (two : Looks b c) (named : x ≡ Data n i)
     (at : AnswersAddress a b v (Data n i) address) where
-  pub block_answered : (out : List ℕ) → (address ≡ 0 → ⊥) → (c.keeps_model → out ≡ present b.content (blocks_of v.dirty) x address)
+  pub block_answered : {out : List ℕ} → (address ≡ 0 → ⊥) → (c.keeps_model → out ≡ present b.content (blocks_of v.dirty) x address)
       → AnswersBlock a c v n i out true
-  block_answered out some read k m0 m keeps is =
+  block_answered {out} some read k m0 m keeps is =
       block_is a v k m0 m is n i address out (at k m0 m (two.carries.kept_before keeps) is) (omega (arith, some))
       (read keeps ∙ ap (λ (y : Entry). present b.content (blocks_of v.dirty) y address) named
       ∙ ap (λ (e : Content). present e (blocks_of v.dirty) (Data n i) address) one.untouched.content)
@@ -245,7 +244,7 @@ module _ (a b c : DeviceState) (v : LogMemory) (n i address : ℕ) (x : Entry) (
   block_failed some unread k m0 m keeps is = ⊎_elim
       (λ (failed : b.failures < c.failures). excused_then a b c v one two failed k m0 m keeps is)
       (λ (missing : IsMissing b.content (blocks_of v.dirty) x address).
-      absurd (not_missing a v k m0 m is x address (subst IsOfFile (sym named) (n, refl))
+      absurd (not_missing a v k m0 m is x (subst IsOfFile (sym named) (n, refl))
       (ap is.running.memory.at named ∙ at k m0 m (two.carries.kept_before keeps) is) (omega (arith, some))
       (subst (λ (e : Content). IsMissing e (blocks_of v.dirty) x address) one.untouched.content missing)))
       (unread keeps)
@@ -255,14 +254,14 @@ pub header_read : (d d' : DeviceState) (v : LogMemory) (n : ℕ) (out : List ℕ
 header_read d d' v n out true h answer yes_found is k m0 m keeps log = (answer k m0 m keeps log).1 ∙ ap Some is
 header_read d d' v n out false h answer yes_found is k m0 m keeps log = absurd (cc)
 
-pub header_absent : (d : DeviceState) (v : LogMemory) (n : ℕ) → (n ≡ 0) ⊎ (address_in v.map n ≡ 0) → AnswersHeader d d v n None
-header_absent d v n none k m0 m keeps is = ⊎_elim
+pub header_absent : (d : DeviceState) (v : LogMemory) {n : ℕ} → (n ≡ 0) ⊎ (address_in v.map n ≡ 0) → AnswersHeader d d v n None
+header_absent d v {n} none k m0 m keeps is = ⊎_elim
     (λ (first : n ≡ 0). ap m.header first ∙ nobody d v k m0 m is)
     (λ (absent : address_in v.map n ≡ 0). no_inode d v k m0 m is n absent)
     none
 
 -- ---- memory and device hold one log map
-module _ (d : DeviceState) (v : LogMemory) (k k' : CheckpointValue) (m0 m m0' m' : LogMap) (is : IsLoose d v k m0 m)
+module _ {d : DeviceState} (v : LogMemory) (k k' : CheckpointValue) (m0 m m0' m' : LogMap) (is : IsLoose d v k m0 m)
     (is' : IsLoose d v k' m0' m') (version : m.version ≡ m'.version) where
   same_header : (n : ℕ) → m.header n ≡ m'.header n
   same_header n = ⊎_elim
@@ -282,8 +281,8 @@ module _ (d : DeviceState) (v : LogMemory) (k k' : CheckpointValue) (m0 m m0' m'
       ∙ sym (data_none d v k' m0' m' is' n i (inode_at d v k' m0' m' is' n ∙ none)))
       (λ (some : address_in v.map n ≡ 0 → ⊥).
       let out = present d.content (blocks_of v.dirty) (Inode n) (address_in v.map n) in
-      sym (data_at d v k m0 m is n i out (omega (arith, some)) (inode_bytes d v k m0 m is n out (omega (arith, some)) refl) low)
-      ∙ data_at d v k' m0' m' is' n i out (omega (arith, some)) (inode_bytes d v k' m0' m' is' n out (omega (arith, some)) refl) low)
+      sym (data_at d v k m0 m is n i (omega (arith, some)) (inode_bytes d v k m0 m is n out (omega (arith, some)) refl) low)
+      ∙ data_at d v k' m0' m' is' n i (omega (arith, some)) (inode_bytes d v k' m0' m' is' n out (omega (arith, some)) refl) low)
       (cases_eq (address_in v.map n) 0))
       (swap (cases_lt i 16624))
     where

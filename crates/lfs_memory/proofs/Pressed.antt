@@ -32,9 +32,9 @@ pub record MayPass (d : DeviceState) (v : LogMemory) (k : CheckpointValue) (m : 
   pub need : data_in m + 7 * meta + 720 ≤ 47 * length v.usage.segments
 
 -- The table of usage is pressed then: `victims` finds a list.
-pub pressed : (d : DeviceState) (v : LogMemory) (k : CheckpointValue) (m : LogMap) (meta : ℕ) → IsMemory v → IsMap v.map
+pub pressed : (d : DeviceState) (v : LogMemory) (k : CheckpointValue) (m : LogMap) {meta : ℕ} → IsMemory v → IsMap v.map
     → MayPass d v k m meta → IsPressed v.usage meta
-pressed d v k m meta memory maps may = record {
+pressed d v k m memory maps may = record {
   count = memory.count;
   few = may.few;
   blocks =

@@ -45,11 +45,11 @@ is_without m n = record {
 }
 
 module _ (d : DeviceState) (v v' : LogMemory) (k : CheckpointValue) (m0 m : LogMap) (is : IsLoose d v k m0 m) (n : ℕ) (low : n < 4096)
-    (lives : Bool) (counts : List ℕ) (shown : lives ≡ not (is_hidden_in v.map n))
+    {lives : Bool} (counts : List ℕ) (shown : lives ≡ not (is_hidden_in v.map n))
     (counted : (s : ℕ) → get_or counts s 0 ≡ count_of (is_of n) is.running.memory s) where
   -- an honest device has so many blocks there
   pub all_covered : AreUncovered v.usage lives counts → ⊥
-  all_covered = counts_covered d v k m0 m is n low lives shown (is_of n) (is_of_true n) counts counted
+  all_covered = counts_covered is n low shown (is_of_true n) counts counted
 
   module _ (go : DropsFile v v' n lives counts) (mapped : is_hidden_in v.map n ≡ false → block_in v.map (n / 128) ≡ 1) where
     none_at : (x : Entry) → parent x ≡ x → is_of n x ≡ true → (tables_of v').at x ≡ 0
@@ -75,8 +75,8 @@ module _ (d : DeviceState) (v v' : LogMemory) (k : CheckpointValue) (m0 m : LogM
       none = none_at;
       others = others_at;
       used = go.usage.used;
-      named = named_counts d v k m0 m is n low lives shown v'.usage counts go.usage;
-      nameless = nameless_counts d v k m0 m is n low lives shown v'.usage counts go.usage;
+      named = named_counts is n low shown counts go.usage;
+      nameless = nameless_counts is n low shown counts go.usage;
       age = go.usage.age;
       kept = go.usage.kept;
       changed = go.usage.changed;
@@ -109,17 +109,17 @@ covered_all usage lives counts i all before s = ⊎_elim
     (cases_lt s i)
 
 -- ---- the whole call: the inode map's block first, then the counts, and then what leaves
-module _ (a b : DeviceState) (v mid : LogMemory) (n : ℕ) (lives : Bool) (counts : List ℕ) (lawful : IsLawful a)
+module _ (a b : DeviceState) {v mid : LogMemory} (n : ℕ) {lives : Bool} (counts : List ℕ) (lawful : IsLawful a)
     (first : Prepares a a v mid 0) (looks : Looks a b) (low : n < 4096) (shown : lives ≡ not (is_hidden_in mid.map n))
     (counted : CountsFile a b mid n counts) where
   pub uncovered_excused : AreUncovered mid.usage lives counts → FailsFromDevice a b v
   uncovered_excused over k m0 m keeps is =
       let log = first.log k m0 m (looks.carries.kept_before keeps) is in
-      absurd (all_covered a mid mid k m0 m log n low lives counts shown (counted k m0 m keeps log) over)
+      absurd (all_covered a mid mid k m0 m log n low counts shown (counted k m0 m keeps log) over)
 
-  pub file_removed : (v' : LogMemory) → DropsFile mid v' n lives counts → (is_hidden_in mid.map n ≡ false → block_in mid.map (n / 128) ≡ 1)
+  pub file_removed : {v' : LogMemory} → DropsFile mid v' n lives counts → (is_hidden_in mid.map n ≡ false → block_in mid.map (n / 128) ≡ 1)
       → RemovesFile a b v v' n
-  file_removed v' go mapped = record {
+  file_removed {v'} go mapped = record {
     looks = looks;
     memory = kept_memory mid v' first.memory go.usage.size go.chunk go.usage.used go.usage.kept go.usage.last go.usage.address
         (never_fresh mid.usage v'.usage go.usage.stale) go.capacity;
@@ -137,6 +137,5 @@ module _ (a b : DeviceState) (v mid : LogMemory) (n : ℕ) (lives : Bool) (count
         (λ (ne : l ≡ n → ⊥). go.address.others l ne ∙ first.absent l none) (cases_eq l n);
     log = λ k m0 m keeps is.
         let log = first.log k m0 m (looks.carries.kept_before keeps) is in
-        still_log a b v' k m0 (without_file n m) looks
-        (dropped_log a mid v' k m0 m log n low lives counts shown (counted k m0 m keeps log) go mapped);
+        still_log looks (dropped_log a mid v' k m0 m log n low counts shown (counted k m0 m keeps log) go mapped);
   }

@@ -39,9 +39,9 @@ no_clean segments none = none_up (is_clean_in segments) (length segments)
 pub has_clean : (v : LogMemory) → 0 < room_of v → length v.chunk.names ≡ 0 → 0 < clean_in v.usage.segments
 has_clean v some none = let r = room_none v.chunk none in omega (arith, some, r)
 
-pub takes_place : (v v' : LogMemory) (name : BlockNameValue) (lives : Bool) (age place : ℕ) → IsMemory v → Places v v' name lives age place
+pub takes_place : {v v' : LogMemory} {name : BlockNameValue} {lives : Bool} {age place : ℕ} → IsMemory v → Places v v' name lives age place
     → room_of v ≤ suc (room_of v')
-takes_place v v' name lives age place memory places =
+takes_place {v} {v'} {name} {age} memory places =
     let long : length v'.chunk.names ≡ suc (length v.chunk.names) = ap length places.names ∙ length-append v.chunk.names (name ∷ [])
     ∙ omega arith in
     let after = room_some v'.chunk (omega (arith, long)) in

@@ -71,8 +71,9 @@ version_lost d v memory = record {
   };
 }
 
-pub blocks_lost : (d d' : DeviceState) (v v' : LogMemory) (c : Cut) → Cuts d d' v v' c.number c.first → Loses d d' v v' (loss.Blocks c)
-blocks_lost d d' v v' c go = record {
+pub blocks_lost : (d : DeviceState) {d' : DeviceState} {v v' : LogMemory} (c : Cut) → Cuts d d' v v' c.number c.first
+    → Loses d d' v v' (loss.Blocks c)
+blocks_lost d c go = record {
   looks = go.looks;
   memory = go.memory;
   segments = go.segments;
@@ -89,9 +90,9 @@ blocks_lost d d' v v' c go = record {
 in_range : (n : ℕ) → n ≤ 4095 → n < 4096
 in_range n few = omega (arith, few)
 
-pub link_lost : (d d' : DeviceState) (v v' : LogMemory) (l : LastLink) → Hides d d' v v' l.number l.kind l.form l.size
+pub link_lost : (d : DeviceState) {d' : DeviceState} {v v' : LogMemory} (l : LastLink) → Hides d d' v v' l.number l.kind l.form l.size
     → Loses d d' v v' (loss.Link l)
-link_lost d d' v v' l go = record {
+link_lost d l go = record {
   looks = go.looks;
   memory = go.memory;
   segments = go.segments;
@@ -105,8 +106,9 @@ link_lost d d' v v' l go = record {
   log = λ k m0 m keeps is fits. go.log k m0 m keeps is fits.0 (sym (is.hidden l.number (in_range l.number l.few)) ∙ fits.2);
 }
 
-pub file_lost : (d d' : DeviceState) (v v' : LogMemory) (r : Removal) → RemovesFile d d' v v' r.number → Loses d d' v v' (loss.File r)
-file_lost d d' v v' r go = record {
+pub file_lost : (d : DeviceState) {d' : DeviceState} {v v' : LogMemory} (r : Removal) → RemovesFile d d' v v' r.number
+    → Loses d d' v v' (loss.File r)
+file_lost d r go = record {
   looks = go.looks;
   memory = go.memory;
   segments = go.segments;
@@ -129,8 +131,8 @@ loss_excused d d' v x failed k m0 m keeps is fits = failed k m0 m keeps is
 
 -- ---- what is ready stays so, apart from what is lost
 module _ (d d' : DeviceState) (v v' : LogMemory) (x : Loss) (go : Loses d d' v v' x) where
-  header_ready : (n links : ℕ) → is_lost x (Inode n) ≡ false → IsHeaderReady v n links → IsHeaderReady v' n links
-  header_ready n links apart was = record {
+  header_ready : {n links : ℕ} → is_lost x (Inode n) ≡ false → IsHeaderReady v n links → IsHeaderReady v' n links
+  header_ready {n} apart was = record {
     inside = ⊎_elim (λ (has : IsInMemory v (Inode n)). inl (go.stay (Inode n) apart has))
         (λ (none : address_in v.map n ≡ 0). inr (go.absent n none)) was.inside;
     mapped = λ some. go.mapped _ (was.mapped some);
@@ -138,7 +140,7 @@ module _ (d d' : DeviceState) (v v' : LogMemory) (x : Loss) (go : Loses d d' v v
 
   pub headers_ready : (edits : List HeaderEdit) → AreHeadersApart x edits → AreHeadersReady v edits → AreHeadersReady v' edits
   headers_ready [] apart was = was
-  headers_ready (e ∷ edits) apart was = (header_ready e.number e.header.links apart.0 was.0, headers_ready edits apart.1 was.1)
+  headers_ready (e ∷ edits) apart was = (header_ready apart.0 was.0, headers_ready edits apart.1 was.1)
 
   block_ready : (n i : ℕ) → is_lost x (parent (Data n i)) ≡ false → HasParent v n i → HasParent v' n i
   block_ready n i apart was = ⊎_elim
@@ -151,9 +153,9 @@ module _ (d d' : DeviceState) (v v' : LogMemory) (x : Loss) (go : Loses d d' v v
   blocks_ready (e ∷ edits) apart was = (block_ready e.number e.index apart.0 was.0, blocks_ready edits apart.1 was.1)
 
 -- ---- a batch that is refused before anything changed
-pub refuses_prepared : (a b : DeviceState) (v v' : LogMemory) (n : ℕ) (x : Loss) (hs : List HeaderEdit) (bs : List BlockEdit)
+pub refuses_prepared : {a b : DeviceState} {v v' : LogMemory} {n : ℕ} (x : Loss) (hs : List HeaderEdit) (bs : List BlockEdit)
     → n ≤ room_for_edits hs bs → Prepares a b v v' n → RefusesBatch a b v v' x hs bs
-refuses_prepared a b v v' n x hs bs le go = record {
+refuses_prepared x hs bs le go = record {
   stands = record {
     looks = go.looks;
     memory = go.memory;
@@ -173,10 +175,10 @@ device_only (Err fault.Full) P never go = absurd (never refl)
 device_only (Err fault.Device) P never go = go refl
 
 -- ---- its headers and blocks are made ready
-module _ (a b : DeviceState) (v v1 : LogMemory) (x : Loss) (hs : List HeaderEdit) (bs : List BlockEdit) (lawful : IsLawful a)
+module _ {a b : DeviceState} {v v1 : LogMemory} (x : Loss) (hs : List HeaderEdit) (bs : List BlockEdit) (lawful : IsLawful a)
     (first : Prepares a b v v1 (length hs + ways bs)) where
   pub prepared_refuses : RefusesBatch a b v v1 x hs bs
-  prepared_refuses = refuses_prepared a b v v1 (length hs + ways bs) x hs bs (omega arith) first
+  prepared_refuses = refuses_prepared x hs bs (omega arith) first
 
   pub prepared_excused : (r : Result (Unit {0}) LiftFault) → length v.dirty.blocks + room_for_edits hs bs ≤ v.dirty.capacity.limit
       → (IsErrOf r fault.Full → LacksRoom v (length hs + ways bs))
@@ -186,11 +188,10 @@ module _ (a b : DeviceState) (v v1 : LogMemory) (x : Loss) (hs : List HeaderEdit
       (λ is. λ k m0 m keeps log fits. failed is k m0 m keeps log fits.within)
 
   -- ---- what a file loses is lost
-  module _ (e : DeviceState) (v2 : LogMemory) where
+  module _ {e : DeviceState} (v2 : LogMemory) where
     pub loss_refuses : Prepares b e v1 v2 3 → RefusesBatch a e v v2 x hs bs
     loss_refuses second =
-        refuses_prepared a e v v2 (length hs + ways bs + 3) x hs bs (omega arith)
-        (prepares_then a b e v v1 v2 (length hs + ways bs) 3 lawful first second)
+        refuses_prepared x hs bs (omega arith) (prepares_then lawful first second)
 
     loss_excused_then : Looks b e → IsLossExcused b e v1 x → IsBatchExcused a e v x hs bs
     loss_excused_then looks failed k m0 m keeps is fits =
@@ -213,16 +214,16 @@ module _ (a b : DeviceState) (v v1 : LogMemory) (x : Loss) (hs : List HeaderEdit
           → IsLoose e v2 k m0 (lost x m)
       log_lost k m0 m keeps is fits = go.log k m0 m keeps (first.log k m0 m (go.looks.carries.kept_before keeps) is) fits.fits_loss
 
-      headers_now : (m : LogMap) → FitEdits m x hs bs → AreHeadersReady v2 hs
-      headers_now m fits = headers_ready b e v1 v2 x go hs fits.headers_apart ready_headers
+      headers_now : {m : LogMap} → FitEdits m x hs bs → AreHeadersReady v2 hs
+      headers_now fits = headers_ready b e v1 v2 x go hs fits.headers_apart ready_headers
 
       blocks_now : (m : LogMap) → FitEdits m x hs bs → AreBlocksReady v2 bs
       blocks_now m fits = blocks_ready b e v1 v2 x go bs fits.blocks_apart ready_blocks
 
-      module _ (v3 : LogMemory) (stays : Stays (length hs + length bs) v2 v3) where
+      module _ {v3 : LogMemory} (stays : Stays (length hs + length bs) v2 v3) where
         stands : StandsWithBatch a e v v3 hs bs
         stands = record {
-          looks = looks_then a b e lawful first.looks go.looks;
+          looks = looks_then lawful first.looks go.looks;
           memory = stays.memory go.memory;
           segments = stays.segments ∙ go.segments ∙ first.segments;
           clean = stays.clean ∙ go.clean ∙ first.clean;
@@ -235,13 +236,13 @@ module _ (a b : DeviceState) (v v1 : LogMemory) (x : Loss) (hs : List HeaderEdit
         stages done = record {
           stands = stands;
           log = λ k m0 m keeps is fits.
-              batch_applied e k m0 (lost x m) hs bs v2 (log_lost k m0 m keeps is fits) (headers_now m fits) fits.fit_headers v3 done;
+              batch_applied e k m0 hs bs v2 (log_lost k m0 m keeps is fits) (headers_now fits) fits.fit_headers v3 done;
         }
 
         unready_never : (k : CheckpointValue) (m0 m : LogMap) → e.keeps_model → IsLoose a v k m0 m → FitEdits m x hs bs
             → FailsToApply v2 hs bs → ⊥
         unready_never k m0 m keeps is fits bad =
-            batch_never_fails e k m0 (lost x m) hs bs v2 (log_lost k m0 m keeps is fits) (headers_now m fits) fits.fit_headers
+            batch_never_fails e k m0 hs bs v2 (log_lost k m0 m keeps is fits) (headers_now fits) fits.fit_headers
             (blocks_now m fits) fits.fit_blocks bad
 
         pub unready_refuses : FailsToApply v2 hs bs → RefusesBatch a e v v3 x hs bs

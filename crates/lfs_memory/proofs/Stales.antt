@@ -4,8 +4,8 @@ use Rattle.std.proofs.lemmas.Bool.{cases_eq}
 use Rattle.lfs_segments.specs.Table.{UsageTable, stale_of}
 use Rattle.lfs_segments.specs.Steps.{Stales}
 
-pub stays_stale : (old new : UsageTable) (j i : ℕ) → Stales old new j → stale_of old i ≡ true → stale_of new i ≡ true
-stays_stale old new j i go on = ⊎_elim
+pub stays_stale : {old new : UsageTable} {j : ℕ} (i : ℕ) → Stales old new j → stale_of old i ≡ true → stale_of new i ≡ true
+stays_stale {new} {j} i go on = ⊎_elim
     (λ (here : i ≡ j). ap (stale_of new) here ∙ go.stale.own)
     (λ (away : i ≡ j → ⊥). go.stale.others i away ∙ on)
     (cases_eq i j)

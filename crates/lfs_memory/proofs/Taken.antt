@@ -12,8 +12,8 @@ use Rattle.lfs_memory.specs.declared.memory.LogMemory.{LogMemory}
 use Rattle.lfs_memory.specs.Memory.{IsLoose}
 use Rattle.lfs_memory.specs.Removing.{counted_in, AreUncovered, counts_in, TakesCounts}
 
-module _ (d : DeviceState) (v : LogMemory) (k : CheckpointValue) (m0 m : LogMap) (is : IsLoose d v k m0 m) (n : ℕ) (low : n < 4096)
-    (lives : Bool) (shown : lives ≡ not (is_hidden_in v.map n)) where
+module _ {d : DeviceState} {v : LogMemory} {k : CheckpointValue} {m0 m : LogMap} (is : IsLoose d v k m0 m) (n : ℕ) (low : n < 4096)
+    {lives : Bool} (shown : lives ≡ not (is_hidden_in v.map n)) where
   nameless_is : is_nameless m n ≡ not lives
   nameless_is = is.hidden n low ∙ twice (is_hidden_in v.map n) ∙ ap not (sym shown)
     where
@@ -22,7 +22,7 @@ module _ (d : DeviceState) (v : LogMemory) (k : CheckpointValue) (m0 m : LogMap)
       twice false = refl
 
   -- ---- an honest device has so many blocks there
-  module _ (gone : Entry → Bool) (of_file : (x : Entry) → gone x ≡ true → file_of x ≡ Some n) (counts : List ℕ)
+  module _ {gone : Entry → Bool} (of_file : (x : Entry) → gone x ≡ true → file_of x ≡ Some n) (counts : List ℕ)
       (counted : (s : ℕ) → get_or counts s 0 ≡ count_of gone is.running.memory s) where
     pub counts_covered : AreUncovered v.usage lives counts → ⊥
     counts_covered over = by_lives lives refl
@@ -54,7 +54,7 @@ module _ (d : DeviceState) (v : LogMemory) (k : CheckpointValue) (m0 m : LogMap)
             omega (arith, less, all, here, past, what)
 
   -- ---- the counts after they are taken
-  module _ (usage : UsageTable) (counts : List ℕ) (go : TakesCounts v.usage usage lives (counts_in counts)) where
+  module _ {usage : UsageTable} (counts : List ℕ) (go : TakesCounts v.usage usage lives (counts_in counts)) where
     when_shown : (s : ℕ) → lives ≡ true → (live_of usage s + get_or counts s 0 ≡ live_of v.usage s) × (held_of usage s ≡ held_of v.usage s)
     when_shown s on =
         let l = go.live s in

@@ -59,22 +59,22 @@ module _ (d : DeviceState) (v v' : LogMemory) (k : CheckpointValue) (m0 m : LogM
   links_lost =
       let h = header_with kind form 0 size in
       let m' = with_header m n (Some h) in
-      let holds = inode_held d v k m0 m is n go.old go.there in
-      let says : header (headed kind form n 0 size go.old) ≡ h = header_headed n go.old holds kind form 0 size fits in
+      let holds = inode_held is n go.there in
+      let says : header (headed kind form n 0 size go.old) ≡ h = header_headed n holds fits in
       record {
-        running = as_memory d (blocks_of v'.dirty) k m0 m' v v' (tables_of v') go.chunk refl
+        running = as_memory v v' go.chunk refl
             (link_losing d (blocks_of v.dirty) (blocks_of v'.dirty) (tables_of v) (tables_of v') k m0 m m' (segment_in v.chunk)
             (chunk_in v.chunk) n go.old (headed kind form n 0 size go.old) (counts_in counts)
-            is.running go.there (holds_headed n go.old holds kind form 0 size fits)
+            is.running go.there (holds_headed n holds fits)
             (λ w high low. headed_words kind form n 0 size go.old w (omega (arith, high)))
-            (subst (λ (g : Header). IsWithHeader m n (Some g) m') (sym says) (is_with_header m n (Some h)))
+            (subst (λ (g : Header). IsWithHeader m n (Some g) m') (sym says) (is_with_header m n {h = Some h}))
             (is.hidden n low ∙ shown) (nameless_with m n h) counted go.changes held_from);
         hidden = hidden_with v.map v'.map m n h is.hidden (sym go.hidden.own) go.hidden.others;
         segments = go.usage.size ∙ is.segments;
       }
 
 -- ---- the whole call: the inode comes into memory, its blocks are counted, and then what the tables and the inode say changes
-module _ (a b c : DeviceState) (v mid : LogMemory) (n : ℕ) (counts : List ℕ) (lawful : IsLawful a) (first : Prepares a b v mid 1)
+module _ (a b c : DeviceState) {v mid : LogMemory} (n : ℕ) (counts : List ℕ) (lawful : IsLawful a) (first : Prepares a b v mid 1)
     (looks : Looks b c) (low : n < 4096) (shown : is_hidden_in v.map n ≡ false)
     (counted : CountsFile b c mid n counts) where
   shown_then : is_hidden_in mid.map n ≡ false
@@ -83,13 +83,12 @@ module _ (a b c : DeviceState) (v mid : LogMemory) (n : ℕ) (counts : List ℕ)
   pub blocks_covered : AreUncovered mid.usage true counts → FailsFromDevice a c v
   blocks_covered over k m0 m keeps is =
       let log = first.log k m0 m (looks.carries.kept_before keeps) is in
-      absurd (counts_covered b mid k m0 m log n low true (sym (ap not shown_then)) (is_of n) (is_of_true n) counts
-      (counted k m0 m keeps log) over)
+      absurd (counts_covered log n low (sym (ap not shown_then)) (is_of_true n) counts (counted k m0 m keeps log) over)
 
-  pub file_hidden : (v' : LogMemory) (kind : Kind) (form size : ℕ) → LosesLinks mid v' n kind form size counts
+  pub file_hidden : {v' : LogMemory} {kind : Kind} {form size : ℕ} → LosesLinks mid v' n kind form size counts
       → Hides a c v v' n kind form size
-  file_hidden v' kind form size go = record {
-    looks = looks_then a b c lawful first.looks looks;
+  file_hidden {v'} {kind} {form} {size} go = record {
+    looks = looks_then lawful first.looks looks;
     memory = kept_memory mid v' first.memory go.usage.size go.chunk go.usage.used go.usage.kept go.usage.last go.usage.address
         (never_fresh mid.usage v'.usage go.usage.stale) go.capacity;
     segments = go.usage.size ∙ first.segments;
@@ -103,8 +102,7 @@ module _ (a b c : DeviceState) (v mid : LogMemory) (n : ℕ) (counts : List ℕ)
     absent = λ l none. ap (λ (a : List ℕ). get_or a l 0) go.addresses ∙ first.absent l none;
     log = λ k m0 m keeps is fits _.
         let log = first.log k m0 m (looks.carries.kept_before keeps) is in
-        still_log b c v' k m0 (with_header m n (Some (header_with kind form 0 size))) looks
-        (links_lost b mid v' k m0 m log n low kind form size fits counts shown_then (counted k m0 m keeps log) go);
+        still_log looks (links_lost b mid v' k m0 m log n low kind form size fits counts shown_then (counted k m0 m keeps log) go);
   }
     where
       stays : (x : Entry) → IsInMemory mid x → IsInMemory v' x

@@ -115,7 +115,7 @@ module _ (N : ℕ) (s : State) (n : ℕ) (old new : Node) (sound : Sound N s) (i
 
   each_kept : (P : Node → Type 0) → ((q : ℕ) (x : Node) → node u q ≡ Some x → P x) → P new → (q : ℕ) (x : Node) → node u' q ≡ Some x → P x
   each_kept P was now q x h = same_or_not q n
-      (λ e. subst P (Some-injective _ _ (sym (find_here u n new) ∙ subst (λ y. node u' y ≡ Some x) e h)) now)
+      (λ e. subst P (Some-injective (sym (find_here u n new) ∙ subst (λ y. node u' y ≡ Some x) e h)) now)
       (λ b. was q x (sym (find_other u n new q b) ∙ h))
 
   there : (q : ℕ) → node u' q ≢ None → node u q ≢ None

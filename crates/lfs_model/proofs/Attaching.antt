@@ -49,7 +49,7 @@ module _ (N : ℕ) (s : State) (d n form : ℕ) (m : Names) (nm : List ℕ) (was
 
   each_kept : (P : Node → Type 0) → ((q : ℕ) (x : Node) → node t q ≡ Some x → P x) → P grown → (q : ℕ) (x : Node) → node t' q ≡ Some x → P x
   each_kept P old dir q x h = same_or_not q d
-      (λ e. subst P (Some-injective _ _ (sym dir_now ∙ subst (λ y. node t' y ≡ Some x) e h)) dir)
+      (λ e. subst P (Some-injective (sym dir_now ∙ subst (λ y. node t' y ≡ Some x) e h)) dir)
       (λ b. old q x (sym (kept q b) ∙ h))
 
   there : (q : ℕ) → node t' q ≢ None → node t q ≢ None

@@ -58,9 +58,9 @@ pub length-checkpoint : (c : CheckpointValue) → FitsCheckpoint c → length (c
 unfolding fields checkpoint_sector checkpoint_sector_of
 length-checkpoint c fits = length-fields (fields c) (sized c fits)
 
-pub reads_from : (s : List ℕ) (c : CheckpointValue) → FitsCheckpoint c → s ≡ checkpoint_sector c → ReadsAs s c
+pub reads_from : {s : List ℕ} (c : CheckpointValue) → FitsCheckpoint c → s ≡ checkpoint_sector c → ReadsAs s c
 unfolding fields checkpoint_sector checkpoint_sector_of
-reads_from s c fits e =
+reads_from {s} c fits e =
     let laid : Laid s 0 (fields c) = laid_from s 0 (fields c) (sized c fits) e in record {
       text = laid.0;
       number = laid.1.0;
@@ -87,7 +87,7 @@ version_small v is = elim is as (λ _. v < 2 ^ 32) [ inl one ↦ omega arith | i
 pub checkpoint_back : (c : CheckpointValue) → FitsCheckpoint c → checkpoint_of (checkpoint_sector c) ≡ c
 checkpoint_back c p =
     let s = checkpoint_sector c in
-    let r = reads_from s c p refl in
+    let r = reads_from {s = s} c p refl in
     let long : length s ≡ 512 = length-checkpoint c p in
     let most : c.segments ≤ 1024 = p.segments.most in
     let number : read64 8 s ≡ c.number = read64_is 8 s c.number p.number_fits r.number in

@@ -30,9 +30,9 @@ pub count_past : (e : Content) (m : LogMap) (M : Memory) (o : ℕ) → IsLaid e 
 count_past e m M o laid is s le = no_row_live (memory_view is M) s (ap Some (laid.past s le))
 
 -- only what has an address is counted
-pub counts_agree : (e : Content) (m : LogMap) (M : Memory) (o : ℕ) → IsLaid e m M o → (p q : Entry → Bool)
+pub counts_agree : (e : Content) (m : LogMap) (M : Memory) {o : ℕ} → IsLaid e m M o → {p q : Entry → Bool}
     → ((x : Entry) → 2 ≤ M.at x → p x ≡ q x) → (s : ℕ) → count_of p M s ≡ count_of q M s
-counts_agree e m M o laid p q same = same_counts q p M M laid.named laid.named (λ x. ⊎_elim
+counts_agree e m M laid {p} {q} same = same_counts q p M M laid.named laid.named (λ x. ⊎_elim
     (λ (low : M.at x < 2). nothing (p x) (M.at x) (omega arith) ∙ sym (nothing (q x) (M.at x) (omega arith)))
     (λ (above : 2 ≤ M.at x). ap (λ (b : Bool). settled_at (cond {A = ℕ} b (M.at x) 0)) (same x above))
     (cases_lt (M.at x) 2))

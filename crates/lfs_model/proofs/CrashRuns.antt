@@ -110,13 +110,13 @@ leaves_first d p one c left = (p.state, record { n = 0; point = p; at = refl; no
 
 -- A call whose every moment leaves what was left before it, the state before it or the state after it, and which leaves the state
 -- after it alone where it is acknowledged, keeps that so.
-pub leaves_more : (old new : DeviceState) (points : List Point) (calls : List Call) (answers : List Answer) (last next : Point)
+pub leaves_more : (old new : DeviceState) {points : List Point} {calls : List Call} (answers : List Answer) {last : Point} (next : Point)
     (call : Call) (a : Answer)
     → IsRunSoFar points calls answers last → IsLawful new → LeavesPrefix old points calls answers
     → LeavesStates old new (drop_nameless last.state ∷ drop_nameless next.state ∷ [])
     → (acknowledges call a ≡ true → LeavesOne new (drop_nameless next.state))
     → LeavesPrefix new (points ++ next ∷ []) (calls ++ call ∷ []) (answers ++ a ∷ [])
-leaves_more old new points calls answers last next call a run lawful pending leaves acknowledged c left =
+leaves_more old new {points} {calls} answers {last} next call a run lawful pending leaves acknowledged c left =
     elim (acknowledges call a)
     as (λ b. acknowledges call a ≡ b → StandsForPrefix c (points ++ next ∷ []) (calls ++ call ∷ []) (answers ++ a ∷ [])) [
       | true ↦ λ is. (next.state, pending_after points calls answers last next call a run, acknowledged is c left)

@@ -116,11 +116,11 @@ module _ (gone : Entry → Bool) (n : ℕ) where
     header = λ k h. let bad : Double n ≡ Inode k = h in absurd (cc);
   }
 
-  pub inode_cleared : (old new : List ℕ) → length new ≡ 512 → HoldsInode n new → header new ≡ header old
+  pub inode_cleared : (old : List ℕ) {new : List ℕ} → length new ≡ 512 → HoldsInode n new → header new ≡ header old
       → ((i : ℕ) → i < 112 → word new (8 + i) ≡ cond (gone (Data n i)) 0 (word old (8 + i)))
       → word new 120 ≡ cond (gone (Leaf n 0)) 0 (word old 120) → word new 121 ≡ cond (gone (Double n)) 0 (word old 121)
       → IsCleared gone (Inode n) old new
-  inode_cleared old new long formed same direct single double = record {
+  inode_cleared old {new} long formed same direct single double = record {
     long = long;
     same = λ k l h. let bad : Inode n ≡ Data k l = h in absurd (cc);
     pointers = λ c up ne low. by_child c up ne;

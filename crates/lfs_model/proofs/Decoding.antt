@@ -305,9 +305,10 @@ slot_test form v p = and_from _ _ (within_test v.number 4095 p.number) (name_tes
 slot_from : (form : ℕ) (v : SlotValue) → may_be_slot form v ≡ true → FitsSlot form v
 slot_from form v e = let a = and_parts _ _ e in record { number = within_from _ 4095 a.0; name = name_from (name_len form) v.name a.1 }
 
-pub slot_some : (form : ℕ) (b : List ℕ) (v : SlotValue) → FitsSlot form v → b ≡ slot_bytes form v → slot_in form b ≡ Some v
+pub slot_some : (form : ℕ) (b : List ℕ) {v : SlotValue} → FitsSlot form v → b ≡ slot_bytes form v → slot_in form b ≡ Some v
 unfolding slot_in
-slot_some form b v p e = value_some slot_of (may_be_slot form) (slot_bytes form) b v (ap (λ (x : List ℕ). slot_of x) e ∙ slot_back form v p)
+slot_some form b {v} p e = value_some slot_of (may_be_slot form) (slot_bytes form) b v
+    (ap (λ (x : List ℕ). slot_of x) e ∙ slot_back form v p)
     (slot_test form v p) e
 
 pub slot_found : (form : ℕ) (b : List ℕ) (v : SlotValue) → slot_in form b ≡ Some v → FitsSlot form v × (b ≡ slot_bytes form v)
@@ -320,7 +321,7 @@ pub slot_is : (form : ℕ) (b : List ℕ) (r : Option SlotValue)
     → IfSome r (λ v. FitsSlot form v × (b ≡ slot_bytes form v)) → IfNone r ((v : SlotValue) → FitsSlot form v → ¬ (b ≡ slot_bytes form v))
     → r ≡ slot_in form b
 unfolding slot_in
-slot_is form b (Some v) found none = sym (slot_some form b v found.0 found.1)
+slot_is form b (Some v) found none = sym (slot_some form b found.0 found.1)
 slot_is form b None found none =
     value_is slot_of (may_be_slot form) (slot_bytes form) b None tt (λ fits e. none (slot_of b) (slot_from form (slot_of b) fits) e)
 

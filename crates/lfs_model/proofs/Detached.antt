@@ -182,7 +182,7 @@ module _ (N : ℕ) (s : State) (sound : Sound N s) (n form : ℕ) (fresh : node 
   each_kept : (P : Node → Type 0) → ((q : ℕ) (x : Node) → node s.tree q ≡ Some x → P x) → P made → (q : ℕ) (x : Node) → node t1 q ≡ Some x
       → P x
   each_kept P old new q x h = same_or_not q n
-      (λ e. subst P (Some-injective _ _ (sym new_is ∙ subst (λ y. node t1 y ≡ Some x) e h)) new)
+      (λ e. subst P (Some-injective (sym new_is ∙ subst (λ y. node t1 y ≡ Some x) e h)) new)
       (λ b. old q x (sym (kept q b) ∙ h))
 
   same_names : (q : ℕ) → names t1 q ≡ names s.tree q

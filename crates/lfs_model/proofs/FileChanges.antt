@@ -84,7 +84,7 @@ module _ (e : Content) (m m' : LogMap) (M : Memory) (o : ℕ) (laid : IsLaid e m
       children = λ y ne here lt. let a = t.at in omega arith;
       low = λ k q h lt. let bad : Inode n ≡ Leaf k q = h in absurd (cc);
       some = λ h le. absurd h;
-      long = λ lt. long_inode n (M'.bytes (Inode n)) formed;
+      long = λ lt. long_inode n formed;
       spells = λ lt. spells;
       mapped = mapped_step m m' M M' (Inode n) (n, refl) t.others (λ y ne away. kept y ne) (λ k ne. map.others k (λ h. ne (ap Inode h)))
           (λ k h.

@@ -235,7 +235,7 @@ module _ (e : Content) (m : LogMap) (M : Memory) (o : ℕ) (next : CheckpointVal
       let linked : 1 ≤ (header (M.bytes (Inode n))).links =
       some_links m n (header (M.bytes (Inode n))) (sym (ap is_unlinked s.header) ∙ named) in
       record {
-        formed = is_inode n (M.bytes (Inode n)) s.formed (layout_version next)
+        formed = is_inode n s.formed (layout_version next)
             (of_version map n (header (M.bytes (Inode n))) (same_header m n named ∙ s.header)) linked;
         header = same_header m n named ∙ s.header;
         direct = λ i low. s.direct i low ∙ of_shown n (Data n i) refl named;

@@ -16,7 +16,7 @@ none_else n ne = ap (λ b. cond b (Some (Dir 0 [])) None) (cmp_other n 1 ne)
 
 each : (P : ℕ → Node → Type 0) → P 1 (Dir 0 []) → (n : ℕ) (x : Node) → node fresh.tree n ≡ Some x → P n x
 each P one n x h = same_or_not n 1
-    (λ e. let same : Dir 0 [] ≡ x = Some-injective _ _ (subst (λ k. node fresh.tree k ≡ Some x) e h) in
+    (λ e. let same : Dir 0 [] ≡ x = Some-injective (subst (λ k. node fresh.tree k ≡ Some x) e h) in
     subst (λ k. P k x) (sym e) (subst (P 1) same one))
     (λ ne. absurd (let none = none_else n ne in cc))
 

@@ -79,7 +79,7 @@ module _ (t : Tree) (d n form : ℕ) (m : Names) (nm : List ℕ) (in_order : T (
   entry_after q x k e = same_or_not q d
       (λ at. subst (λ y. entry after y x ≡ Some k → (k ≡ n) ⊎ (entry t y x ≡ Some k)) (sym at) (λ e.
       elim (eq_by_cmp byte_cmp x nm) as (λ b. cond b (Some n) (find byte_cmp x m) ≡ Some k → (k ≡ n) ⊎ (entry t d x ≡ Some k)) [
-        | true ↦ λ h. inl (sym (Some-injective n k h))
+        | true ↦ λ h. inl (sym (Some-injective h))
         | false ↦ λ h. inr (entry_was x ∙ h)
       ] (sym (entry_dir x) ∙ e)) e)
       (λ ne. inr (sym (ap (λ o. find byte_cmp x (names_at o)) (at_other q ne)) ∙ e))

@@ -52,7 +52,7 @@ module _ (N : ℕ) (s : State) (n : ℕ) (sound : Sound N s) (room : least_handl
         record { file = was.file; handle = let up = more_opened q in let old = was.handle in omega arith });
     handles = λ g q e. same_or_not g h
         (λ at. let here : Some n ≡ Some q = sym (find_here s.handles h n) ∙ subst (λ y. find nat_cmp y now ≡ Some q) at e in
-        (omega arith, subst (λ x. IsFile (node s.tree x)) (Some-injective _ _ here) file))
+        (omega arith, subst (λ x. IsFile (node s.tree x)) (Some-injective here) file))
         (λ ne. sound.handles g q (sym (find_other s.handles h n g ne) ∙ e));
     room = sound.room;
   }

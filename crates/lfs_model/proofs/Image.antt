@@ -326,7 +326,7 @@ module _ (version N : ℕ) (c : Content) (new : IsNew version N c) where
   -- ---- the usage table
   use_there : (j i : ℕ) → j < u → i < 64 → UseWords (block c (A (Usage j))) i (get_or (first_uses N j) i no_use)
   use_there j i below lt =
-      subst (UseWords (block c (A (Usage j))) i) (sym (use_of (block c (A (Usage j))) 64 (first_uses N j) (fits_uses j)
+      subst (UseWords (block c (A (Usage j))) i) (sym (use_of 64 (first_uses N j) (fits_uses j)
       (usage_block j below) i lt)) (use_words (block c (A (Usage j))) i)
 
   no_use_there : (j i : ℕ) → (j ≡ 0 → 0 < i) → get_or (first_uses N j) i no_use ≡ no_use

@@ -61,9 +61,9 @@ pub length-inode : (i : InodeValue) → FitsInode i → length (inode_sector i) 
 unfolding fields inode_sector
 length-inode i fits = length-fields (fields i) (sized i fits)
 
-pub reads_from : (s : List ℕ) (i : InodeValue) → FitsInode i → s ≡ inode_sector i → ReadsAs s i
+pub reads_from : {s : List ℕ} (i : InodeValue) → FitsInode i → s ≡ inode_sector i → ReadsAs s i
 unfolding fields inode_sector
-reads_from s i fits e =
+reads_from {s} i fits e =
     let laid : Laid s 0 (fields i) = laid_from s 0 (fields i) (sized i fits) e in record {
       kind = laid.0;
       form = laid.1.0;
@@ -100,11 +100,11 @@ pub same_kind : (a b : Kind) → kind_byte a ∷ [] ≡ kind_byte b ∷ [] → a
 same_kind a b e = sym (kind_of_byte a) ∙ ap (λ (x : List ℕ). kind_of (get_or x 0 0)) e ∙ kind_of_byte b
 
 -- no other byte is a kind's
-pub not_a_kind : (b : ℕ) (k : Kind) → (b ≡ 1 → ⊥) → (b ≡ 2 → ⊥) → (b ≡ 3 → ⊥) → b ≡ kind_byte k → ⊥
+pub not_a_kind : {b : ℕ} (k : Kind) → (b ≡ 1 → ⊥) → (b ≡ 2 → ⊥) → (b ≡ 3 → ⊥) → b ≡ kind_byte k → ⊥
 unfolding kind_byte
-not_a_kind b File x y z e = x e
-not_a_kind b Directory x y z e = y e
-not_a_kind b Link x y z e = z e
+not_a_kind File x y z e = x e
+not_a_kind Directory x y z e = y e
+not_a_kind Link x y z e = z e
 
 -- the form that a sector says
 pub form_at : (s : List ℕ) (form : ℕ) → 2 ≤ length s → part 1 1 s ≡ form ∷ [] → get_or s 1 0 ≡ form
@@ -131,7 +131,7 @@ size_fits i fits = size_below i.form i.kind i.size fits.size
 pub inode_back : (i : InodeValue) → FitsInode i → inode_of (inode_sector i) ≡ i
 inode_back i p =
     let s = inode_sector i in
-    let r = reads_from s i p refl in
+    let r = reads_from {s = s} i p refl in
     let long : length s ≡ 512 = length-inode i p in
     let kind : kind_of (get_or s 0 0) ≡ i.kind = kind_at s i.kind (omega arith) r.kind in
     let form : get_or s 1 0 ≡ i.form = form_at s i.form (omega (arith, long)) r.form in

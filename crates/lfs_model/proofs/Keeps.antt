@@ -188,9 +188,10 @@ link_at N s sound a b bytes (At d) f par_a par_b =
     (Done, with_tree s t'))) sound (λ ok.
     link_named N s sound a b d bytes (is_found (entry s.tree d (name a)) ok.1.1.0) ok.1.1.1.1.0 f par_b)
 
-pub link_keeps : (N : ℕ) (s s' : State) (a b : List ℕ) (r : Answer) → Sound N s → AreArguments (LinkTo a b) → Step N s (LinkTo a b) r s'
+pub link_keeps : (N : ℕ) (s : State) {s' : State} (a b : List ℕ) (r : Answer) → Sound N s → AreArguments (LinkTo a b)
+    → Step N s (LinkTo a b) r s'
     → Sound N s'
-link_keeps N s s' a b r sound args st =
+link_keeps N s a b r sound args st =
     subst (Sound N) st.state (link_at N s sound a b args.1 st.first_end st.second_end st.first st.second)
 
 -- ---- a name less
@@ -230,8 +231,8 @@ open_at N s sound p (At n) res =
     by None w = ends_at_node s.tree sound.in_order sound.root w sound.root
     by (Some r) e = cc
 
-pub open_keeps : (N : ℕ) (s s' : State) (p : List ℕ) (a : Answer) → Sound N s → Step N s (Open p) a s' → Sound N s'
-open_keeps N s s' p a sound st = subst (Sound N) st.state (open_at N s sound p st.first_end st.first)
+pub open_keeps : (N : ℕ) (s s' : State) (p : List ℕ) {a : Answer} → Sound N s → Step N s (Open p) a s' → Sound N s'
+open_keeps N s s' p sound st = subst (Sound N) st.state (open_at N s sound p st.first_end st.first)
 
 is_open : (o : Option ℕ) → is_none o ≡ false → o ≡ Some (unwrap_or o 0)
 is_open None h = cc
@@ -243,8 +244,8 @@ file_at_handle N s sound h e = (sound.handles h (file_at s h) (is_open (find nat
 not_dir : (o : Option Node) → IsFile o → is_dir o ≡ false
 not_dir o f = ap is_dir f.1
 
-pub close_keeps : (N : ℕ) (s s' : State) (h : ℕ) (a : Answer) → Sound N s → Step N s (Close h) a s' → Sound N s'
-close_keeps N s s' h a sound st =
+pub close_keeps : (N : ℕ) (s : State) {s' : State} (h : ℕ) (a : Answer) → Sound N s → Step N s (Close h) a s' → Sound N s'
+close_keeps N s h a sound st =
     let rest : Handles = without nat_cmp h s.handles in
     subst (Sound N) st.state
     (checked_sound N s (bad_handle s h ∷ []) (Done, record s { tree = let_go s.tree rest (file_at s h); handles = rest }) sound (λ ok.

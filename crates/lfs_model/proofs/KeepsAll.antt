@@ -22,14 +22,14 @@ read_keeps : (call : Call) → leaves_state call ≡ true → KeepsSound call
 read_keeps call is N s s' a sound args st = subst (Sound N) (sym (reads_leave N s s' call a is st)) sound
 
 pub call_keeps : (call : Call) → KeepsSound call
-call_keeps (Open p) N s s' a sound args st = open_keeps N s s' p a sound st
+call_keeps (Open p) N s s' a sound args st = open_keeps N s s' p sound st
 call_keeps (Create p) N s s' a sound args st = create_keeps N s s' p a sound args st
-call_keeps (Close h) N s s' a sound args st = close_keeps N s s' h a sound st
+call_keeps (Close h) N s s' a sound args st = close_keeps N s h a sound st
 call_keeps (Pread h off n) N s s' a sound args st = read_keeps (Pread h off n) refl N s s' a sound args st
 call_keeps (Pwrite h off w) N s s' a sound args st = pwrite_keeps N s s' h off w a sound args st
 call_keeps (Truncate h n) N s s' a sound args st = truncate_keeps N s s' h n a sound st
 call_keeps (Mkdir p) N s s' a sound args st = mkdir_keeps N s s' p a sound args st
-call_keeps (LinkTo p q) N s s' a sound args st = link_keeps N s s' p q a sound args st
+call_keeps (LinkTo p q) N s s' a sound args st = link_keeps N s p q a sound args st
 call_keeps (Symlink text p) N s s' a sound args st = symlink_keeps N s s' text p a sound args st
 call_keeps (Readlink p) N s s' a sound args st = read_keeps (Readlink p) refl N s s' a sound args st
 call_keeps (Unlink p) N s s' a sound args st = unlink_keeps N s s' p a sound st
@@ -44,7 +44,7 @@ call_keeps Clean N s s' a sound args st = read_keeps Clean refl N s s' a sound a
 call_keeps Space N s s' a sound args st = read_keeps Space refl N s s' a sound args st
 call_keeps Version N s s' a sound args st = read_keeps Version refl N s s' a sound args st
 call_keeps Upgrade N s s' a sound args st = upgrade_keeps N s s' a sound st
-call_keeps (Widen p) N s s' a sound args st = widen_keeps N s s' p a sound st
+call_keeps (Widen p) N s s' a sound args st = widen_keeps N s p a sound st
 call_keeps ListTree N s s' a sound args st = read_keeps ListTree refl N s s' a sound args st
 
 -- an excused refusal leaves the state
@@ -94,7 +94,7 @@ line_run_keeps N p (line ∷ asked) (a ∷ answers) (q ∷ points) sound fits ru
 
 at_point : (P : Point → Type 0) (points : List Point) (n : ℕ) (q : Point) → AllByRecursion P points → slice_get points n ≡ Some q → P q
 at_point P [] n q all is = cc
-at_point P (p ∷ points) zero q all is = subst P (Some-injective p q is) all.0
+at_point P (p ∷ points) zero q all is = subst P (Some-injective is) all.0
 at_point P (p ∷ points) (suc n) q all is = at_point P points n q all.1 is
 
 pub pending_sound : (N : ℕ) (p : Point) (calls : List Call) (answers : List Answer) (points : List Point) (s : State) → Sound N p.state

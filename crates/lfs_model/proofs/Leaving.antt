@@ -201,7 +201,8 @@ pub going_on : GoingOn
 going_on d dirty t t' k m0 m none s w inside go = gone_on d dirty t t' k m0 m none s w inside go
 
 -- ---- blocks of the tables leave their places
-module _ (d : DeviceState) (dirty : Dirty) (t t' : Tables) (k : CheckpointValue) (m0 m : LogMap) (seg : ℕ) (chunk : Option (List Entry))
+module _ (d : DeviceState) {dirty : Dirty} {t : Tables} (t' : Tables) (k : CheckpointValue) {m0 : LogMap} (m : LogMap) {seg : ℕ}
+    {chunk : Option (List Entry)}
     (w : Running d dirty t k m0 m seg chunk)
     (x : Entry) (table : IsOfFile x → ⊥) (v : ℕ) (least : v ≤ 1) where
   unfoldable pub left_memory : Memory
@@ -229,16 +230,15 @@ module _ (d : DeviceState) (dirty : Dirty) (t t' : Tables) (k : CheckpointValue)
 pub map_dropping : MapDropping
 unfolding left_memory taken_memory
 map_dropping d dirty t t' k m0 m seg chunk j w one none go =
-    let M' = left_memory d dirty t t' k m0 m seg chunk w (Map j) (map_table j) 0 (omega arith) in
-    let p = left_taken d dirty t t' k m0 m seg chunk w (Map j) (map_table j) 0 (omega arith) in
+    let M' = left_memory d t' k m w (Map j) (map_table j) 0 (omega arith) in
+    let p = left_taken d t' k m w (Map j) (map_table j) 0 (omega arith) in
     let was : w.memory.at (Map j) ≡ 1 = w.tables.at (Map j) refl ∙ one in
     let counts = unplaced_counts d.content m w.memory seg (Map j) 0
-    (left_memory d dirty t t' k m0 m seg chunk w (Map j) (map_table j) 0 (omega arith)) w.laid (omega (arith, was)) p in
+    (left_memory d t' k m w (Map j) (map_table j) 0 (omega arith)) w.laid (omega (arith, was)) p in
     record {
-      memory = left_memory d dirty t t' k m0 m seg chunk w (Map j) (map_table j) 0 (omega arith);
+      memory = left_memory d t' k m w (Map j) (map_table j) 0 (omega arith);
       laid =
-          map_leaving d.content m w.memory seg j (left_memory d dirty t t' k m0 m seg chunk w (Map j) (map_table j) 0 (omega arith)) w.laid
-          (record {
+          map_leaving d.content m w.memory seg j (left_memory d t' k m w (Map j) (map_table j) 0 (omega arith)) w.laid (record {
             was = was;
             none = λ i low. ap (λ (a : ℕ). cond (is_shown m (Inode (128 * j + i))) a 0) (w.tables.at (Inode (128 * j + i)) refl)
                 ∙ none i low;
@@ -250,9 +250,9 @@ map_dropping d dirty t t' k m0 m seg chunk j w one none go =
           });
       segments = w.segments;
       settled = w.settled;
-      cached = left_cached d dirty t t' k m0 m seg chunk w (Map j) (map_table j) 0 (omega arith);
+      cached = left_cached d t' k m w (Map j) (map_table j) 0 (omega arith);
       tables = record {
-        at = addressed t t' (Map j) 0 w.memory (left_memory d dirty t t' k m0 m seg chunk w (Map j) (map_table j) 0 (omega arith)) go.at
+        at = addressed t t' (Map j) 0 w.memory (left_memory d t' k m w (Map j) (map_table j) 0 (omega arith)) go.at
             p.at p.others w.tables.at;
         used = λ s. go.used s ∙ w.tables.used s;
         live = λ s. go.live s ∙ w.tables.live s ∙ sym (counts (is_shown m) s);
@@ -262,30 +262,30 @@ map_dropping d dirty t t' k m0 m seg chunk j w one none go =
           (λ q lt. (go.used (64 * i + q), go.live (64 * i + q), go.age (64 * i + q))) (w.fresh i (sym (go.stale i) ∙ off) low);
       part = part_same t t' go.used go.kept w.part;
       kept = kept_same d.content k t t' go.kept w.kept;
-      opened = still_open d dirty t t' k m0 m seg chunk w (Map j) (map_table j) 0 (omega arith) chunk w.opened go.kept;
+      opened = still_open d t' k m w (Map j) (map_table j) 0 (omega arith) chunk w.opened go.kept;
     }
 
 pub usage_leaving : UsageLeaving
 unfolding left_memory taken_memory
 usage_leaving d dirty t t' k m0 m seg chunk j w above old go =
-    let p = left_taken d dirty t t' k m0 m seg chunk w (Usage j) (usage_table j) 1 (omega arith) in
+    let p = left_taken d t' k m w (Usage j) (usage_table j) 1 (omega arith) in
     let same : w.memory.at (Usage j) ≡ t.at (Usage j) = w.tables.at (Usage j) refl in
     let was : 2 ≤ w.memory.at (Usage j) = omega arith in
     record {
-      memory = left_memory d dirty t t' k m0 m seg chunk w (Usage j) (usage_table j) 1 (omega arith);
-      laid = usage_lifting d.content m w.memory seg j (left_memory d dirty t t' k m0 m seg chunk w (Usage j) (usage_table j) 1
+      memory = left_memory d t' k m w (Usage j) (usage_table j) 1 (omega arith);
+      laid = usage_lifting d.content m w.memory seg j (left_memory d t' k m w (Usage j) (usage_table j) 1
           (omega arith)) w.laid (record { taken = p; was = was; bytes = refl });
       segments = w.segments;
       settled = w.settled;
-      cached = left_cached d dirty t t' k m0 m seg chunk w (Usage j) (usage_table j) 1 (omega arith);
+      cached = left_cached d t' k m w (Usage j) (usage_table j) 1 (omega arith);
       tables = lifted_tables d.content m w.memory seg (Usage j) 1
-          (left_memory d dirty t t' k m0 m seg chunk w (Usage j) (usage_table j) 1 (omega arith)) t t' w.laid was p w.tables
+          (left_memory d t' k m w (Usage j) (usage_table j) 1 (omega arith)) t t' w.laid was p w.tables
           (subst (λ (a : ℕ). IsLifted m t t' (Usage j) 1 (segment_of a)) (sym same) go);
-      fresh = λ i off low. let no = lifted_fresh m t t' (Usage j) 1 (segment_of (t.at (Usage j))) go i off in
+      fresh = λ i off low. let no = lifted_fresh m t t' (Usage j) 1 go i off in
           no.1 (w.memory.bytes (Usage i)) (w.fresh i no.0 low);
       part = part_same t t' go.used go.kept w.part;
       kept = kept_same d.content k t t' go.kept w.kept;
-      opened = still_open d dirty t t' k m0 m seg chunk w (Usage j) (usage_table j) 1 (omega arith) chunk w.opened go.kept;
+      opened = still_open d t' k m w (Usage j) (usage_table j) 1 (omega arith) chunk w.opened go.kept;
     }
 
 -- ---- the content changes where k has no use for it

@@ -155,9 +155,9 @@ module _ (N : ℕ) (s : State) (d : ℕ) (nm : List ℕ) (made : Node) (leaf : i
   each_kept : (P : Node → Type 0) → ((q : ℕ) (x : Node) → node t q ≡ Some x → P x) → P made → P (Dir form (put byte_cmp nm n m))
       → (q : ℕ) (x : Node) → node t' q ≡ Some x → P x
   each_kept P was new dir q x h = same_or_not q n
-      (λ e. subst P (Some-injective _ _ (sym new_is ∙ subst (λ y. node t' y ≡ Some x) e h)) new)
+      (λ e. subst P (Some-injective (sym new_is ∙ subst (λ y. node t' y ≡ Some x) e h)) new)
       (λ a. same_or_not q d
-      (λ e. subst P (Some-injective _ _ (sym dir_is ∙ subst (λ y. node t' y ≡ Some x) e h)) dir)
+      (λ e. subst P (Some-injective (sym dir_is ∙ subst (λ y. node t' y ≡ Some x) e h)) dir)
       (λ b. was q x (sym (kept q a b) ∙ h)))
 
   new_names : names t n ≡ 0

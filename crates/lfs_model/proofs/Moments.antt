@@ -19,8 +19,8 @@ grows_none old new is first begins = subst (λ (l : List Order). IsBeginning fir
 pub grows_one : (order : Order) (old new : List Order) → new ≡ order ∷ old → Grows old new
 grows_one order old new is first begins = subst (λ (l : List Order). IsBeginning first l) (sym is) (begins_later first order old begins)
 
-pub carries_none : (d : DeviceState) → Carries d d
-carries_none d = record {
+pub carries_none : {d : DeviceState} → Carries d d
+carries_none = record {
   size = refl;
   kept_before = λ k. k;
   failures = omega arith;
@@ -30,8 +30,8 @@ carries_none d = record {
   told = λ first begins. begins;
 }
 
-pub carries_then : (a b c : DeviceState) → Carries a b → Carries b c → Carries a c
-carries_then a b c one two = record {
+pub carries_then : {a b c : DeviceState} → Carries a b → Carries b c → Carries a c
+carries_then one two = record {
   size = two.size ∙ one.size;
   kept_before = λ k. one.kept_before (two.kept_before k);
   failures = omega (arith, one.failures, two.failures);
@@ -42,34 +42,34 @@ carries_then a b c one two = record {
 }
 
 -- before the first call
-pub started : (d : DeviceState) (P : Set) → IsLawful d → AllLeft d P → LeavesOnly d d P
-started d P lawful here = record {
+pub started : {d : DeviceState} (P : Set) → IsLawful d → AllLeft d P → LeavesOnly d d P
+started P lawful here = record {
   later = omega arith;
   each = λ c left. here c (lawful.only_now c left);
   before = λ t c le left. inl left;
 }
 
 -- one call more, after which a stop leaves what has P
-pub goes_on : (old mid new : DeviceState) (P : Set) → LeavesOnly old mid P → Carries mid new → Elapses mid new → AllLeft new P
+pub goes_on : {old mid new : DeviceState} (P : Set) → LeavesOnly old mid P → Carries mid new → Elapses mid new → AllLeft new P
     → LeavesOnly old new P
-goes_on old mid new P so_far carries time here = record {
+goes_on {old} P so_far carries time here = record {
   later = omega (arith, so_far.later, carries.later);
   each = λ c left. ⊎_elim (so_far.each c) (here c) (time old.moment c so_far.later left);
   before = λ t c le left. ⊎_elim (so_far.before t c le) (λ now. inr (here c now)) (time t c (omega (arith, le, so_far.later)) left);
 }
 
 -- two runs, one after the other
-pub joined : (a b c : DeviceState) (P Q R : Set) → LeavesOnly a b P → LeavesOnly b c Q → ((x : List Cell) → P x → R x)
+pub joined : {a b c : DeviceState} (P Q R : Set) → LeavesOnly a b P → LeavesOnly b c Q → ((x : List Cell) → P x → R x)
     → ((x : List Cell) → Q x → R x) → LeavesOnly a c R
-joined a b c P Q R one two p q = record {
+joined {a} P Q R one two p q = record {
   later = omega (arith, one.later, two.later);
   each = λ x left. ⊎_elim (λ was. p x (one.each x was)) (q x) (two.before a.moment x one.later left);
   before = λ t x le left. ⊎_elim (λ was. ⊎_elim (λ first. inl first) (λ mid. inr (p x mid)) (one.before t x le was)) (λ now. inr (q x now))
       (two.before t x (omega (arith, le, one.later)) left);
 }
 
-pub weaker : (old new : DeviceState) (P Q : Set) → ((x : List Cell) → P x → Q x) → LeavesOnly old new P → LeavesOnly old new Q
-weaker old new P Q to leaves = record {
+pub weaker : {old new : DeviceState} (P Q : Set) → ((x : List Cell) → P x → Q x) → LeavesOnly old new P → LeavesOnly old new Q
+weaker P Q to leaves = record {
   later = leaves.later;
   each = λ x left. to x (leaves.each x left);
   before = λ t x le left. ⊎_elim (λ was. inl was) (λ has. inr (to x has)) (leaves.before t x le left);
@@ -82,12 +82,12 @@ pub record Run (old new : DeviceState) (P : Set) : Type 0 where
   pub now : AllLeft new P
 
 pub run_none : (d : DeviceState) (P : Set) → IsLawful d → AllLeft d P → Run d d P
-run_none d P lawful here = record { carries = carries_none d; leaves = started d P lawful here; now = here }
+run_none d P lawful here = record { carries = carries_none; leaves = started P lawful here; now = here }
 
 pub run_call : (old mid new : DeviceState) (P : Set) → Run old mid P → Carries mid new → Elapses mid new → AllLeft new P → Run old new P
 run_call old mid new P run carries time here = record {
-  carries = carries_then old mid new run.carries carries;
-  leaves = goes_on old mid new P run.leaves carries time here;
+  carries = carries_then run.carries carries;
+  leaves = goes_on P run.leaves carries time here;
   now = here;
 }
 

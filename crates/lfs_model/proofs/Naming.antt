@@ -68,7 +68,7 @@ module _ (N : ℕ) (s : State) (d n form : ℕ) (m : Names) (nm : List ℕ) (but
 
   each_kept : (P : Node → Type 0) → ((q : ℕ) (x : Node) → node t q ≡ Some x → P x) → P grown → (q : ℕ) (x : Node) → node t' q ≡ Some x → P x
   each_kept P was dir q x h = same_or_not q d
-      (λ e. subst P (Some-injective _ _ (sym dir_now ∙ subst (λ y. node t' y ≡ Some x) e h)) dir)
+      (λ e. subst P (Some-injective (sym dir_now ∙ subst (λ y. node t' y ≡ Some x) e h)) dir)
       (λ b. was q x (sym (kept q b) ∙ h))
 
   dirs : (q : ℕ) → is_dir (node t' q) ≡ is_dir (node t q)

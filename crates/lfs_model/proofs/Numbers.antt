@@ -66,9 +66,9 @@ pub length-le64 : (n : ℕ) → length (le64 n) ≡ 8
 unfolding le64
 length-le64 n = refl
 
-pub le32_inj : (x y : ℕ) → x < 2 ^ 32 → y < 2 ^ 32 → le32 x ≡ le32 y → x ≡ y
+pub le32_inj : (x : ℕ) {y : ℕ} → x < 2 ^ 32 → y < 2 ^ 32 → le32 x ≡ le32 y → x ≡ y
 unfolding le32
-le32_inj x y p q e = bytes_inj 4 x y p q e
+le32_inj x {y} p q e = bytes_inj 4 x y p q e
 
 pub le64_inj : (x y : ℕ) → x < 2 ^ 64 → y < 2 ^ 64 → le64 x ≡ le64 y → x ≡ y
 unfolding le64
@@ -121,7 +121,7 @@ words_inj [] (y ∷ ys) long p q e = cc
 words_inj (x ∷ xs) [] long p q e = cc
 words_inj (x ∷ xs) (y ∷ ys) long p q e =
     let both = fronts (le32 x) (words xs) (le32 y) (words ys) (length-le32 x ∙ sym (length-le32 y)) e in
-    let first : x ≡ y = le32_inj x y (p 0) (q 0) both.0 in
+    let first : x ≡ y = le32_inj x (p 0) (q 0) both.0 in
     let rest : xs ≡ ys = words_inj xs ys (omega arith) (λ i. p (suc i)) (λ i. q (suc i)) both.1 in
     cc
 

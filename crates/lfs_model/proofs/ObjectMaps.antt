@@ -178,8 +178,8 @@ size_slots form kind.Directory size fits dir = fits.0
 size_slots form kind.Link size fits dir = absurd (cc)
 
 pub header_of_inode : (n : ℕ) (b : List ℕ) → HoldsInode n b → IsHeaderOf n (header b)
-header_of_inode n b holds = subst (IsHeaderOf n) (sym (header_holds n b holds)) (record {
-  number = number_low n b holds;
+header_of_inode n b holds = subst (IsHeaderOf n) (sym (header_holds n holds)) (record {
+  number = number_low n holds;
   form = holds.fits.form;
   links = holds.links;
   size = holds.fits.size;

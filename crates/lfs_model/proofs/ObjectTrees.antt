@@ -31,8 +31,8 @@ use Rattle.lfs_model.proofs.Volume.{node_in, no_node_0, no_node_past}
 
 -- ---- what changes at one number
 
-pub with_header_at : (m m' : LogMap) (n : ℕ) (h : Option Header) → IsWithHeader m n h m' → IsChangedAt m n m'
-with_header_at m m' n h is = record { headers = is.others; blocks = λ k i ne. is.block k i; version = is.version }
+pub with_header_at : (m m' : LogMap) (n : ℕ) {h : Option Header} → IsWithHeader m n h m' → IsChangedAt m n m'
+with_header_at m m' n is = record { headers = is.others; blocks = λ k i ne. is.block k i; version = is.version }
 
 pub without_file_at : (m m' : LogMap) (n : ℕ) → IsWithoutFile m n m' → IsChangedAt m n m'
 without_file_at m m' n is = record { headers = is.headers; blocks = is.blocks; version = is.version }
@@ -82,9 +82,9 @@ same_tree_at m m' n is same = same_trees (tree_in m') (tree_in m) (in_order m') 
         (cases_lt n 1)
 
 -- a node that is there afterwards is put into the tree
-pub tree_with : (m m' : LogMap) (n : ℕ) (x : Node) → IsChangedAt m n m' → node (tree_in m') n ≡ Some x
+pub tree_with : (m m' : LogMap) (n : ℕ) {x : Node} → IsChangedAt m n m' → node (tree_in m') n ≡ Some x
     → tree_in m' ≡ with_node (tree_in m) n x
-tree_with m m' n x is at =
+tree_with m m' n {x} is at =
     same_trees (tree_in m') (with_node (tree_in m) n x) (in_order m') (is_sorted-put nat_cmp nat_cmp_total n x (tree_in m) (in_order m))
     (λ q. ⊎_elim
     (λ (here : q ≡ n).
@@ -114,7 +114,7 @@ no_header_no_node m n at = ⊎_elim
     (cases_lt n 1)
 
 pub object_put : ObjectPut
-object_put m m' n h is some small at = tree_with m m' n (node_by m' h.kind n h) is (node_in m' n some small ∙ ap (node_of m' n) at)
+object_put m m' n h is some small at = tree_with m m' n is (node_in m' n some small ∙ ap (node_of m' n) at)
 
 pub object_taken : ObjectTaken
 object_taken m m' n is at = tree_without m m' n is (no_header_no_node m' n at)
@@ -136,7 +136,7 @@ module _ (m : LogMap) (n : ℕ) (h h' : Header) (form : h'.form ≡ h.form) (siz
   node_by_size kind.Link = ap Link object_by_size
 
 pub links_apart : LinksApart
-links_apart m m' n h h' is at kind form size = same_tree_at m m' n (with_header_at m m' n (Some h') is)
+links_apart m m' n h h' is at kind form size = same_tree_at m m' n (with_header_at m m' n is)
     (ap (node_of m' n) is.own ∙ same_nodes m' m n (Some h') (λ i. is.block n i)
     ∙ ap Some (ap (λ (k : Kind). node_by m k n h') kind ∙ node_by_size m n h h' form size h.kind) ∙ sym (ap (node_of m n) at))
 
@@ -183,7 +183,7 @@ module _ (f : Node → ℕ) where
           omega arith
       by (Some x) at =
           let t = total_put nat_cmp_total f n x (tree_in m) (in_order m) in
-          let same = ap (total nat_cmp_total f) (tree_with m m' n x is at) in
+          let same = ap (total nat_cmp_total f) (tree_with m m' n is at) in
           omega arith
 
 data_at_is : (o : Option Node) → weighs data_of o ≡ data_at o

@@ -53,9 +53,9 @@ text_own p r is = by (nat_lt 0 (length p)) (nat_lt 1023 (length p)) (list_any (�
   where
     by : (some long zero : Bool) → (if some then (if long then Some NameTooLong else (if zero then Some Inval else None)) else Some NoEntry)
         ≡ Some r → IsOwn (Refuse r)
-    by false long zero e = subst (λ (x : Refusal). IsOwn (Refuse x)) (Some-injective NoEntry r e) refl
-    by true true zero e = subst (λ (x : Refusal). IsOwn (Refuse x)) (Some-injective NameTooLong r e) refl
-    by true false true e = subst (λ (x : Refusal). IsOwn (Refuse x)) (Some-injective Inval r e) refl
+    by false long zero e = subst (λ (x : Refusal). IsOwn (Refuse x)) (Some-injective e) refl
+    by true true zero e = subst (λ (x : Refusal). IsOwn (Refuse x)) (Some-injective e) refl
+    by true false true e = subst (λ (x : Refusal). IsOwn (Refuse x)) (Some-injective e) refl
     by true false false e = absurd (cc)
 
 ends_own : (p : List ℕ) (W : End → Type 0) (e : End) → (W e → IsOwnEnd e) → Ends p W e → IsOwnEnd e

@@ -80,7 +80,7 @@ zeros_from_each bs n long each =
     same_lists bs (replicate n 0) (long ∙ sym (length-replicate n 0))
     (λ k d lt. get_or_default bs k d 0 lt ∙ each k lt ∙ sym (get_or-replicate n k 0 d (omega arith)))
 
-pub each_of_zeros : (bs : List ℕ) (n : ℕ) → bs ≡ zeros n → (i : ℕ) → i < length bs → get_or bs i 0 ≡ 0
+pub each_of_zeros : {bs : List ℕ} (n : ℕ) → bs ≡ zeros n → (i : ℕ) → i < length bs → get_or bs i 0 ≡ 0
 unfolding zeros
-each_of_zeros bs n e i lt =
+each_of_zeros n e i lt =
     ap (λ (b : List ℕ). get_or b i 0) e ∙ get_or-replicate n i 0 0 (omega (arith, ap length e, length-replicate {A = ℕ} n 0))

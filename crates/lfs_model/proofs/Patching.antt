@@ -169,7 +169,7 @@ reads_value s i count e =
       rest = laid.1.1.1.1.1.1.1.1.1.1.0;
     }
 
-module _ (n : ℕ) (b : List ℕ) (holds : HoldsInode n b) where
+module _ (n : ℕ) {b : List ℕ} (holds : HoldsInode n b) where
   pub long_inode : length b ≡ 512
   long_inode = ap length holds.spelt ∙ long_value holds.value holds.fits.direct_length
 
@@ -321,10 +321,10 @@ pieces s (n ∷ ns) at each =
 
 module _ (n w v : ℕ) (b : List ℕ) (holds : HoldsInode n b) (above : 8 ≤ w) (below : w < 122) (small : v < 2 ^ 32) where
   before : (at k : ℕ) → at + k ≤ 4 * w → part at k (patched w v b) ≡ part at k b
-  before at k le = part_before w v b (long_inode n b holds) (omega arith) at k le
+  before at k le = part_before w v b (long_inode n holds) (omega arith) at k le
 
   past : (at k : ℕ) → 4 * w + 4 ≤ at → at + k ≤ 512 → part at k (patched w v b) ≡ part at k b
-  past at k le fits = part_past w v b (long_inode n b holds) (omega arith) at k le fits
+  past at k le fits = part_past w v b (long_inode n holds) (omega arith) at k le fits
 
   -- the inode with other pointers, at the places of the patched block
   other_value : List ℕ → ℕ → ℕ → InodeValue
@@ -335,7 +335,7 @@ module _ (n w v : ℕ) (b : List ℕ) (holds : HoldsInode n b) (above : 8 ≤ w)
       → HoldsInode n (patched w v b)
   unfolding other_value
   other_fits ns s d count fits fits_s fits_d is_direct is_single is_double =
-      let r = reads_inode n b holds in
+      let r = reads_inode n holds in
       let reads : ReadsAs (patched w v b) (other_value ns s d) = record {
         kind = before 0 1 (omega arith) ∙ r.kind;
         form = before 1 1 (omega arith) ∙ r.form;
@@ -351,7 +351,7 @@ module _ (n w v : ℕ) (b : List ℕ) (holds : HoldsInode n b) (above : 8 ≤ w)
       } in
       record {
         value = other_value ns s d;
-        spelt = reads_to (patched w v b) (other_value ns s d) (long_patched w v b (long_inode n b holds) (omega arith)) reads;
+        spelt = reads_to (patched w v b) (other_value ns s d) (long_patched w v b (long_inode n holds) (omega arith)) reads;
         fits = record {
           number = holds.fits.number;
           links = (omega arith, omega arith);
@@ -387,9 +387,9 @@ module _ (n w v : ℕ) (b : List ℕ) (holds : HoldsInode n b) (above : 8 ≤ w)
       let ns = holds.value.direct in
       let count = holds.fits.direct_length in
       let l = length-set holds.value.direct (w - 8) v in
-      let long = long_inode n b holds in
+      let long = long_inode n holds in
       let whole : part 32 (4 * length holds.value.direct) b ≡ words holds.value.direct = ap (λ (m : ℕ). part 32 (4 * m) b) count
-      ∙ (reads_inode n b holds).direct in
+      ∙ (reads_inode n holds).direct in
       let each : (i : ℕ) → i < length (set holds.value.direct (w - 8) v)
       → part (32 + 4 * i) 4 (patched w v b) ≡ le32 (get_or (set holds.value.direct (w - 8) v) i 0) = λ i lt.
       ⊎_elim
@@ -410,11 +410,11 @@ module _ (n w v : ℕ) (b : List ℕ) (holds : HoldsInode n b) (above : 8 ≤ w)
       ap (λ (k : ℕ). part 32 k (patched w v b)) m ∙ pieces (patched w v b) (set holds.value.direct (w - 8) v) 32 each
 
   here_words : (k : ℕ) → 4 * w ≡ k → part k 4 (patched w v b) ≡ le32 v
-  here_words k is = ap (λ (j : ℕ). part j 4 (patched w v b)) (sym is) ∙ part_at w v b (long_inode n b holds) (omega arith)
+  here_words k is = ap (λ (j : ℕ). part j 4 (patched w v b)) (sym is) ∙ part_at w v b (long_inode n holds) (omega arith)
 
   pub holds_patched : HoldsInode n (patched w v b)
   holds_patched =
-      let r = reads_inode n b holds in
+      let r = reads_inode n holds in
       let i = holds.value in
       ⊎_elim
       (λ (direct : w < 120).

@@ -131,10 +131,10 @@ block_leaving d dirty dirty' t t' k m0 m m' seg chunk n i address w at above map
     left d dirty dirty' t t' k m0 m m' seg chunk n i address w at above go map moves
 
 -- where x stands, by memory
-pub address_at : (d : DeviceState) (dirty : Dirty) (t : Tables) (k : CheckpointValue) (m0 m : LogMap) (seg : ℕ)
-    (chunk : Option (List Entry)) (x : Entry) (address : ℕ)
+pub address_at : (d : DeviceState) {dirty : Dirty} {t : Tables} (k : CheckpointValue) (m0 m : LogMap) {seg : ℕ}
+    {chunk : Option (List Entry)} (x : Entry) (address : ℕ)
     (w : Running d dirty t k m0 m seg chunk) → IsAtAddress dirty t x address → w.memory.at x ≡ address
-address_at d dirty t k m0 m seg chunk x address w at = ⊎_elim
+address_at d k m0 m {seg} x address w at = ⊎_elim
     (λ (top : parent x ≡ x). w.tables.at x top ∙ at.top top)
     (λ (ne : parent x ≡ x → ⊥).
     let p = at.pointed ne in

@@ -213,9 +213,9 @@ noted_fresh m t t' x a s go j off =
       )),
     )
 
-pub lifted_fresh : (m : LogMap) (t t' : Tables) (x : Entry) (v s : ℕ) → IsLifted m t t' x v s → (j : ℕ) → t'.stale j ≡ false
+pub lifted_fresh : (m : LogMap) (t t' : Tables) (x : Entry) (v : ℕ) {s : ℕ} → IsLifted m t t' x v s → (j : ℕ) → t'.stale j ≡ false
     → (t.stale j ≡ false) × ((b : List ℕ) → SpellsUsage t j b → SpellsUsage t' j b)
-lifted_fresh m t t' x v s go j off =
+lifted_fresh m t t' x v {s} go j off =
     let no = not_it t.stale t'.stale s j go.stale off in (
       no.0,
       λ b. usage_kept t t' j b

@@ -143,9 +143,9 @@ module _ (N : ℕ) (s : State) (sound : Sound N s) (a b : List ℕ) (d : ℕ) (i
 pub rename_has_room : RenameHasRoom
 rename_has_room N s s' sound a b d par_a par_b st =
     let e : st.first_end ≡ At d =
-    Some-injective _ _ (sym (path_ends_to s.tree (Holder a) st.first_end st.first) ∙ path_ends_to s.tree (Holder a) (At d) par_a) in
+    Some-injective (sym (path_ends_to s.tree (Holder a) st.first_end st.first) ∙ path_ends_to s.tree (Holder a) (At d) par_a) in
     let f : st.second_end ≡ At d =
-    Some-injective _ _ (sym (path_ends_to s.tree (Holder b) st.second_end st.second) ∙ path_ends_to s.tree (Holder b) (At d) par_b) in
+    Some-injective (sym (path_ends_to s.tree (Holder b) st.second_end st.second) ∙ path_ends_to s.tree (Holder b) (At d) par_b) in
     let one : (outcome N s (Rename a b) (At d) st.second_end).0 ≡ Refuse NoSpace =
     subst (λ (x : End). (outcome N s (Rename a b) x st.second_end).0 ≡ Refuse NoSpace) e st.answer in
     let both : (outcome N s (Rename a b) (At d) (At d)).0 ≡ Refuse NoSpace =

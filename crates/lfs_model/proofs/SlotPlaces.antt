@@ -26,13 +26,14 @@ sized : (form : ℕ) (v : SlotValue) → Sized (fields form v)
 unfolding fields
 sized form v = (length-le32 v.number, (refl, (refl, (length-zeros (name_len form - length v.name), tt))))
 
-pub length-slot : (form : ℕ) (v : SlotValue) → FitsSlot form v → length (slot_bytes form v) ≡ slot_len form
+pub length-slot : (form : ℕ) {v : SlotValue} → FitsSlot form v → length (slot_bytes form v) ≡ slot_len form
 unfolding fields slot_bytes
-length-slot form v fits = let short = fits.name.short in let least = room form in length-fields (fields form v) (sized form v) ∙ omega arith
+length-slot form {v} fits = let short = fits.name.short in let least = room form in length-fields (fields form v)
+    (sized form v) ∙ omega arith
 
-pub reads_from : (form : ℕ) (b : List ℕ) (v : SlotValue) → b ≡ slot_bytes form v → ReadsAs form b v
+pub reads_from : (form : ℕ) {b : List ℕ} (v : SlotValue) → b ≡ slot_bytes form v → ReadsAs form b v
 unfolding fields slot_bytes
-reads_from form b v e =
+reads_from form {b} v e =
     let laid : Laid b 0 (fields form v) = laid_from b 0 (fields form v) (sized form v) e in
     record { number = laid.0; len = laid.1.0; name = laid.1.1.0; rest = laid.1.1.1.0 }
 
@@ -80,7 +81,7 @@ zeros_past form b v long short r i low high =
     let same = length_at form b v long r in
     let wide = length-part (5 + len) (name_len form - len) b (omega arith) in
     ap (λ (k : ℕ). get_or b k 0) (omega arith) ∙ sym (get_or-part (5 + len) (name_len form - len) b (i - (5 + len)) (omega arith))
-    ∙ each_of_zeros (part (5 + len) (name_len form - len) b) (name_len form - len) r.rest (i - (5 + len)) (omega arith)
+    ∙ each_of_zeros (name_len form - len) r.rest (i - (5 + len)) (omega arith)
 
 abbrev built : ℕ → List ℕ → SlotValue
 built n x = record { number = n; name = x }
@@ -89,10 +90,10 @@ built n x = record { number = n; name = x }
 pub slot_back : (form : ℕ) (v : SlotValue) → FitsSlot form v → slot_of (slot_bytes form v) ≡ v
 slot_back form v p =
     let b = slot_bytes form v in
-    let r = reads_from form b v refl in
+    let r = reads_from form {b = b} v refl in
     let number : read32 0 b ≡ v.number = read32_is 0 b v.number (omega (arith, p.number.1)) r.number in
     ap (λ (n : ℕ). built n (part 5 (get_or b 4 0) b)) number
-    ∙ ap (λ (x : List ℕ). built v.number x) (name_at form b v (length-slot form v p) r)
+    ∙ ap (λ (x : List ℕ). built v.number x) (name_at form b v (length-slot form p) r)
 
 -- two slots of the same bytes are one
 pub one_slot : (form : ℕ) (a b : SlotValue) → FitsSlot form a → FitsSlot form b → slot_bytes form a ≡ slot_bytes form b → a ≡ b

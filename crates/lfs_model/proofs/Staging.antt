@@ -138,7 +138,7 @@ module _ (d : DeviceState) (dirty dirty' : Dirty) (t t' : Tables) (k : Checkpoin
     cached = cached_now;
     tables = lifted_tables d.content m w.memory seg x 1 next t t' w.laid placed taken_now w.tables
         (subst (λ (a : ℕ). IsLifted m t t' x 1 (segment_of a)) (sym address_is) go);
-    fresh = λ j off low. let no = lifted_fresh m t t' x 1 (segment_of address) go j off in
+    fresh = λ j off low. let no = lifted_fresh m t t' x 1 go j off in
         subst (SpellsUsage t' j) (sym (usage_same j)) (no.1 (w.memory.bytes (Usage j)) (w.fresh j no.0 low));
     part = part_same t t' go.used go.kept w.part;
     kept = kept_same d.content k t t' go.kept w.kept;
@@ -173,42 +173,42 @@ fetching_traces d dirty dirty' t t' k m0 m seg chunk x address bytes w file at a
 pub map_fetching : MapFetching
 unfolding left_memory taken_memory
 map_fetching d dirty t t' k m0 m seg chunk j w above go =
-    let p = left_taken d dirty t t' k m0 m seg chunk w (Map j) (map_table j) 1 (omega arith) in
+    let p = left_taken d t' k m w (Map j) (map_table j) 1 (omega arith) in
     let same : w.memory.at (Map j) ≡ t.at (Map j) = w.tables.at (Map j) refl in
     let was : 2 ≤ w.memory.at (Map j) = omega arith in
     record {
-      memory = left_memory d dirty t t' k m0 m seg chunk w (Map j) (map_table j) 1 (omega arith);
-      laid = map_lifting d.content m w.memory seg j (left_memory d dirty t t' k m0 m seg chunk w (Map j) (map_table j) 1 (omega arith))
+      memory = left_memory d t' k m w (Map j) (map_table j) 1 (omega arith);
+      laid = map_lifting d.content m w.memory seg j (left_memory d t' k m w (Map j) (map_table j) 1 (omega arith))
           w.laid (record { taken = p; bytes = refl });
       segments = w.segments;
       settled = w.settled;
-      cached = left_cached d dirty t t' k m0 m seg chunk w (Map j) (map_table j) 1 (omega arith);
+      cached = left_cached d t' k m w (Map j) (map_table j) 1 (omega arith);
       tables = lifted_tables d.content m w.memory seg (Map j) 1
-          (left_memory d dirty t t' k m0 m seg chunk w (Map j) (map_table j) 1 (omega arith)) t t' w.laid was p w.tables
+          (left_memory d t' k m w (Map j) (map_table j) 1 (omega arith)) t t' w.laid was p w.tables
           (subst (λ (a : ℕ). IsLifted m t t' (Map j) 1 (segment_of a)) (sym same) go);
-      fresh = λ i off low. let no = lifted_fresh m t t' (Map j) 1 (segment_of (t.at (Map j))) go i off in
+      fresh = λ i off low. let no = lifted_fresh m t t' (Map j) 1 go i off in
           no.1 (w.memory.bytes (Usage i)) (w.fresh i no.0 low);
       part = part_same t t' go.used go.kept w.part;
       kept = kept_same d.content k t t' go.kept w.kept;
-      opened = still_open d dirty t t' k m0 m seg chunk w (Map j) (map_table j) 1 (omega arith) chunk w.opened go.kept;
+      opened = still_open d t' k m w (Map j) (map_table j) 1 (omega arith) chunk w.opened go.kept;
     }
 
 pub map_adding : MapAdding
 unfolding left_memory taken_memory
 map_adding d dirty t t' k m0 m seg chunk j w none go =
-    let p = left_taken d dirty t t' k m0 m seg chunk w (Map j) (map_table j) 1 (omega arith) in
+    let p = left_taken d t' k m w (Map j) (map_table j) 1 (omega arith) in
     let was : w.memory.at (Map j) ≡ 0 = w.tables.at (Map j) refl ∙ none in
     let counts = unplaced_counts d.content m w.memory seg (Map j) 1
-    (left_memory d dirty t t' k m0 m seg chunk w (Map j) (map_table j) 1 (omega arith)) w.laid (omega (arith, was)) p in
+    (left_memory d t' k m w (Map j) (map_table j) 1 (omega arith)) w.laid (omega (arith, was)) p in
     record {
-      memory = left_memory d dirty t t' k m0 m seg chunk w (Map j) (map_table j) 1 (omega arith);
-      laid = map_lifting d.content m w.memory seg j (left_memory d dirty t t' k m0 m seg chunk w (Map j) (map_table j) 1 (omega arith))
+      memory = left_memory d t' k m w (Map j) (map_table j) 1 (omega arith);
+      laid = map_lifting d.content m w.memory seg j (left_memory d t' k m w (Map j) (map_table j) 1 (omega arith))
           w.laid (record { taken = p; bytes = refl });
       segments = w.segments;
       settled = w.settled;
-      cached = left_cached d dirty t t' k m0 m seg chunk w (Map j) (map_table j) 1 (omega arith);
+      cached = left_cached d t' k m w (Map j) (map_table j) 1 (omega arith);
       tables = record {
-        at = addressed t t' (Map j) 1 w.memory (left_memory d dirty t t' k m0 m seg chunk w (Map j) (map_table j) 1 (omega arith)) go.at
+        at = addressed t t' (Map j) 1 w.memory (left_memory d t' k m w (Map j) (map_table j) 1 (omega arith)) go.at
             p.at p.others w.tables.at;
         used = λ s. go.used s ∙ w.tables.used s;
         live = λ s. go.live s ∙ w.tables.live s ∙ sym (counts (is_shown m) s);
@@ -218,5 +218,5 @@ map_adding d dirty t t' k m0 m seg chunk j w none go =
           (λ q lt. (go.used (64 * i + q), go.live (64 * i + q), go.age (64 * i + q))) (w.fresh i (sym (go.stale i) ∙ off) low);
       part = part_same t t' go.used go.kept w.part;
       kept = kept_same d.content k t t' go.kept w.kept;
-      opened = still_open d dirty t t' k m0 m seg chunk w (Map j) (map_table j) 1 (omega arith) chunk w.opened go.kept;
+      opened = still_open d t' k m w (Map j) (map_table j) 1 (omega arith) chunk w.opened go.kept;
     }

@@ -18,14 +18,14 @@ use Rattle.lfs_model.proofs.Walks.{walk_to_walks, walks_once, walk_unique, Some-
 ends_are : (W : End → Type 0) (r : Option Refusal) (w : Option End) → ((e : End) → w ≡ Some e → W e) → (e : End) → ends_to r w ≡ Some e
     → MatchOption r (W e) (λ r. e ≡ Refused r)
 ends_are W None w h e is = h e is
-ends_are W (Some r) w h e is = sym (Some-injective _ _ is)
+ends_are W (Some r) w h e is = sym (Some-injective is)
 
 pub path_to_ends : (t : Tree) (p : Path) (e : End) → path_to t p ≡ Some e → PathEnds t p e
 path_to_ends t (Whole p follow) e is = ends_are (Walk t follow 1 (comps p) (slash p) 0) (text_refusal p) _
     (λ f h. walk_to_walks t follow 40 0 refl 1 (comps p) (slash p) f h) e is
 path_to_ends t (Holder p) e is = ends_are (Walk t true 1 (but_last (comps p)) true 0) (text_refusal p) _
     (λ f h. walk_to_walks t true 40 0 refl 1 (but_last (comps p)) true f h) e is
-path_to_ends t NoPath e is = sym (Some-injective _ _ is)
+path_to_ends t NoPath e is = sym (Some-injective is)
 
 are_ends : (W : End → Type 0) (r : Option Refusal) (w : Option End) → ((e : End) → W e → w ≡ Some e) → (e : End)
     → MatchOption r (W e) (λ r. e ≡ Refused r) → ends_to r w ≡ Some e
@@ -44,7 +44,7 @@ steps_with : (N : ℕ) (s : State) (call : Call) (e f : Option End) → path_to 
     → path_to s.tree (second_path_of call) ≡ f
     → (r : Answer × State) → option_and_then (λ e. option_map (λ f. outcome N s call e f) f) e ≡ Some r → Step N s call r.0 r.1
 steps_with N s call (Some e) (Some f) h k r is =
-    let same = Some-injective _ _ is in
+    let same = Some-injective is in
     record {
       first_end = e;
       second_end = f;
@@ -70,17 +70,17 @@ steps_once {N} {s} {s'} {call} {a} st =
 -- a call has one outcome at most
 pub step_unique : {N : ℕ} {s s' s'' : State} {call : Call} {a b : Answer} → Step N s call a s' → Step N s call b s'' → (a ≡ b) × (s' ≡ s'')
 step_unique {s' = s'} {s'' = s''} {a = a} {b = b} x y =
-    let same : ◌≡◌ {A = Answer × State} (a, s') (b, s'') = Some-injective _ _ (sym (steps_once x) ∙ steps_once y) in
+    let same : ◌≡◌ {A = Answer × State} (a, s') (b, s'') = Some-injective (sym (steps_once x) ∙ steps_once y) in
     (ap (λ p. p.0) same, ap (λ p. p.1) same)
 
 onto_some : (a : Answer) (o : Option (List Answer × State)) (r : List Answer × State) → onto a o ≡ Some r
     → (q : List Answer × State) × (o ≡ Some q) × (r ≡ (a ∷ q.0, q.1))
-onto_some a (Some q) r e = (q, refl, sym (Some-injective _ _ e))
+onto_some a (Some q) r e = (q, refl, sym (Some-injective e))
 onto_some a None r e = cc
 
 -- what the program computes for a list of calls is a run of steps
 pub run_to_steps : (N : ℕ) (s : State) (calls : List Call) (r : List Answer × State) → run_to N s calls ≡ Some r → Steps N s calls r.0 r.1
-run_to_steps N s [] r is = subst (λ (q : List Answer × State). Steps N s [] q.0 q.1) (Some-injective _ _ is) none
+run_to_steps N s [] r is = subst (λ (q : List Answer × State). Steps N s [] q.0 q.1) (Some-injective is) none
 run_to_steps N s (call ∷ calls) r is =
     elim (step_to N s call) as (λ o. step_to N s call ≡ o → elim o as (λ _. Option (List Answer × State))
     [ None ↦ None | Some r ↦ onto r.0 (run_to N r.1 calls) ] ≡ Some r → Steps N s (call ∷ calls) r.0 r.1) [

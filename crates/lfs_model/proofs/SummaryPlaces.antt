@@ -151,9 +151,9 @@ pub length-summary : (bs : List BlockNameValue) → FitsSummary bs → length (s
 unfolding fields summary_sector
 length-summary bs fits = let room = fits.room in length-fields (fields bs) (sized bs) ∙ omega arith
 
-pub reads_from : (s : List ℕ) (bs : List BlockNameValue) → s ≡ summary_sector bs → ReadsAs s bs
+pub reads_from : {s : List ℕ} (bs : List BlockNameValue) → s ≡ summary_sector bs → ReadsAs s bs
 unfolding fields summary_sector
-reads_from s bs e =
+reads_from {s} bs e =
     let laid : Laid s 0 (fields bs) = laid_from s 0 (fields bs) (sized bs) e in
     record { count = laid.0; gap = laid.1.0; blocks = laid.1.1.0; rest = laid.1.1.1.0 }
 
@@ -162,8 +162,8 @@ unfolding fields summary_sector
 reads_to s bs long room r = laid_to s 0 (fields bs) (omega arith) (r.count, (r.gap, (r.blocks, (r.rest, tt))))
 
 -- how many blocks there are
-pub count_of : (s : List ℕ) (bs : List BlockNameValue) → FitsSummary bs → ReadsAs s bs → read16 0 s ≡ length bs
-count_of s bs p r = let room = p.room in read16_is 0 s (length bs) (omega arith) r.count
+pub count_of : {s : List ℕ} (bs : List BlockNameValue) → FitsSummary bs → ReadsAs s bs → read16 0 s ≡ length bs
+count_of {s} bs p r = let room = p.room in read16_is 0 s (length bs) (omega arith) r.count
 
 pub block_in : (s : List ℕ) (bs : List BlockNameValue) → length s ≡ 512 → FitsSummary bs → ReadsAs s bs → (i : ℕ) → i < length bs
     → IsEntryAt (8 + 8 * i) s
@@ -205,10 +205,10 @@ summary_fits s n some room each =
 pub summary_back : (bs : List BlockNameValue) → FitsSummary bs → blocks_of (summary_sector bs) ≡ bs
 summary_back bs p =
     let s = summary_sector bs in
-    let r = reads_from s bs refl in
+    let r = reads_from {s = s} bs refl in
     let room = p.room in
     let long : length s ≡ 512 = length-summary bs p in
-    ap (λ (m : ℕ). run block_at 8 m 8 s) (count_of s bs p r)
+    ap (λ (m : ℕ). run block_at 8 m 8 s) (count_of bs p r)
     ∙ run_is block_at summary_entry Placed 8 s length-entry (λ at b room' placed e. entry_is s at b room' placed e) no_block bs 8
     (omega arith) p.each r.blocks
 
@@ -217,7 +217,7 @@ pub one_summary : (a b : List BlockNameValue) → FitsSummary a → FitsSummary 
 one_summary a b p q e = sym (summary_back a p) ∙ ap (λ (s : List ℕ). blocks_of s) e ∙ summary_back b q
 
 -- a place below the count is that of an entry
-pub place_below : (s : List ℕ) (bs : List BlockNameValue) (i : ℕ) → blocks_of s ≡ bs → i < length bs → i < read16 0 s
-place_below s bs i e lt =
+pub place_below : (s : List ℕ) {bs : List BlockNameValue} (i : ℕ) → blocks_of s ≡ bs → i < length bs → i < read16 0 s
+place_below s {bs} i e lt =
     let same : length (run block_at 8 (read16 0 s) 8 s) ≡ length bs = ap (λ (xs : List BlockNameValue). length xs) e in
     omega (arith, same, length-run block_at 8 (read16 0 s) 8 s)

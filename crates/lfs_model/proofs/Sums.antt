@@ -101,7 +101,7 @@ module _ {K X : Type 0} {R : K → K → Ordering} (o : IsTotalOrder R) (g : X �
   first_found p (f ∷ es) e h is =
       elim (p f) as (λ b. p f ≡ b → cond b (Some f) (first_that p es) ≡ Some e → (p e ≡ true) × (find R e.0 (f ∷ es) ≡ Some e.1)) [
         | true ↦ λ yes is.
-            subst (λ (e : K × X). (p e ≡ true) × (find R e.0 (f ∷ es) ≡ Some e.1)) (Some-injective f e is) (yes, find_first f es)
+            subst (λ (e : K × X). (p e ≡ true) × (find R e.0 (f ∷ es) ≡ Some e.1)) (Some-injective is) (yes, find_first f es)
         | false ↦ λ no is. let rest = first_found p es e (T_right _ _ h) is in (rest.0, find_after e.0 f es e.1 h rest.1)
       ] refl is
 

@@ -88,7 +88,7 @@ module _ (N : ℕ) (s : State) (sound : Sound N s) (d n form : ℕ) (m : Names) 
   each_kept : (P : Node → Type 0) → ((q : ℕ) (x : Node) → node t q ≡ Some x → P x) → P (Dir form (without byte_cmp nm m))
       → (q : ℕ) (x : Node) → node t1 q ≡ Some x → P x
   each_kept P was dir q x h = same_or_not q d
-      (λ e. subst P (Some-injective _ _ (sym dir_now ∙ subst (λ y. node t1 y ≡ Some x) e h)) dir)
+      (λ e. subst P (Some-injective (sym dir_now ∙ subst (λ y. node t1 y ≡ Some x) e h)) dir)
       (λ b. was q x (sym (kept q b) ∙ h))
 
   pub was_entry : (q : ℕ) (x : List ℕ) (k : ℕ) → entry t1 q x ≡ Some k → entry t q x ≡ Some k

@@ -94,9 +94,9 @@ use_read at s u l a p q r =
     ap (λ (n : ℕ). built n l a) p ∙ ap (λ (n : ℕ). built (read16 at s) n a) q ∙ ap (λ (n : ℕ). built (read16 at s) (read16 (at + 2) s) n) r
 
 -- the entries of a block that fits are those that are read
-pub use_of : (s : List ℕ) (n : ℕ) (us : List SegmentUse) → FitsUsage n us → s ≡ usage_sector us → (i : ℕ) → i < 64
+pub use_of : {s : List ℕ} (n : ℕ) (us : List SegmentUse) → FitsUsage n us → s ≡ usage_sector us → (i : ℕ) → i < 64
     → get_or us i no_use ≡ use_at (8 * i) s
-use_of s n us p e i lt =
+use_of {s} n us p e i lt =
     ap (λ (vs : List SegmentUse). get_or vs i no_use) (usage_only s n us p e) ∙ get_or-run use_at 8 64 0 s i no_use lt
     ∙ ap (λ (k : ℕ). use_at k s) (omega arith)
 

@@ -111,40 +111,39 @@ module _ (N : ℕ) where
   run_goes_on (l ∷ lines) p (a ∷ answers) [] run on few = absurd run
 
   -- an excuse that needs neither a failure nor a last number
-  excuse : (call : Call) (old new : Point) (a : Answer) (r : Refusal) → a ≡ Refuse r → IsExcused N call old new r → new.state ≡ old.state
+  excuse : (call : Call) (old new : Point) {a : Answer} (r : Refusal) → a ≡ Refuse r → IsExcused N call old new r → new.state ≡ old.state
       → old.halted ≡ false → new.failures ≤ old.failures → old.number < 2 ^ 62 → (a ≡ Refuse Stuck → ⊥)
       → PlainAnswers N call old a new
-  excuse call old new a NoMemory is e same on few low unstuck = inr (is, e, same)
-  excuse call old new a Stuck is e same on few low unstuck = absurd (unstuck is)
-  excuse call old new a Device is e same on few low unstuck = absurd (let more = e.1 in omega (arith, more, few))
-  excuse call old new a Halted is e same on few low unstuck =
+  excuse call old new NoMemory is e same on few low unstuck = inr (is, e, same)
+  excuse call old new Stuck is e same on few low unstuck = absurd (unstuck is)
+  excuse call old new Device is e same on few low unstuck = absurd (let more = e.1 in omega (arith, more, few))
+  excuse call old new Halted is e same on few low unstuck =
       ⊎_elim (λ off. absurd (cc)) (λ (more : old.failures < new.failures). absurd (omega (arith, more, few))) e
-  excuse call old new a Worn is e same on few low unstuck = absurd (let past = e.0 in omega (arith, past, low))
-  excuse call old new a NoEntry is e same on few low unstuck = absurd e
-  excuse call old new a NotDir is e same on few low unstuck = absurd e
-  excuse call old new a IsDir is e same on few low unstuck = absurd e
-  excuse call old new a Exist is e same on few low unstuck = absurd e
-  excuse call old new a NotEmpty is e same on few low unstuck = absurd e
-  excuse call old new a Inval is e same on few low unstuck = absurd e
-  excuse call old new a NameTooLong is e same on few low unstuck = absurd e
-  excuse call old new a Loop is e same on few low unstuck = absurd e
-  excuse call old new a Perm is e same on few low unstuck = absurd e
-  excuse call old new a Busy is e same on few low unstuck = absurd e
-  excuse call old new a BadHandle is e same on few low unstuck = absurd e
-  excuse call old new a TooManyOpen is e same on few low unstuck = absurd e
-  excuse call old new a TooManyLinks is e same on few low unstuck = absurd e
-  excuse call old new a FileTooBig is e same on few low unstuck = absurd e
-  excuse call old new a NoSpace is e same on few low unstuck = absurd e
-  excuse call old new a NoNumber is e same on few low unstuck = absurd e
-  excuse call old new a DirFull is e same on few low unstuck = absurd e
+  excuse call old new Worn is e same on few low unstuck = absurd (let past = e.0 in omega (arith, past, low))
+  excuse call old new NoEntry is e same on few low unstuck = absurd e
+  excuse call old new NotDir is e same on few low unstuck = absurd e
+  excuse call old new IsDir is e same on few low unstuck = absurd e
+  excuse call old new Exist is e same on few low unstuck = absurd e
+  excuse call old new NotEmpty is e same on few low unstuck = absurd e
+  excuse call old new Inval is e same on few low unstuck = absurd e
+  excuse call old new NameTooLong is e same on few low unstuck = absurd e
+  excuse call old new Loop is e same on few low unstuck = absurd e
+  excuse call old new Perm is e same on few low unstuck = absurd e
+  excuse call old new Busy is e same on few low unstuck = absurd e
+  excuse call old new BadHandle is e same on few low unstuck = absurd e
+  excuse call old new TooManyOpen is e same on few low unstuck = absurd e
+  excuse call old new TooManyLinks is e same on few low unstuck = absurd e
+  excuse call old new FileTooBig is e same on few low unstuck = absurd e
+  excuse call old new NoSpace is e same on few low unstuck = absurd e
+  excuse call old new NoNumber is e same on few low unstuck = absurd e
+  excuse call old new DirFull is e same on few low unstuck = absurd e
 
   plain_line : (line : Line) (old new : Point) (a : Answer) → LineAnswers N line old a new → old.halted ≡ false
       → new.failures ≤ old.failures → old.number < 2 ^ 62 → (a ≡ Refuse Stuck → ⊥)
       → PlainAnswers N (call_of line) old a new
   plain_line line old new a (inl answers) on few low unstuck = ⊎_elim
       (λ step. inl step.0)
-      (λ refused. excuse (call_of line) old new a refused.0 refused.1 refused.2 refused.3 on few low unstuck)
-      answers.steps
+      (λ refused. excuse (call_of line) old new refused.0 refused.1 refused.2 refused.3 on few low unstuck) answers.steps
   plain_line line old new a (inr lacks) on few low unstuck = inr (lacks.1, word_takes line lacks.0, ap (λ (x : Point). x.state) lacks.2)
 
   pub plain_run : (lines : List Line) (p : Point) (answers : List Answer) (points : List Point) → LineRun N p lines answers points
@@ -168,7 +167,7 @@ module _ (N : ℕ) where
 pub begins_new : (version N : ℕ) (d d' : DeviceState) → BeginsNew version N d d'
 begins_new version N d d' new lines answers u =
     let same : u.stands.checkpoint ≡ first_checkpoint version N =
-    Some-injective u.stands.checkpoint (first_checkpoint version N) (sym u.stands.found ∙ (formatted version N d.content new).0) in (
+    Some-injective (sym u.stands.found ∙ (formatted version N d.content new).0) in (
       u.same_segments ∙ ap (λ (k : CheckpointValue). k.segments) same,
       u.same_number ∙ ap (λ (k : CheckpointValue). k.number) same,
       single_state d.content u.first.state (new_point version d.failures).state u.stands (new_volume version N d.content new),
@@ -184,12 +183,12 @@ new_is_pending version N d new alone c left =
       subst (Stands c) (sym same) (subst (λ (x : Content). Stands x (new_point version d.failures).state) (sym (alone c left)) stands),
     )
 
-pub uses_are_plain : (d d' : DeviceState) → IsLawful d' → UsesArePlain d d'
-uses_are_plain d d' lawful keeps none k newest low lines answers u =
+pub uses_are_plain : (d : DeviceState) {d' : DeviceState} → IsLawful d' → UsesArePlain d d'
+uses_are_plain d {d'} lawful keeps none k newest low lines answers u =
     let few : (final u.first u.points).failures ≤ u.first.failures =
     (let before = u.failures_before in let after = u.failures_after in omega (arith, before, after, none)) in
     let on = run_goes_on u.segments lines u.first answers u.points u.run u.running few in
     let number = u.number_after on d'.content (lawful.present keeps) in
-    let same : number.0 ≡ k = Some-injective number.0 k (sym number.1 ∙ newest) in
+    let same : number.0 ≡ k = Some-injective (sym number.1 ∙ newest) in
     plain_run u.segments lines u.first answers u.points u.run u.running few
     (let n = number.2 in let l = ap (λ (x : CheckpointValue). x.number) same in omega (arith, n, l, low)) u.unstuck

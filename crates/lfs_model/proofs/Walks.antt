@@ -93,8 +93,8 @@ look_name t d p is = rw (apart p dot is.not_dot, apart p dot_dot is.not_dot_dot,
 pub look_gives : {t : Tree} {d : ℕ} {p : List ℕ} {n : ℕ} {x : Node} → Gives t d p n x → look t d p ≡ seen_node n (Some x)
 look_gives {t} {d} {p} {n} {x} g = look_name t d p g.is_name ∙ ap (seen_entry t) g.is_there ∙ ap (seen_node n) g.is_node
 
-pub Some-injective : {A : Type 0} (x y : A) → Some x ≡ Some y → x ≡ y
-Some-injective x y e = cc
+pub Some-injective : {A : Type 0} {x y : A} → Some x ≡ Some y → x ≡ y
+Some-injective e = cc
 
 -- ---- what the program computes is a walk
 
@@ -110,13 +110,13 @@ module _ (t : Tree) (follow : Bool) (k : ℕ) (again : ℕ → List (List ℕ) �
       → Walk t follow d (p ∷ ps) s k e
   turn_walks fs d p ps s e go Here m is = stays m (go d e is)
   turn_walks fs d p ps s e go Above m is = goes_up m (go (up t d) e is)
-  turn_walks fs d p ps s e go TooLong m is = subst (λ f. Walk t follow d (p ∷ ps) s k f) (Some-injective _ _ is) (too_long m)
-  turn_walks fs d p ps s e go Absent m is = subst (λ f. Walk t follow d (p ∷ ps) s k f) (Some-injective _ _ is) (not_there m.0 m.1)
+  turn_walks fs d p ps s e go TooLong m is = subst (λ f. Walk t follow d (p ∷ ps) s k f) (Some-injective is) (too_long m)
+  turn_walks fs d p ps s e go Absent m is = subst (λ f. Walk t follow d (p ∷ ps) s k f) (Some-injective is) (not_there m.0 m.1)
   turn_walks fs d p ps s e go (ADir n) m is = directory m.2 (go n e is)
   turn_walks fs d p ps s e go (AFile n) m is =
       elim (more ps s) as (λ b. more ps s ≡ b → Some (if b then Refused NotDir else At n) ≡ Some e → Walk t follow d (p ∷ ps) s k e) [
-        | true ↦ λ h is. subst (λ f. Walk t follow d (p ∷ ps) s k f) (Some-injective _ _ is) (not_dir m.1 h)
-        | false ↦ λ h is. subst (λ f. Walk t follow d (p ∷ ps) s k f) (Some-injective _ _ is) (file m.1 h)
+        | true ↦ λ h is. subst (λ f. Walk t follow d (p ∷ ps) s k f) (Some-injective is) (not_dir m.1 h)
+        | false ↦ λ h is. subst (λ f. Walk t follow d (p ∷ ps) s k f) (Some-injective is) (file m.1 h)
       ] refl is
   turn_walks fs d p ps s e go (ALink n text) m is =
       elim (more ps s || follow) as (λ b. (more ps s || follow) ≡ b → elim b as (λ _. Option End) [
@@ -125,13 +125,13 @@ module _ (t : Tree) (follow : Bool) (k : ℕ) (again : ℕ → List (List ℕ) �
         | false ↦ Some (At n)
       ] ≡ Some e → Walk t follow d (p ∷ ps) s k e) [
         | true ↦ λ h is. fs d n text p ps s e m h is
-        | false ↦ λ h is. subst (λ f. Walk t follow d (p ∷ ps) s k f) (Some-injective _ _ is) (link m h)
+        | false ↦ λ h is. subst (λ f. Walk t follow d (p ∷ ps) s k f) (Some-injective is) (link m h)
       ] refl is
   turn_walks fs d p ps s e go Nowhere m is = cc
 
   walk_in_walks : Follows → (ps : List (List ℕ)) (d : ℕ) (s : Bool) (e : End) → walk_in t follow again d ps s ≡ Some e
       → Walk t follow d ps s k e
-  walk_in_walks fs [] d s e is = subst (λ f. Walk t follow d [] s k f) (Some-injective _ _ is) no_piece
+  walk_in_walks fs [] d s e is = subst (λ f. Walk t follow d [] s k f) (Some-injective is) no_piece
   walk_in_walks fs (p ∷ ps) d s e is = turn_walks fs d p ps s e (λ to f h. walk_in_walks fs ps to s f h) (look t d p) (look_means t d p) is
 
 -- with n links left, k being followed
@@ -139,7 +139,7 @@ pub walk_to_walks : (t : Tree) (follow : Bool) (n k : ℕ) → k + n ≡ 40 → 
     → walk_to n t follow d ps s ≡ Some e → Walk t follow d ps s k e
 walk_to_walks t follow zero k all d ps s e is =
     walk_in_walks t follow k (λ d ps s. Some (Refused Loop))
-    (λ d n text p ps s e g h is. subst (λ f. Walk t follow d (p ∷ ps) s k f) (Some-injective _ _ is) (loops g h (omega arith))) ps d s e is
+    (λ d n text p ps s e g h is. subst (λ f. Walk t follow d (p ∷ ps) s k f) (Some-injective is) (loops g h (omega arith))) ps d s e is
 walk_to_walks t follow (suc n) k all d ps s e is =
     walk_in_walks t follow k (walk_to n t follow)
     (λ d m text p ps s e g h is. followed g h (omega arith) (walk_to_walks t follow n (k + 1) (omega arith) _ _ _ e is)) ps d s e is
@@ -217,4 +217,4 @@ walks_once {t} {follow} (followed {ps = ps} {s = s} g h room w) (suc n) all = li
 -- from one place a walk has one end at most
 pub walk_unique : {t : Tree} {follow : Bool} {d : ℕ} {ps : List (List ℕ)} {s : Bool} {k : ℕ} {e f : End} → k ≤ 40 → Walk t follow d ps s k e
     → Walk t follow d ps s k f → e ≡ f
-walk_unique {k = k} few w v = Some-injective _ _ (sym (walks_once w (40 - k) (omega arith)) ∙ walks_once v (40 - k) (omega arith))
+walk_unique {k = k} few w v = Some-injective (sym (walks_once w (40 - k) (omega arith)) ∙ walks_once v (40 - k) (omega arith))

@@ -101,5 +101,5 @@ widen_at N s sound (At n) =
     widened_sound N s n (form_of (node s.tree n)) (names_in s.tree n) sound (dir_at (node s.tree n) dir)
     (not_1 s.version sound.version ok.1.0) fits)
 
-pub widen_keeps : (N : ℕ) (s s' : State) (p : List ℕ) (a : Answer) → Sound N s → Step N s (Widen p) a s' → Sound N s'
-widen_keeps N s s' p a sound st = subst (Sound N) st.state (widen_at N s sound st.first_end)
+pub widen_keeps : (N : ℕ) (s : State) {s' : State} (p : List ℕ) (a : Answer) → Sound N s → Step N s (Widen p) a s' → Sound N s'
+widen_keeps N s p a sound st = subst (Sound N) st.state (widen_at N s sound st.first_end)

@@ -119,8 +119,8 @@ use_none n s b i le lt =
       age = sym w.age ∙ none.1;
     }
 
-pub usage_block_some : (s : List ℕ) (n : ℕ) → IsBytes s → length s ≡ 512 → IsUsageBlock n s → usage_in n s ≡ Some (usage_of s)
-usage_block_some s n bytes long b = usage_some s n (usage_of s) fits (usage_spelled s bytes long)
+pub usage_block_some : (s : List ℕ) {n : ℕ} → IsBytes s → length s ≡ 512 → IsUsageBlock n s → usage_in n s ≡ Some (usage_of s)
+usage_block_some s {n} bytes long b = usage_some s n (usage_of s) fits (usage_spelled s bytes long)
   where
     fits : FitsUsage n (usage_of s)
     fits = record {

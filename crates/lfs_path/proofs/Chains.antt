@@ -19,8 +19,8 @@ pub in_directory : (m : LogMap) (chain : List ℕ) → InChain chain m → InDir
 in_directory m chain is = record { tree = is.tree; directory = chain_directory (tree_in m) chain is.tree.root is.directories }
 
 -- ---- dot
-pub dot_leads : (m : LogMap) (piece chain : List ℕ) → piece ≡ dot → InChain chain m → Leads piece chain chain m
-dot_leads m piece chain same is = record { directories = is.directories; walks = λ follow ps s k e w. stays same w }
+pub dot_leads : {m : LogMap} {piece chain : List ℕ} → piece ≡ dot → InChain chain m → Leads piece chain chain m
+dot_leads same is = record { directories = is.directories; walks = λ follow ps s k e w. stays same w }
 
 -- ---- dot-dot
 risen_chain : (t : Tree) (chain : List ℕ) → IsChain t chain → IsChain t (risen chain) × (here (risen chain) ≡ up t (here chain))
@@ -28,9 +28,10 @@ risen_chain t [] is = absurd is
 risen_chain t (d ∷ []) is = (is, is ∙ sym (ap (up t) is))
 risen_chain t (d ∷ above ∷ rest) is = (is.2, sym is.0)
 
-pub dot_dot_leads : (m : LogMap) (piece chain chain' : List ℕ) → piece ≡ dot_dot → chain' ≡ risen chain → InChain chain m
+pub dot_dot_leads : (m : LogMap) {piece : List ℕ} (chain : List ℕ) {chain' : List ℕ} → piece ≡ dot_dot → chain' ≡ risen chain
+    → InChain chain m
     → Leads piece chain chain' m
-dot_dot_leads m piece chain chain' same up_there is =
+dot_dot_leads m chain same up_there is =
     let risen_is = risen_chain (tree_in m) chain is.directories in
     record {
       directories = subst (IsChain (tree_in m)) (sym up_there) risen_is.0;
@@ -42,9 +43,10 @@ down_chain : (t : Tree) (chain : List ℕ) (n : ℕ) → up t n ≡ here chain �
 down_chain t [] n above dir is = absurd is
 down_chain t (d ∷ rest) n above dir is = (above, dir, is)
 
-pub name_leads : (m : LogMap) (piece chain chain' : List ℕ) (n form : ℕ) (ns : Names) → Gives (tree_in m) (here chain) piece n (Dir form ns)
+pub name_leads : (m : LogMap) (piece chain : List ℕ) {chain' : List ℕ} {n form : ℕ} {ns : Names}
+    → Gives (tree_in m) (here chain) piece n (Dir form ns)
     → chain' ≡ n ∷ chain → InChain chain m → Leads piece chain chain' m
-name_leads m piece chain chain' n form ns gives down is = record {
+name_leads m piece chain {n} gives down is = record {
   directories = subst (IsChain (tree_in m)) (sym down) (down_chain (tree_in m) chain n above dir is.directories);
   walks = λ follow ps s k e w. directory gives (subst (λ (d : ℕ). Walk (tree_in m) follow d ps s k e) (ap here down) w);
 }
@@ -59,4 +61,4 @@ name_leads m piece chain chain' n form ns gives down is = record {
         omega (arith, counts, none)
 
     above : up (tree_in m) n ≡ here chain
-    above = up_is (tree_in m) (in_order m) (here chain) n piece gives.is_there not_root (is.tree.one_name n not_root dir)
+    above = up_is (tree_in m) (in_order m) n piece gives.is_there not_root (is.tree.one_name n not_root dir)

@@ -42,7 +42,7 @@ module _ (m : LogMap) where
       by : (o : Option entries.Header) → m.header n ≡ o → node_of m n (m.header n) ≡ Some x → HasNode n x
       by None none at = let a : node_of m n (m.header n) ≡ None = ap (node_of m n) none in absurd (cc)
       by (Some h) there at =
-          record { head = h; is = there; same = Some-injective (node_by m h.kind n h) x (sym (ap (node_of m n) there) ∙ at) }
+          record { head = h; is = there; same = Some-injective (sym (ap (node_of m n) there) ∙ at) }
 
   kind_is : (n : ℕ) (k : Kind) (h : entries.Header) → is_dir (Some (node_by m k n h)) ≡ true → k ≡ kind.Directory
   kind_is n kind.File h is = cc
@@ -72,7 +72,7 @@ module _ (m : LogMap) where
       directory_kind : head.kind ≡ kind.Directory
       directory_kind =
           let a = directory_header d within.directory in
-          let same : a.head ≡ as_header head = Some-injective a.head (as_header head) (sym a.is ∙ is) in
+          let same : a.head ≡ as_header head = Some-injective (sym a.is ∙ is) in
           sym (ap (λ (h : entries.Header). h.kind) same) ∙ a.kind
 
       there : node (tree_in m) d ≡ Some (Dir head.form (names_at m d head))
@@ -87,8 +87,8 @@ module _ (m : LogMap) where
       pub long_name : (name : List ℕ) → name_len head.form < length name → EndsAtPiece d name (tree_in m) (Refused refusals.NameTooLong)
       long_name name long follow ps s k = let most = limit in too_long (omega (arith, most, long))
 
-      pub entry_is : (name : List ℕ) (found : Option ℕ) → found ≡ find byte_cmp name (names_at m d head) → entry (tree_in m) d name ≡ found
-      entry_is name found answer = ap (λ (o : Option Node). find byte_cmp name (names_of (unwrap_or o (File [])))) there ∙ sym answer
+      pub entry_is : (name : List ℕ) {found : Option ℕ} → found ≡ find byte_cmp name (names_at m d head) → entry (tree_in m) d name ≡ found
+      entry_is name answer = ap (λ (o : Option Node). find byte_cmp name (names_of (unwrap_or o (File [])))) there ∙ sym answer
 
       pub names_are : names_in (tree_in m) d ≡ names_at m d head
       names_are = ap (λ (o : Option Node). names_of (unwrap_or o (File []))) there
@@ -105,14 +105,14 @@ module _ (m : LogMap) where
 
         pub no_name : length name ≤ name_len head.form → None ≡ find byte_cmp name (names_at m d head)
             → EndsAtPiece d name (tree_in m) (Refused refusals.NoEntry)
-        no_name short answer follow ps s k = not_there (looked_up short) (entry_is name None answer)
+        no_name short answer follow ps s k = not_there (looked_up short) (entry_is name answer)
 
-        pub is_name : length name ≤ name_len head.form → (n : ℕ) → Some n ≡ find byte_cmp name (names_at m d head) → NamesObject d name n m
-        is_name short n answer = record { is_name = looked_up short; is_there = entry_is name (Some n) answer }
+        pub is_name : length name ≤ name_len head.form → {n : ℕ} → Some n ≡ find byte_cmp name (names_at m d head) → NamesObject d name n m
+        is_name short {n} answer = record { is_name = looked_up short; is_there = entry_is name answer }
 
   -- ---- what a name gives
-  pub named_object : (d : ℕ) (name : List ℕ) (n : ℕ) → HasTree m → NamesObject d name n m → HasObject n m
-  named_object d name n tree named none = tree.there d name n named.is_there (no_node n none)
+  pub named_object : (d : ℕ) (name : List ℕ) {n : ℕ} → HasTree m → NamesObject d name n m → HasObject n m
+  named_object d name {n} tree named none = tree.there d name n named.is_there (no_node n none)
     where
       no_node : (n : ℕ) → m.header n ≡ None → node (tree_in m) n ≡ None
       no_node n none = ⊎_elim
@@ -123,10 +123,10 @@ module _ (m : LogMap) where
           (cases_lt 4095 n))
           (cases_lt n 1)
 
-  module _ (d : ℕ) (name : List ℕ) (n : FileNumber) (tree : HasTree m) (named : NamesObject d name n.value m) (head : Header)
+  module _ (d : ℕ) {name : List ℕ} (n : FileNumber) (tree : HasTree m) (named : NamesObject d name n.value m) (head : Header)
       (is : HasHeader n.value head m) where
-    gives : (k : Kind) → head.kind ≡ k → Gives (tree_in m) d name n.value (node_by m k n.value (as_header head))
-    gives k same =
+    gives : {k : Kind} → head.kind ≡ k → Gives (tree_in m) d name n.value (node_by m k n.value (as_header head))
+    gives {k} same =
         let number = (tree.headers n.value (as_header head) is).number in
         record {
           is_name = named.is_name;
@@ -136,10 +136,10 @@ module _ (m : LogMap) where
         }
 
     pub gives_file : head.kind ≡ kind.File → IsSeen d name (seen.File n) m
-    gives_file same = (object m n.value (as_header head), gives kind.File same)
+    gives_file same = (object m n.value (as_header head), gives same)
 
     pub gives_directory : head.kind ≡ kind.Directory → IsSeen d name (seen.Directory n) m
-    gives_directory same = (head.form, names_at m n.value head, gives kind.Directory same)
+    gives_directory same = (head.form, names_at m n.value head, gives same)
 
     pub gives_link : head.kind ≡ kind.Link → Gives (tree_in m) d name n.value (Link (object m n.value (as_header head)))
-    gives_link same = gives kind.Link same
+    gives_link same = gives same

@@ -15,7 +15,7 @@ use Rattle.lfs_path.specs.declared.seen.Link.{Link}
 
 -- ---- bytes
 -- the bytes of a block come behind those of the blocks before it
-module _ (m : LogMap) (n index count : ℕ) (old new : List ℕ) (at : length old ≡ 512 * index) (few : count ≤ 512)
+module _ (m : LogMap) (n : ℕ) {index count : ℕ} (old new : List ℕ) (at : length old ≡ 512 * index) (few : count ≤ 512)
     (is : HasTaken m n index count old new) where
   cut_long : length (take count is.block) ≡ count
   cut_long = let long = is.holds.long in let cut = length-take count is.block in omega (arith, long, cut, few)
@@ -48,25 +48,25 @@ module _ {S D : Type 0} (n size : ℕ) where
     pub reads : Reads s s'
     pub read : (m m' : LogMap) → s'.device.keeps_model → s.has m m' → HasRead m' n size index text
 
-  module _ (s a b : FilesState S D) (index count : ℕ) (old new : List ℕ) (low : 512 * index < size)
+  module _ {s a b : FilesState S D} {index count : ℕ} {old new : List ℕ} (low : 512 * index < size)
       (is : count ≡ min (size - 512 * index) 512) (was : ReadTo s a index old) where
     pub read_goes_on : IsLawful s.device → Reads a b → TakesBytes a b n index count old new → ReadTo s b (index + 1) new
     read_goes_on lawful reads takes = record {
-      reads = reads_more s a b lawful was.reads reads;
+      reads = reads_more lawful was.reads reads;
       read = λ m m' keeps has.
           let before = was.read m m' (reads.looks.carries.kept_before keeps) has in
           let long = before.long in
           let at : length old ≡ 512 * index = omega (arith, long, low) in
           let few : count ≤ 512 = omega (arith, is) in
           let taken = takes m m' keeps (was.reads.has m m' has) in
-          let longer = taken_long m' n index count old new at few taken in
-          record { long = omega (arith, longer, is, low); bytes = taken_bytes m' n index count old new at few taken before.bytes };
+          let longer = taken_long m' n old new at few taken in
+          record { long = omega (arith, longer, is, low); bytes = taken_bytes m' n old new at few taken before.bytes };
     }
 
 module _ {S D : Type 0} where
-  pub read_ends : (s s' : FilesState S D) (l : Link) (index : ℕ) (text : List ℕ) → l.header.size ≤ 512 * index
+  pub read_ends : {s s' : FilesState S D} (l : Link) {index : ℕ} {text : List ℕ} → l.header.size ≤ 512 * index
       → ReadTo l.number.value l.header.size s s' index text → ReadsText s s' l text
-  read_ends s s' l index text past was m m' keeps has =
+  read_ends l {text} past was m m' keeps has =
       let all = was.read m m' keeps has in
       let long = all.long in
       object_is m' l.number.value (as_header l.header) text (omega (arith, long, past))

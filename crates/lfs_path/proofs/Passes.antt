@@ -13,20 +13,19 @@ use Rattle.lfs_path.specs.Trees.{InChain, InDirectory, here, risen}
 use Rattle.lfs_path.specs.declared.seen.Seen.TheVariants as seen
 use Rattle.lfs_path.proofs.Chains.{dot_dot_leads, dot_leads, in_directory, name_leads}
 
-module _ {S D : Type 0} (s s' : FilesState S D) (d : ℕ) (piece chain : List ℕ) (at : d ≡ here chain) where
-  within : (m : LogMap) → InChain chain m → InDirectory d m
-  within m is = subst (λ (n : ℕ). InDirectory n m) (sym at) (in_directory m chain is)
+module _ {S D : Type 0} (s s' : FilesState S D) {d : ℕ} (piece chain : List ℕ) (at : d ≡ here chain) where
+  within : {m : LogMap} → InChain chain m → InDirectory d m
+  within {m} is = subst (λ (n : ℕ). InDirectory n m) (sym at) (in_directory m chain is)
 
   pub here_passes : Tells s s' (InDirectory d) (IsSeen d piece seen.Here) → Tells s s' (InChain chain) (Leads piece chain chain)
-  here_passes sees m m' keeps has is = dot_leads m' piece chain (sees m m' keeps has (within m' is)) is
+  here_passes sees m m' keeps has is = dot_leads (sees m m' keeps has (within is)) is
 
-  pub above_passes : (chain' : List ℕ) → chain' ≡ risen chain → Tells s s' (InDirectory d) (IsSeen d piece seen.Above)
+  pub above_passes : {chain' : List ℕ} → chain' ≡ risen chain → Tells s s' (InDirectory d) (IsSeen d piece seen.Above)
       → Tells s s' (InChain chain) (Leads piece chain chain')
-  above_passes chain' up_there sees m m' keeps has is = dot_dot_leads m' piece chain chain' (sees m m' keeps has (within m' is)) up_there is
+  above_passes {chain'} up_there sees m m' keeps has is = dot_dot_leads m' chain (sees m m' keeps has (within is)) up_there is
 
-  pub name_passes : (chain' : List ℕ) (n : FileNumber) → chain' ≡ n.value ∷ chain
+  pub name_passes : {chain' : List ℕ} (n : FileNumber) → chain' ≡ n.value ∷ chain
       → Tells s s' (InDirectory d) (IsSeen d piece (seen.Directory n)) → Tells s s' (InChain chain) (Leads piece chain chain')
-  name_passes chain' n down sees m m' keeps has is =
-      let given = sees m m' keeps has (within m' is) in
-      name_leads m' piece chain chain' n.value given.0 given.1
-      (subst (λ (a : ℕ). Gives (tree_in m') a piece n.value (Dir given.0 given.1)) at given.2) down is
+  name_passes {chain'} n down sees m m' keeps has is =
+      let given = sees m m' keeps has (within is) in
+      name_leads m' piece chain (subst (λ (a : ℕ). Gives (tree_in m') a piece n.value (Dir given.0 given.1)) at given.2) down is

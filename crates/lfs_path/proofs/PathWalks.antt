@@ -58,20 +58,20 @@ module _ (slash_end follow : Bool) (path : List ℕ) where
     pub directories : IsChain (tree_in m) chain
     pub walks : (e : End) → WalksText slash_end follow (here chain) text links (tree_in m) e → EndsPath slash_end follow path (tree_in m) e
 
-  module _ (m : LogMap) (chain text chain' : List ℕ) (links : ℕ) (l : Link) (rest : List ℕ) (was : GoesOn chain text links m)
+  module _ (m : LogMap) {chain text : List ℕ} (chain' : List ℕ) {links : ℕ} (l : Link) {rest : List ℕ} (was : GoesOn chain text links m)
       (meets : MeetsLink slash_end follow (here chain) text (here chain') l rest m) where
-    at_link : (e : End) → Walk (tree_in m) follow (here chain') (meets.piece ∷ comps rest) (slash_end || slash rest) links e
+    at_link : {e : End} → Walk (tree_in m) follow (here chain') (meets.piece ∷ comps rest) (slash_end || slash rest) links e
         → EndsPath slash_end follow path (tree_in m) e
-    at_link e w = was.walks e (meets.walks links e w)
+    at_link {e} w = was.walks e (meets.walks links e w)
 
     pub too_many : 40 ≤ links → EndsPath slash_end follow path (tree_in m) (Refused refusals.Loop)
-    too_many full = at_link (Refused refusals.Loop) (loops meets.gives meets.goes full)
+    too_many full = at_link (loops meets.gives meets.goes full)
 
-    pub link_goes_on : IsChain (tree_in m) chain' → links < 40 → (chain'' text' : List ℕ) → text' ≡ text_of m l ++ rest
+    pub link_goes_on : IsChain (tree_in m) chain' → links < 40 → {chain'' : List ℕ} (text' : List ℕ) → text' ≡ text_of m l ++ rest
         → chain'' ≡ started (text_of m l) chain' → GoesOn chain'' text' (links + 1) m
-    link_goes_on directories room chain'' text' left from = record {
+    link_goes_on directories room {chain''} text' left from = record {
       directories = subst (IsChain (tree_in m)) (sym from) (started_chain (tree_in m) (text_of m l) chain' directories);
-      walks = λ e w. at_link e (followed meets.gives meets.goes room (turned e w));
+      walks = λ e w. at_link (followed meets.gives meets.goes room (turned e w));
     }
       where
         behind : IsRest rest
@@ -100,14 +100,15 @@ module _ {S D : Type 0} (slash_end follow : Bool) (path : List ℕ) where
     pub few : links ≤ 40
     pub goes : Tells s s' HasTree (GoesOn slash_end follow path chain text links)
 
-  module _ (s a b : FilesState S D) (chain text chain' : List ℕ) (links : ℕ) (was : ComesOn s a chain text links) (reads : Reads a b) where
-    goes_at : (m m' : LogMap) → b.device.keeps_model → s.has m m' → HasTree m' → GoesOn slash_end follow path chain text links m'
-    goes_at m m' keeps has tree = was.goes m m' (reads.looks.carries.kept_before keeps) has tree
+  module _ {s a b : FilesState S D} {chain text : List ℕ} (chain' : List ℕ) {links : ℕ} (was : ComesOn s a chain text links)
+      (reads : Reads a b) where
+    goes_at : (m : LogMap) {m' : LogMap} → b.device.keeps_model → s.has m m' → HasTree m' → GoesOn slash_end follow path chain text links m'
+    goes_at m {m'} keeps has tree = was.goes m m' (reads.looks.carries.kept_before keeps) has tree
 
     in_chain : (m m' : LogMap) → b.device.keeps_model → s.has m m' → HasTree m' → InChain chain m'
-    in_chain m m' keeps has tree = record { tree = tree; directories = (goes_at m m' keeps has tree).directories }
+    in_chain m m' keeps has tree = record { tree = tree; directories = (goes_at m keeps has tree).directories }
 
-    module _ (l : Link) (r : Bor (List ℕ)) (seen : List ℕ) (value : seen ≡ text)
+    module _ (l : Link) (r : Bor (List ℕ)) {seen : List ℕ} (value : seen ≡ text)
         (told : Tells a b (InChain chain) (StopsAtLink slash_end follow chain seen chain' (stop.Followed l r))) where
       stops : (m m' : LogMap) → b.device.keeps_model → s.has m m' → InChain chain m'
           → IsChain (tree_in m') chain' × MeetsLink slash_end follow (here chain) text (here chain') l r.now m'
@@ -118,18 +119,17 @@ module _ {S D : Type 0} (slash_end follow : Bool) (path : List ℕ) where
       pub walk_loops : 40 ≤ links → TellsRefusal s b HasTree (EndsPath slash_end follow path) Loop
       walk_loops full m m' keeps has tree =
           let x = stops m m' keeps has (in_chain m m' keeps has tree) in
-          too_many slash_end follow path m' chain text chain' links l r.now (goes_at m m' keeps has tree) x.1 full
+          too_many slash_end follow path m' chain' l (goes_at m keeps has tree) x.1 full
 
-      module _ (c : FilesState S D) (again : Reads b c) where
-        pub walk_goes_on : IsLawful s.device → links < 40 → (chain'' text' : List ℕ) → Follows b c l r.now chain' chain'' text'
+      module _ {c : FilesState S D} (again : Reads b c) where
+        pub walk_goes_on : IsLawful s.device → links < 40 → {chain'' text' : List ℕ} → Follows b c l r.now chain' chain'' text'
             → ComesOn s c chain'' text' (links + 1)
-        walk_goes_on lawful room chain'' text' follows = record {
-          reads = reads_more s b c lawful (reads_more s a b lawful was.reads reads) again;
+        walk_goes_on lawful room {chain''} {text'} follows = record {
+          reads = reads_more lawful (reads_more lawful was.reads reads) again;
           few = omega (arith, room);
           goes = λ m m' keeps has tree.
               let before = again.looks.carries.kept_before keeps in
               let x = stops m m' before has (in_chain m m' before has tree) in
               let left = follows m m' keeps (reads.has m m' (was.reads.has m m' has)) in
-              link_goes_on slash_end follow path m' chain text chain' links l r.now (goes_at m m' before has tree) x.1 x.0 room chain''
-              text' left.0 left.1;
+              link_goes_on slash_end follow path m' chain' l (goes_at m before has tree) x.1 x.0 room text' left.0 left.1;
         }

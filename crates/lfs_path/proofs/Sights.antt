@@ -19,9 +19,9 @@ use Rattle.lfs_path.proofs.InTrees.{no_name}
 
 module _ {S D : Type 0} where
   -- what failed behind a call that read
-  pub fails_then : (s a b : FilesState S D) (P Q : LogMap → Type 0) → Reads s a
+  pub fails_then : {s a : FilesState S D} (b : FilesState S D) (P Q : LogMap → Type 0) → Reads s a
       → ((m m' : LogMap) → b.device.keeps_model → s.has m m' → P m' → Q m') → TellsFault a b Q → TellsFault s b P
-  fails_then s a b P Q one so failed m m' keeps has p =
+  fails_then b P Q one so failed m m' keeps has p =
       let rose = failed m m' keeps (one.has m m' has) (so m m' keeps has p) in
       let before = one.looks.carries.failures in
       omega (arith, rose, before)
@@ -34,7 +34,7 @@ module _ {S D : Type 0} where
   header_failed s a d failed m m' keeps has within = failed m m' keeps has (is_object m' d within)
 
   -- ---- a name looked up in directory d
-  module _ (s a b : FilesState S D) (d : ℕ) (head : Header) (one : Reads s a) (two : Reads a b)
+  module _ {s a b : FilesState S D} (d : ℕ) (head : Header) (one : Reads s a) (two : Reads a b)
       (read : Tells s a (λ m. Unit {0}) (HasHeader d head)) where
     header_is : (m m' : LogMap) → b.device.keeps_model → s.has m m' → HasHeader d head m'
     header_is m m' keeps has = read m m' (two.looks.carries.kept_before keeps) has tt
@@ -42,7 +42,7 @@ module _ {S D : Type 0} where
     pub found : (name : List ℕ) (f : Found) → (name ≢ dot) × (name ≢ dot_dot) → length name ≤ name_len head.form
         → Finds a b d head name (Some f) → Tells s b (InDirectory d) (NamesObject d name f.number.value)
     found name f dots short finds m m' keeps has within =
-        is_name m' d within head (header_is m m' keeps has) name dots short f.number.value (finds m m' keeps (one.has m m' has))
+        is_name m' d within head (header_is m m' keeps has) name dots short (finds m m' keeps (one.has m m' has))
 
     pub found_none : (name : List ℕ) → (name ≢ dot) × (name ≢ dot_dot) → length name ≤ name_len head.form → Finds a b d head name None
         → TellsRefusal s b (InDirectory d) (EndsAtPiece d name) NoEntry
@@ -56,27 +56,27 @@ module _ {S D : Type 0} where
         omega (arith, rose, before)
 
   -- ---- what it gives
-  module _ (s a b : FilesState S D) (d : ℕ) (n : FileNumber) (name : List ℕ) (one : Reads s a) (two : Reads a b)
+  module _ {s a b : FilesState S D} (d : ℕ) (n : FileNumber) (name : List ℕ) (one : Reads s a) (two : Reads a b)
       (named : Tells s a (InDirectory d) (NamesObject d name n.value)) where
     pub object_failed : TellsFault a b (HasObject n.value) → TellsFault s b (InDirectory d)
-    object_failed = fails_then s a b (InDirectory d) (HasObject n.value) one
-        (λ m m' keeps has within. named_object m' d name n.value within.tree (named m m' (two.looks.carries.kept_before keeps) has within))
+    object_failed = fails_then b (InDirectory d) (HasObject n.value) one
+        (λ m m' keeps has within. named_object m' d name within.tree (named m m' (two.looks.carries.kept_before keeps) has within))
 
     module _ (head : Header) (read : Tells a b (λ m. Unit {0}) (HasHeader n.value head)) where
-      named_at : (m m' : LogMap) → b.device.keeps_model → s.has m m' → InDirectory d m' → NamesObject d name n.value m'
-      named_at m m' keeps has within = named m m' (two.looks.carries.kept_before keeps) has within
+      named_at : (m : LogMap) {m' : LogMap} → b.device.keeps_model → s.has m m' → InDirectory d m' → NamesObject d name n.value m'
+      named_at m {m'} keeps has within = named m m' (two.looks.carries.kept_before keeps) has within
 
       header_at : (m m' : LogMap) → b.device.keeps_model → s.has m m' → HasHeader n.value head m'
       header_at m m' keeps has = read m m' keeps (one.has m m' has) tt
 
       pub seen_file : head.kind ≡ kind.File → Tells s b (InDirectory d) (IsSeen d name (seen.File n))
       seen_file same m m' keeps has within =
-          gives_file m' d name n within.tree (named_at m m' keeps has within) head (header_at m m' keeps has) same
+          gives_file m' d n within.tree (named_at m keeps has within) head (header_at m m' keeps has) same
 
       pub seen_directory : head.kind ≡ kind.Directory → Tells s b (InDirectory d) (IsSeen d name (seen.Directory n))
       seen_directory same m m' keeps has within =
-          gives_directory m' d name n within.tree (named_at m m' keeps has within) head (header_at m m' keeps has) same
+          gives_directory m' d n within.tree (named_at m keeps has within) head (header_at m m' keeps has) same
 
       pub seen_link : head.kind ≡ kind.Link → Tells s b (InDirectory d) (IsSeen d name (seen.Symbolic record { number = n; header = head }))
       seen_link same m m' keeps has within =
-          gives_link m' d name n within.tree (named_at m m' keeps has within) head (header_at m m' keeps has) same
+          gives_link m' d n within.tree (named_at m keeps has within) head (header_at m m' keeps has) same

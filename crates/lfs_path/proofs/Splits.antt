@@ -53,12 +53,12 @@ pub some_piece : {A : Type 0} (front back : A → List ℕ) (r : Option A) (text
 some_piece front back None text some next none = cc
 some_piece front back (Some x) text some next none = let is = next.pieces in cc
 
-module _ (path rest piece after : List ℕ) (was : SplitsAt path rest) (next : IsNextPiece rest piece after) where
+module _ {path rest piece after : List ℕ} (was : SplitsAt path rest) (next : IsNextPiece rest piece after) where
   after_few : length after ≤ length path
   after_few = let one = was.few in let two = next.shorter in omega (arith, one, two)
 
   after_behind : after ≡ drop (length path - length after) path
-  after_behind = suffix_back (length path - length rest) (length rest - length after) path after
+  after_behind = suffix_back (length path - length rest) (length rest - length after) path
       (next.behind ∙ ap (λ (x : List ℕ). drop (length rest - length after) x) was.behind)
 
   pub splits_further : (comps after ≡ [] → ⊥) → SplitsAt path after
@@ -74,9 +74,9 @@ module _ (path rest piece after : List ℕ) (was : SplitsAt path rest) (next : I
   }
 
   -- ---- the last piece
-  pub splits_last : comps after ≡ [] → (above : List ℕ) (l : Last) → above ≡ take (length path - length rest) path → l.name.now ≡ piece
+  pub splits_last : comps after ≡ [] → {above : List ℕ} {l : Last} → above ≡ take (length path - length rest) path → l.name.now ≡ piece
       → l.slash ≡ nat_lt 0 (length after) → SplitsLast path above l
-  splits_last none above l front name slashed = record {
+  splits_last none front name slashed = record {
     pieces = ap comps front ∙ sym (ap but_last all ∙ but_last_snoc (comps (take (length path - length rest) path)) piece);
     piece = ap last all ∙ last_snoc (comps (take (length path - length rest) path)) None piece ∙ ap Some (sym name);
     slash_end = was.slash_end ∙ next.slash_end ∙ ends (comps after) none next.goes_on ∙ sym slashed;

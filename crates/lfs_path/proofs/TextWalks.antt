@@ -29,24 +29,24 @@ module _ (slash_end follow : Bool) where
     pub walks : (k : ℕ) (e : End) → WalksText slash_end follow (here chain') rest k (tree_in m) e
         → WalksText slash_end follow (here chain) text k (tree_in m) e
 
-  pub still : (m : LogMap) (chain text chain' rest : List ℕ) → InChain chain m → GoesTo chain text chain' rest m → InChain chain' m
-  still m chain text chain' rest is goes = record { tree = is.tree; directories = goes.directories }
+  pub still : {m : LogMap} {chain text chain' rest : List ℕ} → InChain chain m → GoesTo chain text chain' rest m → InChain chain' m
+  still is goes = record { tree = is.tree; directories = goes.directories }
 
   -- no piece is left
-  pub at_end : (m : LogMap) (chain text chain' rest : List ℕ) → comps rest ≡ [] → GoesTo chain text chain' rest m
+  pub at_end : (m : LogMap) {chain text chain' : List ℕ} (rest : List ℕ) → comps rest ≡ [] → GoesTo chain text chain' rest m
       → StopsAtLink slash_end follow chain text chain' stop.Directory m
-  at_end m chain text chain' rest none goes = record {
+  at_end m {chain'} rest none goes = record {
     directories = goes.directories;
     stop = λ k. goes.walks k (At (here chain')) (subst (λ (ps : List (List ℕ)).
         Walk (tree_in m) follow (here chain') ps (slash_end || slash rest) k (At (here chain'))) (sym none) no_piece);
   }
 
-  module _ (m : LogMap) (chain text chain' rest piece after : List ℕ) (next : IsNextPiece rest piece after)
+  module _ (m : LogMap) {chain text chain' rest piece after : List ℕ} (next : IsNextPiece rest piece after)
       (goes : GoesTo chain text chain' rest m) where
     -- a walk of the piece and what follows is one of the whole text
-    from_piece : (k : ℕ) (e : End) → Walk (tree_in m) follow (here chain') (piece ∷ comps after) (slash_end || slash after) k e
+    from_piece : (k : ℕ) {e : End} → Walk (tree_in m) follow (here chain') (piece ∷ comps after) (slash_end || slash after) k e
         → WalksText slash_end follow (here chain) text k (tree_in m) e
-    from_piece k e w = goes.walks k e
+    from_piece k {e} w = goes.walks k e
         (subst (λ (ps : List (List ℕ)). Walk (tree_in m) follow (here chain') ps (slash_end || slash rest) k e) (sym next.pieces)
         (subst (λ (b : Bool). Walk (tree_in m) follow (here chain') (piece ∷ comps after) (slash_end || b) k e) (sym next.slash_end) w))
 
@@ -81,12 +81,12 @@ module _ (slash_end follow : Bool) where
           → StopsAtLink slash_end follow chain text chain'' y m
       stops (met.File n) (stop.Node q) meets is = record {
         directories = directories_are;
-        stop = λ k. from_piece k (At q.value) (subst (λ (j : FileNumber). Walk (tree_in m) follow (here chain') (piece ∷ comps after)
+        stop = λ k. from_piece k (subst (λ (j : FileNumber). Walk (tree_in m) follow (here chain') (piece ∷ comps after)
             (slash_end || slash after) k (At j.value)) (sym is.0) (file meets.1 (left_is ∙ is.1)));
       }
       stops (met.Symbolic l) (stop.Node q) meets is = record {
         directories = directories_are;
-        stop = λ k. from_piece k (At q.value) (subst (λ (j : FileNumber). Walk (tree_in m) follow (here chain') (piece ∷ comps after)
+        stop = λ k. from_piece k (subst (λ (j : FileNumber). Walk (tree_in m) follow (here chain') (piece ∷ comps after)
             (slash_end || slash after) k (At j.value)) (sym is.0) (link meets (ap (λ (b : Bool). b || follow) left_is ∙ is.1)));
       }
       stops (met.Symbolic l) (stop.Followed x rest') meets is = record {
@@ -101,7 +101,7 @@ module _ (slash_end follow : Bool) where
 
     pub refuses : (x : Met) → Meets (here chain') piece x m → IsStop slash_end follow after x (Err NotDir)
         → EndsText slash_end follow (here chain) text (tree_in m) (Refused refusals.NotDir)
-    refuses (met.File n) meets is k = from_piece k (Refused refusals.NotDir) (not_dir meets.1 (left_is ∙ is))
+    refuses (met.File n) meets is k = from_piece k (not_dir meets.1 (left_is ∙ is))
     refuses (met.Symbolic l) meets is k = absurd is
 
 -- ---- over files
@@ -110,18 +110,19 @@ module _ {S D : Type 0} (slash_end follow : Bool) where
     pub reads : Reads s s'
     pub goes : Tells s s' (InChain chain) (GoesTo slash_end follow chain text chain' rest)
 
-  pub ends : (s s' : FilesState S D) (chain text chain' rest : List ℕ) → comps rest ≡ [] → ComesTo s s' chain text chain' rest
+  pub ends : {s s' : FilesState S D} {chain text chain' rest : List ℕ} → comps rest ≡ [] → ComesTo s s' chain text chain' rest
       → Tells s s' (InChain chain) (StopsAtLink slash_end follow chain text chain' stop.Directory)
-  ends s s' chain text chain' rest none was m m' keeps has is =
-      at_end slash_end follow m' chain text chain' rest none (was.goes m m' keeps has is)
+  ends {chain} {text} {chain'} {rest} none was m m' keeps has is =
+      at_end slash_end follow m' rest none (was.goes m m' keeps has is)
 
-  module _ (s a b : FilesState S D) (chain text chain' rest piece after : List ℕ) (next : IsNextPiece rest piece after)
+  module _ {s a b : FilesState S D} {chain text chain' rest piece after : List ℕ} (next : IsNextPiece rest piece after)
       (was : ComesTo s a chain text chain' rest) (reads : Reads a b) where
-    goes_at : (m m' : LogMap) → b.device.keeps_model → s.has m m' → InChain chain m' → GoesTo slash_end follow chain text chain' rest m'
-    goes_at m m' keeps has is = was.goes m m' (reads.looks.carries.kept_before keeps) has is
+    goes_at : (m : LogMap) {m' : LogMap} → b.device.keeps_model → s.has m m' → InChain chain m'
+        → GoesTo slash_end follow chain text chain' rest m'
+    goes_at m {m'} keeps has is = was.goes m m' (reads.looks.carries.kept_before keeps) has is
 
     in_chain : (m m' : LogMap) → b.device.keeps_model → s.has m m' → InChain chain m' → InChain chain' m'
-    in_chain m m' keeps has is = still slash_end follow m' chain text chain' rest is (goes_at m m' keeps has is)
+    in_chain m m' keeps has is = still slash_end follow is (goes_at m keeps has is)
 
     passed : (chain'' : List ℕ) (x : Option Met) → Tells a b (InChain chain') (PassesText piece chain' chain'' x)
         → Tells s b (InChain chain) (PassesText piece chain' chain'' x)
@@ -133,7 +134,7 @@ module _ {S D : Type 0} (slash_end follow : Bool) where
       stops_ok (Err fault) is = tt
       stops_ok (Ok y) is = λ m m' keeps has within.
           let p = passed chain'' (Some x) passes m m' keeps has within in
-          stops slash_end follow m' chain text chain' rest piece after next (goes_at m m' keeps has within) chain'' p.0 x y p.1 is
+          stops slash_end follow m' next (goes_at m keeps has within) chain'' p.0 x y p.1 is
 
       pub stops_err : (r : Result Stop WalkFault) → IsStop slash_end follow after x r
           → IfErr r (TellsRefusal s b (InChain chain) (EndsText slash_end follow (here chain) text))
@@ -143,6 +144,5 @@ module _ {S D : Type 0} (slash_end follow : Bool) where
           by : (z : Met) (fault : WalkFault) → IsStop slash_end follow after z (Err fault) → Tells s b (InChain chain)
               (Meets (here chain') piece z) → TellsRefusal s b (InChain chain) (EndsText slash_end follow (here chain) text) fault
           by (met.File n) NotDir is meets = λ m m' keeps has within.
-              refuses slash_end follow m' chain text chain' rest piece after next (goes_at m m' keeps has within) (met.File n)
-              (meets m m' keeps has within) is
+              refuses slash_end follow m' next (goes_at m keeps has within) (met.File n) (meets m m' keeps has within) is
           by _ _ is meets = absurd is

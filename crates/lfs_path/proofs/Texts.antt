@@ -141,8 +141,8 @@ slash_skipped (c ∷ q) some = elim (eqb_tells c 47) as (λ _. slash (c ∷ q) �
     longer (d ∷ r) left = refl
 
 -- what is left of a text behind some of its bytes is as many bytes from its end
-pub suffix_back : (k j : ℕ) (path r : List ℕ) → r ≡ drop j (drop k path) → r ≡ drop (length path - length r) path
-suffix_back k j path r is = elim (cases_le (k + j) (length path)) as (λ _. r ≡ drop (length path - length r) path) [
+pub suffix_back : (k j : ℕ) (path : List ℕ) {r : List ℕ} → r ≡ drop j (drop k path) → r ≡ drop (length path - length r) path
+suffix_back k j path {r} is = elim (cases_le (k + j) (length path)) as (λ _. r ≡ drop (length path - length r) path) [
   | inl inside ↦ let at : k + j ≡ length path - length r = omega (arith, long, inside) in whole ∙ ap (λ (n : ℕ). drop n path) at
   | inr past ↦
       let none : length path ≤ length path - length r = omega (arith, long, past) in
@@ -196,7 +196,7 @@ module _ (path q piece rest : List ℕ) (k : ℕ) (at : k ≡ prefix_len is_slas
             goes_on = subst (λ (y : List ℕ). more (comps y) (slash y) ≡ nat_lt 0 (length y)) (sym back)
                 (more_behind (drop (piece_len (c ∷ x)) (c ∷ x)) (ends_there (c ∷ x)));
             shorter = omega arith;
-            behind = suffix_back (prefix_len is_slash path) (piece_len (c ∷ x)) path rest (back ∙ ap (drop (piece_len (c ∷ x))) all);
+            behind = suffix_back (prefix_len is_slash path) (piece_len (c ∷ x)) path (back ∙ ap (drop (piece_len (c ∷ x))) all);
             begins = subst Ends (sym back) (ends_there (c ∷ x));
           }
 

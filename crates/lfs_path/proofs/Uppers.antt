@@ -46,8 +46,8 @@ module _ (t : Tree) (in_order : T (is_sorted nat_cmp t)) where
   abbrev that_gives : ℕ → ℕ × Node → Bool
   that_gives n e = list_any (λ x. x.1 == n) (names_of e.1)
 
-  pub up_is : (d n : ℕ) (x : List ℕ) → entry t d x ≡ Some n → n ≢ 1 → names t n ≡ 1 → up t n ≡ d
-  up_is d n x e ne one = at_node (node t d) refl e
+  pub up_is : {d : ℕ} (n : ℕ) (x : List ℕ) → entry t d x ≡ Some n → n ≢ 1 → names t n ≡ 1 → up t n ≡ d
+  up_is {d} n x e ne one = at_node (node t d) refl e
     where
       inner : eqb n 1 ≡ false
       inner = grind (arith, nat_tests)

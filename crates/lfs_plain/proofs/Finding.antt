@@ -52,25 +52,24 @@ next_by p xs i x h is =
     ≡ cond (p (y.number, node_of y.node)) (Some (y.number, node_of y.node)) (first_that p (tree_of (drop (i + 1) xs))) in
     subst P (sym is) (rw (add-one, drop-cons xs i x) refl)
 
-pub dir_next : (p : ℕ × model.Node → Bool) (xs : List Numbered) (i : ℕ) (x : Numbered) → i < length xs → x ≡ get_or xs i x
+pub dir_next : (p : ℕ × model.Node → Bool) (xs : List Numbered) (i : ℕ) {x : Numbered} → i < length xs → x ≡ get_or xs i x
     → p (x.number, node_of x.node) ≡ true
     → first_that p (tree_of (drop i xs)) ≡ Some (x.number, node_of x.node)
-dir_next p xs i x h is b = next_by p xs i x h is
+dir_next p xs i {x} h is b = next_by p xs i x h is
     ∙ ap (λ b. cond b (Some (x.number, node_of x.node)) (first_that p (tree_of (drop (i + 1) xs)))) b
 
-pub dir_next_not : (p : ℕ × model.Node → Bool) (xs : List Numbered) (i : ℕ) (x : Numbered) → i < length xs → x ≡ get_or xs i x
+pub dir_next_not : (p : ℕ × model.Node → Bool) (xs : List Numbered) (i : ℕ) {x : Numbered} → i < length xs → x ≡ get_or xs i x
     → p (x.number, node_of x.node) ≡ false
     → first_that p (tree_of (drop i xs)) ≡ first_that p (tree_of (drop (i + 1) xs))
-dir_next_not p xs i x h is b = next_by p xs i x h is
+dir_next_not p xs i {x} h is b = next_by p xs i x h is
     ∙ ap (λ b. cond b (Some (x.number, node_of x.node)) (first_that p (tree_of (drop (i + 1) xs)))) b
 
 -- ---- one turn of the walk
 
-pub turn_is : (n : ℕ) (t : model.Tree) (follow : Bool) (d : ℕ) (pieces : List (Vec ℕ Global)) (i : ℕ) (s : Bool) (x : Vec ℕ Global)
-    (v : Seen) (slice : List ℕ)
-    → i < length pieces → x ≡ get_or pieces i x → slice ≡ x.items → v ≡ look t d slice
+pub turn_is : (n : ℕ) (t : model.Tree) (follow : Bool) (d : ℕ) (pieces : List (Vec ℕ Global)) (i : ℕ) (s : Bool) {x : Vec ℕ Global}
+    (v : Seen) {slice : List ℕ} → i < length pieces → x ≡ get_or pieces i x → slice ≡ x.items → v ≡ look t d slice
     → walk_to n t follow d (texts (drop i pieces)) s ≡ one_turn n t follow d (texts (drop (i + 1) pieces)) s v
-turn_is n t follow d pieces i s x v slice h at val is =
+turn_is n t follow d pieces i s {x} v h at val is =
     let same : look t d (get_or pieces i x).items ≡ v = ap (λ (y : Vec ℕ Global). look t d y.items) (sym at) ∙ ap (look t d) (sym val)
     ∙ sym is in
     rw (add-one, drop-cons pieces i x) (turns_at t d (get_or pieces i x).items n follow (texts (drop (suc i) pieces)) s same)

@@ -23,11 +23,11 @@ pub whole_refused : (t : Tree) (p : List ℕ) (follow : Bool) (x : Refusal) → 
 unfolding path_end
 whole_refused t p follow x is = ap (λ r. ends_to r (walk_to 40 t follow 1 (comps p) (slash p))) (sym is)
 
-pub whole_walked : (t : Tree) (p : List ℕ) (follow : Bool) (o : Option End) (ps : List (List ℕ)) (b : Bool) → None ≡ text_refusal p
+pub whole_walked : (t : Tree) (p : List ℕ) (follow : Bool) {o : Option End} {ps : List (List ℕ)} {b : Bool} → None ≡ text_refusal p
     → ps ≡ comps p → b ≡ slash p
     → walk_end t follow 1 ps b ≡ o → path_end t (Whole p follow) ≡ o
 unfolding path_end walk_end
-whole_walked t p follow o ps b is pieces ends w =
+whole_walked t p follow {ps} is pieces ends w =
     ap (λ r. ends_to r (walk_to 40 t follow 1 (comps p) (slash p))) (sym is) ∙ ap (λ ps. walk_to 40 t follow 1 ps (slash p)) (sym pieces)
     ∙ ap (walk_to 40 t follow 1 ps) (sym ends) ∙ w
 
@@ -35,10 +35,10 @@ pub holder_refused : (t : Tree) (p : List ℕ) (x : Refusal) → Some x ≡ text
 unfolding path_end
 holder_refused t p x is = ap (λ r. ends_to r (walk_to 40 t true 1 (but_last (comps p)) true)) (sym is)
 
-pub holder_walked : (t : Tree) (p : List ℕ) (o : Option End) (ps : List (List ℕ)) → None ≡ text_refusal p → ps ≡ but_last (comps p)
+pub holder_walked : (t : Tree) (p : List ℕ) {o : Option End} {ps : List (List ℕ)} → None ≡ text_refusal p → ps ≡ but_last (comps p)
     → walk_end t true 1 ps true ≡ o → path_end t (Holder p) ≡ o
 unfolding path_end walk_end
-holder_walked t p o ps is pieces w = ap (λ r. ends_to r (walk_to 40 t true 1 (but_last (comps p)) true)) (sym is)
+holder_walked t p {ps} is pieces w = ap (λ r. ends_to r (walk_to 40 t true 1 (but_last (comps p)) true)) (sym is)
     ∙ ap (λ ps. walk_to 40 t true 1 ps true) (sym pieces) ∙ w
 
 -- a call without a path
@@ -61,10 +61,10 @@ last_is pieces i x h is =
     ∙ ap (λ (v : Vec ℕ Global). Some v.items) (sym is)
 
 -- a call whose paths end, or whose path leads nowhere
-pub steps_by : (N : ℕ) (s : State) (call : Call) (e f : End) → path_end s.tree (step.path_of call) ≡ Some e
+pub steps_by : (N : ℕ) (s : State) (call : Call) {e f : End} → path_end s.tree (step.path_of call) ≡ Some e
     → path_end s.tree (step.second_path_of call) ≡ Some f → step_end N s call ≡ Some (step.outcome N s call e f)
 unfolding path_end step_end
-steps_by N s call e f first second =
+steps_by N s call {e} {f} first second =
     ap (λ e. option_and_then (λ e. option_map (λ f. step.outcome N s call e f) (path_to s.tree (step.second_path_of call))) e) first
     ∙ ap (λ f. option_map (λ f. step.outcome N s call e f) f) second
 
@@ -73,13 +73,13 @@ unfolding path_end step_end
 first_nowhere N s call first =
     ap (λ e. option_and_then (λ e. option_map (λ f. step.outcome N s call e f) (path_to s.tree (step.second_path_of call))) e) first
 
-pub second_nowhere : (N : ℕ) (s : State) (call : Call) (e : End) → path_end s.tree (step.path_of call) ≡ Some e
+pub second_nowhere : (N : ℕ) (s : State) (call : Call) {e : End} → path_end s.tree (step.path_of call) ≡ Some e
     → path_end s.tree (step.second_path_of call) ≡ None → step_end N s call ≡ None
 unfolding path_end step_end
-second_nowhere N s call e first second =
+second_nowhere N s call {e} first second =
     ap (λ e. option_and_then (λ e. option_map (λ f. step.outcome N s call e f) (path_to s.tree (step.second_path_of call))) e) first
     ∙ ap (λ f. option_map (λ f. step.outcome N s call e f) f) second
 
 -- the end of a path, at a tree and a path that are the same
-pub ends_at : (t u : Tree) (p q : step.Path) (o : Option End) → u ≡ t → q ≡ p → path_end u q ≡ o → path_end t p ≡ o
-ends_at t u p q o tree path h = ap (λ u. path_end u p) (sym tree) ∙ ap (path_end u) (sym path) ∙ h
+pub ends_at : {t u : Tree} {p q : step.Path} {o : Option End} → u ≡ t → q ≡ p → path_end u q ≡ o → path_end t p ≡ o
+ends_at {u} {p} tree path h = ap (λ u. path_end u p) (sym tree) ∙ ap (path_end u) (sym path) ∙ h

@@ -6,7 +6,7 @@ use Rattle.std.specs.FinMap.{put}
 use Rattle.std.specs.FinMap.Entries.{by_order}
 use Rattle.std.proofs.Math.Seq.{drop-cons}
 
-module _ {A K X : Type 0} (R : K → K → Ordering) (f : A → K × X) (k : K) (v : X) (xs : List A) (i : ℕ) (a : A) where
+module _ {A K X : Type 0} (R : K → K → Ordering) (f : A → K × X) (k : K) (v : X) (xs : List A) (i : ℕ) {a : A} where
   put_next : i < length xs → a ≡ get_or xs i a
       → put R k v (map f (drop i xs)) ≡ by_order (R k (f a).0) ((k, v) ∷ f a ∷ map f (drop (i + 1) xs))
       (((f a).0, v) ∷ map f (drop (i + 1) xs)) (f a ∷ put R k v (map f (drop (i + 1) xs)))

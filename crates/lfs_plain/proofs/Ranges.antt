@@ -33,14 +33,14 @@ pub groups_more : (is : List ℕ) (n : ℕ) → groups is (n + 1) ≡ groups is 
 unfolding groups
 groups_more is n = rw (range_more n) (sum_by_push (λ g. cond (in_group is g) 1 0) (range_with_len 0 n) n)
 
-pub data_is : (x : Node) (is : List ℕ) → is ≡ data_pieces x → length is ≡ data_of x
+pub data_is : (x : Node) {is : List ℕ} → is ≡ data_pieces x → length is ≡ data_of x
 unfolding data_of
-data_is x is h = ap length h
+data_is x h = ap length h
 
-pub meta_is : (x : Node) (is : List ℕ) (p : ℕ) → is ≡ data_pieces x
+pub meta_is : (x : Node) {is : List ℕ} {p : ℕ} → is ≡ data_pieces x
     → p ≡ (if list_any (lies_in 112 240) is then 1 else 0) + groups is 128 + (if list_any (nat_le 240) is then 1 else 0) → 1 + p ≡ meta_of x
 unfolding meta_of groups
-meta_is x is p h k = ap (λ n. 1 + n) k ∙ ap (λ is. 1 + pointers is) h
+meta_is x {is} h k = ap (λ n. 1 + n) k ∙ ap (λ is. 1 + pointers is) h
 
 pub groups_yes : (is : List ℕ) (n : ℕ) → in_group is n ≡ true → groups is (n + 1) ≡ groups is n + 1
 groups_yes is n h = groups_more is n ∙ ap (λ b. groups is n + cond b 1 0) h
@@ -49,6 +49,6 @@ pub groups_no : (is : List ℕ) (n : ℕ) → in_group is n ≡ false → groups
 groups_no is n h = groups_more is n ∙ ap (λ b. groups is n + cond b 1 0) h ∙ rw add-zero refl
 
 -- the piece from k on, at most n bytes
-pub piece_is : (p : ℕ → Bool) (b : List ℕ) (k n m : ℕ) (r : Bool) → m ≡ min n (length (take (length b - k) (drop k b)))
+pub piece_is : (p : ℕ → Bool) (b : List ℕ) (k n : ℕ) {m : ℕ} {r : Bool} → m ≡ min n (length (take (length b - k) (drop k b)))
     → r ≡ list_any p (take m (take (length b - k) (drop k b))) → r ≡ list_any p (take n (drop k b))
-piece_is p b k n m r is h = h ∙ ap (λ m. list_any p (take m (take (length b - k) (drop k b)))) is ∙ rw (rest_whole b k, take_min) refl
+piece_is p b k n {m} is h = h ∙ ap (λ m. list_any p (take m (take (length b - k) (drop k b)))) is ∙ rw (rest_whole b k, take_min) refl

@@ -56,12 +56,12 @@ group k g = list_any (lies_in (240 + 128 * g) (368 + 128 * g)) (range_with_len 0
 group_is : (k g : ℕ) → group k g ≡ nat_lt (240 + 128 * g) k
 group_is k g = any_in (240 + 128 * g) (368 + 128 * g) k (omega arith)
 
-group_step : (b : Bool) (k d s n rest : ℕ) → k ≤ 240 + 128 * d → (0 < d → 112 + 128 * d < k) → b ≡ nat_lt (240 + 128 * s) k
+group_step : (b : Bool) (k d s n : ℕ) {rest : ℕ} → k ≤ 240 + 128 * d → (0 < d → 112 + 128 * d < k) → b ≡ nat_lt (240 + 128 * s) k
     → rest ≡ min n (d - (s + 1)) → cond b 1 0 + rest ≡ min (suc n) (d - s)
-group_step true k d s n rest up low is more =
+group_step true k d s n up low is more =
     let past : 240 + 128 * s < k = grind (arith, nat_tests, is) in
     omega (arith, up, past, more)
-group_step false k d s n rest up low is more =
+group_step false k d s n up low is more =
     let end : k ≤ 240 + 128 * s = grind (arith, nat_tests, is) in
     let few : d ≤ s = few_of k d s low end in
     omega (arith, few, more)
@@ -74,7 +74,7 @@ groups : (k d s n : ℕ) → k ≤ 240 + 128 * d → (0 < d → 112 + 128 * d < 
 groups k d s zero up low = omega arith
 groups k d s (suc n) up low =
     sum_by-cons (λ (x : ℕ). cond (group k x) 1 0) s (range_with_len (s + 1) n)
-    ∙ group_step (group k s) k d s n (count_by (group k) (range_with_len (s + 1) n)) up low (group_is k s) (groups k d (s + 1) n up low)
+    ∙ group_step (group k s) k d s n up low (group_is k s) (groups k d (s + 1) n up low)
 
 -- so many groups, d, have a stored block
 pointers_are : (k d : ℕ) → k ≤ 240 + 128 * d → (0 < d → 112 + 128 * d < k) → d ≤ 128
@@ -114,9 +114,9 @@ le_iff : (x y : ℕ) → IsTrue (nat_le x y) ↔ (x ≤ y)
 le_iff x y = search rules
 
 -- a comparison of sums, by their parts
-pub compares : (need limit cost next now n l c x f a : ℕ) → n ≡ need → a ≡ c + x → c ≡ cost → x ≡ next → l ≡ limit → f ≡ now
+pub compares : {need limit cost : ℕ} (next : ℕ) {now n l c x f a : ℕ} → n ≡ need → a ≡ c + x → c ≡ cost → x ≡ next → l ≡ limit → f ≡ now
     → IsTrue (nat_le (n + a) (l + f)) ↔ (need + cost + next ≤ limit + now)
-compares need limit cost next now n l c x f a is sum one two three four = (
+compares next {n} {l} {f} {a} is sum one two three four = (
   λ is_less. let less = (le_iff (n + a) (l + f)).0 is_less in omega (arith, is, sum, one, two, three, four, less),
   λ less. (le_iff (n + a) (l + f)).1 (omega (arith, is, sum, one, two, three, four, less)),
 )

@@ -60,25 +60,25 @@ module _ {D : Type 0} (state : D → DeviceState) where
     pub full : AllByRecursion (λ (p : List ℕ). length p ≡ LONGEST_TRANSFER) pieces
     pub sent : HasSent w w' pieces offset
 
-  pub copying_none : (v : Mounted D) (handle : ℕ) (w : Option (List ℕ)) → CopyingOut v v handle w w 0
-  copying_none v handle w = record { pieces = []; served = refl; full = tt; sent = record { sent = Appends-nil w; counted = refl } }
+  pub copying_none : (v : Mounted D) {handle : ℕ} (w : Option (List ℕ)) → CopyingOut v v handle w w 0
+  copying_none v w = record { pieces = []; served = refl; full = tt; sent = record { sent = Appends-nil w; counted = refl } }
 
   -- one piece more was read and sent
-  reads_one : (old mid new : Mounted D) (handle : ℕ) (w w' : Option (List ℕ)) (offset : ℕ) (so_far : CopyingOut old mid handle w w' offset)
-      (piece : List ℕ)
-      → Serves state mid new (Pread handle offset LONGEST_TRANSFER) (Data piece)
+  reads_one : {old mid new : Mounted D} {handle : ℕ} {w w' : Option (List ℕ)} {offset : ℕ} (so_far : CopyingOut old mid handle w w' offset)
+      {piece : List ℕ} → Serves state mid new (Pread handle offset LONGEST_TRANSFER) (Data piece)
       → ServesAll state old new (reads handle 0 (so_far.pieces ++ piece ∷ []))
-  reads_one old mid new handle w w' offset so_far piece serves =
+  reads_one {old} {mid} {new} {handle} {offset} so_far {piece} serves =
       let at : offset ≡ 0 + length (concat so_far.pieces) = (let same = so_far.sent.counted in omega (arith, same)) in
       let last : ServesAll state mid new (read_at handle piece (0 + length (concat so_far.pieces))) =
       subst (λ (n : ℕ). ServesAll state mid new (read_at handle piece n)) at (new, serves, refl) in
       subst (ServesAll state old new) (sym (reads_more handle 0 so_far.pieces piece))
       (serves_append state old mid new (reads handle 0 so_far.pieces) _ so_far.served last)
 
-  sends_one : (w w' w'' : Option (List ℕ)) (pieces : List (List ℕ)) (piece : List ℕ) (offset end : ℕ) → HasSent w w' pieces offset
+  sends_one : (w : Option (List ℕ)) {w' : Option (List ℕ)} (w'' : Option (List ℕ)) {pieces : List (List ℕ)} (piece : List ℕ)
+      {offset end : ℕ} → HasSent w w' pieces offset
       → Appends w' w'' piece → end ≡ offset + length piece
       → HasSent w w'' (pieces ++ piece ∷ []) end
-  sends_one w w' w'' pieces piece offset end before more is = record {
+  sends_one w {w'} w'' {pieces} piece before more is = record {
     sent = subst (Appends w w'') (sym (bytes_more pieces piece)) (Appends-trans w w' w'' (concat pieces) piece before.sent more);
     counted = (
         let same = before.counted in
@@ -87,25 +87,25 @@ module _ {D : Type 0} (state : D → DeviceState) where
         omega (arith, same, is, l, m));
   }
 
-  pub copying_more : (old mid new : Mounted D) (handle : ℕ) (w w' w'' : Option (List ℕ)) (offset count end : ℕ)
+  pub copying_more : (old mid new : Mounted D) {handle : ℕ} {w w' : Option (List ℕ)} (w'' : Option (List ℕ)) {offset : ℕ} (count end : ℕ)
       → CopyingOut old mid handle w w' offset
       → SendsPart state mid new handle offset w' w'' (Ok count) → end ≡ offset + count → count ≡ LONGEST_TRANSFER
       → CopyingOut old new handle w w'' end
-  copying_more old mid new handle w w' w'' offset count end so_far (piece, serves, more, long) is full = record {
+  copying_more old mid new {handle} {w} {w'} w'' {offset} count end so_far (piece, serves, more, long) is full = record {
     pieces = so_far.pieces ++ piece ∷ [];
-    served = reads_one old mid new handle w w' offset so_far piece serves;
+    served = reads_one so_far serves;
     full = all_more (λ (p : List ℕ). length p ≡ LONGEST_TRANSFER) so_far.pieces piece so_far.full (sym long ∙ full);
-    sent = sends_one w w' w'' so_far.pieces piece offset end so_far.sent more (is ∙ ap (λ (n : ℕ). offset + n) long);
+    sent = sends_one w w'' piece so_far.sent more (is ∙ ap (λ (n : ℕ). offset + n) long);
   }
 
   -- the last piece is shorter
-  pub copied_out : (old mid new : Mounted D) (handle : ℕ) (w w' w'' : Option (List ℕ)) (offset count end : ℕ)
+  pub copied_out : (old mid new : Mounted D) {handle : ℕ} {w w' w'' : Option (List ℕ)} {offset : ℕ} (count end : ℕ)
       → CopyingOut old mid handle w w' offset
       → SendsPart state mid new handle offset w' w'' (Ok count) → end ≡ offset + count → count < LONGEST_TRANSFER
       → CopiesOut state old new handle w w'' (Ok end)
-  copied_out old mid new handle w w' w'' offset count end so_far (piece, serves, more, long) is short = record {
+  copied_out old mid new {handle} {w} {w'} {w''} {offset} count end so_far (piece, serves, more, long) is short = record {
     calls = reads handle 0 (so_far.pieces ++ piece ∷ []);
-    served = reads_one old mid new handle w w' offset so_far piece serves;
+    served = reads_one so_far serves;
     outcome = (
       so_far.pieces ++ piece ∷ [],
       refl,
@@ -116,31 +116,31 @@ module _ {D : Type 0} (state : D → DeviceState) where
         full = all_of (λ (p : List ℕ). length p ≡ LONGEST_TRANSFER) so_far.pieces so_far.full;
         short = subst (λ (n : ℕ). n < LONGEST_TRANSFER) long short;
       },
-      sends_one w w' w'' so_far.pieces piece offset end so_far.sent more (is ∙ ap (λ (n : ℕ). offset + n) long),
+      sends_one w w'' piece so_far.sent more (is ∙ ap (λ (n : ℕ). offset + n) long),
     );
   }
 
   -- a piece that is longer than was asked for
-  pub copy_breaks : (old mid new : Mounted D) (handle : ℕ) (w w' w'' : Option (List ℕ)) (offset count : ℕ) (refused : FsError)
+  pub copy_breaks : (old mid new : Mounted D) {handle : ℕ} {w w' w'' : Option (List ℕ)} {offset : ℕ} (count : ℕ) (refused : FsError)
       → CopyingOut old mid handle w w' offset
       → SendsPart state mid new handle offset w' w'' (Ok count) → CopiesOut state old new handle w w'' (Err (why.CutShort refused))
-  copy_breaks old mid new handle w w' w'' offset count refused so_far (piece, serves, more, long) = record {
+  copy_breaks old mid new {handle} {w} {w'} {w''} {offset} count refused so_far (piece, serves, more, long) = record {
     calls = reads handle 0 (so_far.pieces ++ piece ∷ []);
-    served = reads_one old mid new handle w w' offset so_far piece serves;
+    served = reads_one so_far serves;
     outcome = (
       so_far.pieces ++ piece ∷ [],
       inl refl,
-      (sends_one w w' w'' so_far.pieces piece offset (offset + length piece) so_far.sent more refl).sent,
+      (sends_one w w'' piece {end = offset + length piece} so_far.sent more refl).sent,
     );
   }
 
   -- a refusal behind what was sent, as its number says
-  sends_behind : (w w' : Option (List ℕ)) (pieces : List (List ℕ)) (offset : ℕ) (refused : FsError) (fault : GetFault)
+  sends_behind : (w w' : Option (List ℕ)) {pieces : List (List ℕ)} {offset : ℕ} (refused : FsError) {fault : GetFault}
       → HasSent w w' pieces offset
       → (((fault ≡ why.Call refused) × (offset ≡ 0)) ⊎ (fault ≡ why.CutShort refused)) → SendsTo w w' pieces fault
-  sends_behind w w' pieces offset refused fault sent (inl (is, none)) =
+  sends_behind w w' {pieces} refused sent (inl (is, none)) =
       subst (SendsTo w w' pieces) (sym is) (record { sent = sent.sent; counted = sym none ∙ sent.counted })
-  sends_behind w w' pieces offset refused fault sent (inr is) = subst (SendsTo w w' pieces) (sym is) sent.sent
+  sends_behind w w' {pieces} refused sent (inr is) = subst (SendsTo w w' pieces) (sym is) sent.sent
 
   -- no file is longer
   pub copy_ends : (old new : Mounted D) (handle : ℕ) (w w' : Option (List ℕ)) (offset : ℕ) (refused : FsError) (fault : GetFault)
@@ -149,28 +149,28 @@ module _ {D : Type 0} (state : D → DeviceState) where
   copy_ends old new handle w w' offset refused fault so_far is = record {
     calls = reads handle 0 so_far.pieces;
     served = so_far.served;
-    outcome = (so_far.pieces, inl refl, sends_behind w w' so_far.pieces offset refused fault so_far.sent is);
+    outcome = (so_far.pieces, inl refl, sends_behind w w' refused so_far.sent is);
   }
 
   -- the calls of a read that was refused behind others
-  refused_read : (old mid new : Mounted D) (handle : ℕ) (w w' : Option (List ℕ)) (offset : ℕ) (refusal : Refusal)
+  refused_read : {old mid new : Mounted D} {handle : ℕ} {w w' : Option (List ℕ)} {offset : ℕ} {refusal : Refusal}
       (so_far : CopyingOut old mid handle w w' offset)
       → Serves state mid new (Pread handle offset LONGEST_TRANSFER) (Refuse refusal)
       → ServesAll state old new
       (reads handle 0 so_far.pieces ++ made (Pread handle (length (concat so_far.pieces)) LONGEST_TRANSFER) (Refuse refusal) ∷ [])
-  refused_read old mid new handle w w' offset refusal so_far serves =
+  refused_read {old} {mid} {new} {handle} {refusal} so_far serves =
       let last : ServesAll state mid new (made (Pread handle (length (concat so_far.pieces)) LONGEST_TRANSFER) (Refuse refusal) ∷ []) =
       subst (λ (n : ℕ). ServesAll state mid new (made (Pread handle n LONGEST_TRANSFER) (Refuse refusal) ∷ [])) so_far.sent.counted
       (new, serves, refl) in
       serves_append state old mid new (reads handle 0 so_far.pieces) _ so_far.served last
 
   -- a read was refused, or the writer failed
-  pub copy_stops : (old mid new : Mounted D) (handle : ℕ) (w w' w'' : Option (List ℕ)) (offset : ℕ) (fault : GetFault)
+  pub copy_stops : (old mid new : Mounted D) {handle : ℕ} {w w' w'' : Option (List ℕ)} {offset : ℕ} (fault : GetFault)
       → CopyingOut old mid handle w w' offset
       → SendsPart state mid new handle offset w' w'' (Err fault) → CopiesOut state old new handle w w'' (Err fault)
-  copy_stops old mid new handle w w' w'' offset (why.Call refused) so_far ((refusal, serves, same), none) = record {
+  copy_stops old mid new {handle} {w} {w'} {offset} (why.Call refused) so_far ((refusal, serves, same), none) = record {
     calls = reads handle 0 so_far.pieces ++ made (Pread handle (length (concat so_far.pieces)) LONGEST_TRANSFER) (Refuse refusal) ∷ [];
-    served = refused_read old mid new handle w w' offset refusal so_far serves;
+    served = refused_read so_far serves;
     outcome = (
       so_far.pieces,
       inr (refusal, refl),
@@ -180,46 +180,47 @@ module _ {D : Type 0} (state : D → DeviceState) where
       },
     );
   }
-  copy_stops old mid new handle w w' w'' offset (why.CutShort refused) so_far (refusal, serves, same) = record {
+  copy_stops old mid new {handle} {w} {w'} {offset} (why.CutShort refused) so_far (refusal, serves, same) = record {
     calls = reads handle 0 so_far.pieces ++ made (Pread handle (length (concat so_far.pieces)) LONGEST_TRANSFER) (Refuse refusal) ∷ [];
-    served = refused_read old mid new handle w w' offset refusal so_far serves;
+    served = refused_read so_far serves;
     outcome = (
       so_far.pieces,
       inr (refusal, refl),
       subst (λ (v : Option (List ℕ)). Appends w v (concat so_far.pieces)) (sym same) so_far.sent.sent,
     );
   }
-  copy_stops old mid new handle w w' w'' offset why.Output so_far (piece, serves) = record {
+  copy_stops old mid new {handle} {w} {w'} {offset} why.Output so_far (piece, serves) = record {
     calls = reads handle 0 (so_far.pieces ++ piece ∷ []);
-    served = reads_one old mid new handle w w' offset so_far piece serves;
+    served = reads_one so_far serves;
     outcome = (so_far.pieces ++ piece ∷ [], inl refl, tt);
   }
 
   -- ---- a whole get
 
-  pub not_opened : (a b : Mounted D) (path : List ℕ) (w : Option (List ℕ)) (refused : FsError)
+  pub not_opened : (a b : Mounted D) {path : List ℕ} (w : Option (List ℕ)) (refused : FsError)
       → Serves state a b (Open path) (Refuse (refusal_of refused))
       → GetsFile state a b path w w (Err (why.Call refused))
-  not_opened a b path w refused opens = record {
+  not_opened a b {path} w refused opens = record {
     calls = made (Open path) (Refuse (refusal_of refused)) ∷ [];
     served = (b, opens, refl);
     outcome = inl (refused, refl, refl, refl);
   }
 
   -- a file that is opened, and closed behind some calls
-  between : (a b c d : Mounted D) (path : List ℕ) (handle : ℕ) (calls : List Made) (closed : Answer)
+  between : {a : Mounted D} (b c d : Mounted D) {path : List ℕ} {handle : ℕ} (calls : List Made) {closed : Answer}
       → Serves state a b (Open path) (Handle handle) → ServesAll state b c calls
       → Serves state c d (Close handle) closed
       → ServesAll state a d (made (Open path) (Handle handle) ∷ (calls ++ made (Close handle) closed ∷ []))
-  between a b c d path handle calls closed opens copies closes =
+  between b c d {handle} calls {closed} opens copies closes =
       (b, opens, serves_append state b c d calls (made (Close handle) closed ∷ []) copies (d, closes, refl))
 
-  pub cut_short : (a b c d : Mounted D) (path : List ℕ) (handle : ℕ) (w w' : Option (List ℕ)) (fault : GetFault) (closed : Answer)
+  pub cut_short : (a b c d : Mounted D) {path : List ℕ} {handle : ℕ} (w : Option (List ℕ)) {w' : Option (List ℕ)} {fault : GetFault}
+      (closed : Answer)
       → Serves state a b (Open path) (Handle handle)
       → CopiesOut state b c handle w w' (Err fault) → Serves state c d (Close handle) closed → GetsFile state a d path w w' (Err fault)
-  cut_short a b c d path handle w w' fault closed opens copies closes = record {
+  cut_short a b c d {path} {handle} w closed opens copies closes = record {
     calls = made (Open path) (Handle handle) ∷ (copies.calls ++ made (Close handle) closed ∷ []);
-    served = between a b c d path handle copies.calls closed opens copies.served closes;
+    served = between b c d copies.calls opens copies.served closes;
     outcome = inr (record {
       handle = handle;
       pieces = copies.outcome.0;
@@ -231,13 +232,13 @@ module _ {D : Type 0} (state : D → DeviceState) where
     });
   }
 
-  pub not_closed : (a b c d : Mounted D) (path : List ℕ) (handle : ℕ) (w w' : Option (List ℕ)) (count : ℕ) (refused : FsError)
+  pub not_closed : (a b c d : Mounted D) {path : List ℕ} {handle : ℕ} (w w' : Option (List ℕ)) {count : ℕ} (refused : FsError)
       (fault : GetFault) (closed : Answer)
       → Serves state a b (Open path) (Handle handle) → CopiesOut state b c handle w w' (Ok count) → Serves state c d (Close handle) closed
       → (((fault ≡ why.Call refused) × (count ≡ 0)) ⊎ (fault ≡ why.CutShort refused)) → GetsFile state a d path w w' (Err fault)
-  not_closed a b c d path handle w w' count refused fault closed opens copies closes is = record {
+  not_closed a b c d {path} {handle} w w' {count} refused fault closed opens copies closes is = record {
     calls = made (Open path) (Handle handle) ∷ (copies.calls ++ made (Close handle) closed ∷ []);
-    served = between a b c d path handle copies.calls closed opens copies.served closes;
+    served = between b c d copies.calls opens copies.served closes;
     outcome = inr (record {
       handle = handle;
       pieces = copies.outcome.0;
@@ -245,18 +246,18 @@ module _ {D : Type 0} (state : D → DeviceState) where
       closed = closed;
       order = refl;
       read = inl copies.outcome.1;
-      sent = sends_behind w w' copies.outcome.0 count refused fault copies.outcome.3 is;
+      sent = sends_behind w w' refused copies.outcome.3 is;
     });
   }
 
-  pub got : (a b c d : Mounted D) (path : List ℕ) (handle : ℕ) (w w' : Option (List ℕ)) (count : ℕ)
+  pub got : (a b c d : Mounted D) {path : List ℕ} {handle : ℕ} (w : Option (List ℕ)) {w' : Option (List ℕ)} {count : ℕ}
       → Serves state a b (Open path) (Handle handle)
       → CopiesOut state b c handle w w' (Ok count) → Serves state c d (Close handle) Done → GetsFile state a d path w w' (Ok count)
-  got a b c d path handle w w' count opens copies closes =
+  got a b c d {path} {handle} w opens copies closes =
       let pieces = copies.outcome.0 in
       let read : ServesAll state b c (reads handle 0 pieces) = subst (ServesAll state b c) copies.outcome.1 copies.served in
       record {
         calls = getting path handle pieces;
-        served = between a b c d path handle (reads handle 0 pieces) Done opens read closes;
+        served = between b c d (reads handle 0 pieces) opens read closes;
         outcome = (handle, pieces, refl, copies.outcome.2, copies.outcome.3);
       }

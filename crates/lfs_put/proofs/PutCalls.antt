@@ -63,14 +63,15 @@ module _ {D : Type 0} (state : D → DeviceState) where
     pub read : Consumes r left (bytes_of pieces)
     pub counted : offset ≡ length (bytes_of pieces)
 
-  pub copying_none : (v : Mounted D) (handle : ℕ) (r : Option (List ℕ)) → Copying v v handle r r 0
-  copying_none v handle r = record { pieces = []; served = refl; read = Consumes-nil r; counted = refl }
+  pub copying_none : (v : Mounted D) {handle : ℕ} (r : Option (List ℕ)) → Copying v v handle r r 0
+  copying_none v r = record { pieces = []; served = refl; read = Consumes-nil r; counted = refl }
 
-  pub copying_more : (old mid new : Mounted D) (handle : ℕ) (r left left' : Option (List ℕ)) (offset : ℕ) (bytes : List ℕ) (count end : ℕ)
+  pub copying_more : (old mid new : Mounted D) {handle : ℕ} {r left : Option (List ℕ)} (left' : Option (List ℕ)) {offset : ℕ}
+      {bytes : List ℕ} (count end : ℕ)
       → Copying old mid handle r left offset
       → Consumes left left' bytes → Serves state mid new (Pwrite handle offset bytes) (Count count) → end ≡ offset + length bytes
       → Copying old new handle r left' end
-  copying_more old mid new handle r left left' offset bytes count end so_far read serves is =
+  copying_more old mid new {handle} {r} {left} left' {offset} {bytes} count end so_far read serves is =
       let p : Piece = record { bytes = bytes; count = count } in
       let at : offset ≡ 0 + length (bytes_of so_far.pieces) = (let same = so_far.counted in omega (arith, same)) in
       let last : ServesAll state mid new (written handle p (0 + length (bytes_of so_far.pieces))) =
@@ -89,10 +90,10 @@ module _ {D : Type 0} (state : D → DeviceState) where
       }
 
   -- the reader is at its end
-  pub copied : (old new : Mounted D) (handle : ℕ) (r left left' : Option (List ℕ)) (offset : ℕ) → Copying old new handle r left offset
+  pub copied : (old new : Mounted D) (handle : ℕ) (r left left' : Option (List ℕ)) {offset : ℕ} → Copying old new handle r left offset
       → Consumes left left' [] → IsAtEnd left'
       → Copies state old new handle r left' (Ok offset)
-  copied old new handle r left left' offset so_far none end = record {
+  copied old new handle r left left' so_far none end = record {
     calls = writes handle 0 so_far.pieces;
     served = so_far.served;
     outcome = (
@@ -108,18 +109,19 @@ module _ {D : Type 0} (state : D → DeviceState) where
   }
 
   -- no further piece is read, or written
-  pub copy_ends : (old new : Mounted D) (handle : ℕ) (r left left' : Option (List ℕ)) (offset : ℕ) (fault : PutFault)
+  pub copy_ends : {old new : Mounted D} {handle : ℕ} {r left left' : Option (List ℕ)} {offset : ℕ} {fault : PutFault}
       → Copying old new handle r left offset → Copies state old new handle r left' (Err fault)
-  copy_ends old new handle r left left' offset fault so_far = record {
+  copy_ends {handle} so_far = record {
     calls = writes handle 0 so_far.pieces;
     served = so_far.served;
     outcome = λ path beside. writes_spare path beside handle 0 so_far.pieces;
   }
 
-  pub copy_refused : (old mid new : Mounted D) (handle : ℕ) (r left left' : Option (List ℕ)) (offset : ℕ) (bytes : List ℕ)
-      (refusal : Refusal) (fault : PutFault) → Copying old mid handle r left offset
+  pub copy_refused : (old mid new : Mounted D) {handle : ℕ} {r left : Option (List ℕ)} (left' : Option (List ℕ)) {offset : ℕ}
+      (bytes : List ℕ)
+      {refusal : Refusal} (fault : PutFault) → Copying old mid handle r left offset
       → Serves state mid new (Pwrite handle offset bytes) (Refuse refusal) → Copies state old new handle r left' (Err fault)
-  copy_refused old mid new handle r left left' offset bytes refusal fault so_far serves = record {
+  copy_refused old mid new {handle} left' {offset} bytes {refusal} fault so_far serves = record {
     calls = writes handle 0 so_far.pieces ++ made (Pwrite handle offset bytes) (Refuse refusal) ∷ [];
     served = serves_append state old mid new (writes handle 0 so_far.pieces) (made (Pwrite handle offset bytes) (Refuse refusal) ∷ [])
         so_far.served (new, serves, refl);
@@ -130,10 +132,10 @@ module _ {D : Type 0} (state : D → DeviceState) where
 
   -- ---- a file
 
-  pub create_refused : (old new : Mounted D) (beside : List ℕ) (r r' : Option (List ℕ)) (refusal : Refusal) (fault : PutFault)
+  pub create_refused : {old : Mounted D} (new : Mounted D) {beside : List ℕ} (r r' : Option (List ℕ)) {refusal : Refusal} (fault : PutFault)
       → Serves state old new (Create beside) (Refuse refusal)
       → MakesFile state old new beside r r' (Err fault)
-  create_refused old new beside r r' refusal fault serves = record {
+  create_refused new {beside} r r' {refusal} fault serves = record {
     handle = 0;
     calls = made (Create beside) (Refuse refusal) ∷ [];
     served = (new, serves, refl);
@@ -141,11 +143,11 @@ module _ {D : Type 0} (state : D → DeviceState) where
   }
 
   -- the calls between creation and closing
-  between : (a b c d : Mounted D) (beside : List ℕ) (handle : ℕ) (calls : List Made) (answer : Answer)
+  between : {a : Mounted D} (b c d : Mounted D) {beside : List ℕ} {handle : ℕ} (calls : List Made) {answer : Answer}
       → Serves state a b (Create beside) (Handle handle) → ServesAll state b c calls
       → Serves state c d (Close handle) answer
       → ServesAll state a d (made (Create beside) (Handle handle) ∷ (calls ++ made (Close handle) answer ∷ []))
-  between a b c d beside handle calls answer creates copies closes =
+  between b c d {handle} calls {answer} creates copies closes =
       (b, creates, serves_append state b c d calls (made (Close handle) answer ∷ []) copies (d, closes, refl))
 
   between_spare : (path beside : List ℕ) (handle : ℕ) (calls : List Made) (answer : Answer) → SpareAll path beside handle calls
@@ -155,75 +157,77 @@ module _ {D : Type 0} (state : D → DeviceState) where
     all_append (λ (m : Made). SparesBy path beside handle m.call m.answer) calls (made (Close handle) answer ∷ []) spares (refl, tt),
   )
 
-  pub file_made : (a b c d : Mounted D) (beside : List ℕ) (handle : ℕ) (r r' : Option (List ℕ)) (count : ℕ)
+  pub file_made : (a b c d : Mounted D) {beside : List ℕ} {handle : ℕ} (r : Option (List ℕ)) {r' : Option (List ℕ)} {count : ℕ}
       → Serves state a b (Create beside) (Handle handle) → Copies state b c handle r r' (Ok count)
       → Serves state c d (Close handle) Done → MakesFile state a d beside r r' (Ok count)
-  file_made a b c d beside handle r r' count creates copies closes =
+  file_made a b c d {beside} {handle} r creates copies closes =
       let pieces = copies.outcome.0 in
       let wrote : ServesAll state b c (writes handle 0 pieces) = subst (ServesAll state b c) copies.outcome.1 copies.served in
       record {
         handle = handle;
         calls = making beside handle pieces;
-        served = between a b c d beside handle (writes handle 0 pieces) Done creates wrote closes;
+        served = between b c d (writes handle 0 pieces) creates wrote closes;
         outcome = (pieces, refl, copies.outcome.2);
       }
 
-  pub copy_failed : (a b c d : Mounted D) (beside : List ℕ) (handle : ℕ) (r r' : Option (List ℕ)) (fault : PutFault) (answer : Answer)
+  pub copy_failed : (a b c d : Mounted D) {beside : List ℕ} {handle : ℕ} (r : Option (List ℕ)) {r' : Option (List ℕ)} {fault : PutFault}
+      (answer : Answer)
       → Serves state a b (Create beside) (Handle handle)
       → Copies state b c handle r r' (Err fault) → Serves state c d (Close handle) answer → MakesFile state a d beside r r' (Err fault)
-  copy_failed a b c d beside handle r r' fault answer creates copies closes = record {
+  copy_failed a b c d {beside} {handle} r answer creates copies closes = record {
     handle = handle;
     calls = made (Create beside) (Handle handle) ∷ (copies.calls ++ made (Close handle) answer ∷ []);
-    served = between a b c d beside handle copies.calls answer creates copies.served closes;
+    served = between b c d copies.calls creates copies.served closes;
     outcome = λ path. between_spare path beside handle copies.calls answer (copies.outcome path beside);
   }
 
-  pub close_refused : (a b c d : Mounted D) (beside : List ℕ) (handle : ℕ) (r r' : Option (List ℕ)) (count : ℕ) (fault : PutFault)
+  pub close_refused : (a b c d : Mounted D) {beside : List ℕ} {handle : ℕ} (r : Option (List ℕ)) {r' : Option (List ℕ)} {count : ℕ}
+      (fault : PutFault)
       (answer : Answer) → Serves state a b (Create beside) (Handle handle)
       → Copies state b c handle r r' (Ok count) → Serves state c d (Close handle) answer → MakesFile state a d beside r r' (Err fault)
-  close_refused a b c d beside handle r r' count fault answer creates copies closes =
+  close_refused a b c d {beside} {handle} r fault answer creates copies closes =
       let pieces = copies.outcome.0 in
       let wrote : ServesAll state b c (writes handle 0 pieces) = subst (ServesAll state b c) copies.outcome.1 copies.served in
       record {
         handle = handle;
         calls = made (Create beside) (Handle handle) ∷ (writes handle 0 pieces ++ made (Close handle) answer ∷ []);
-        served = between a b c d beside handle (writes handle 0 pieces) answer creates wrote closes;
+        served = between b c d (writes handle 0 pieces) creates wrote closes;
         outcome = λ path. between_spare path beside handle (writes handle 0 pieces) answer (writes_spare path beside handle 0 pieces);
       }
 
   -- ---- its name
 
-  pub sync_refused : {X : Type 0} (a b : Mounted D) (beside path : List ℕ) (refusal : Refusal) (fault : PutFault)
+  pub sync_refused : {X : Type 0} (a b : Mounted D) (beside path : List ℕ) {refusal : Refusal} (fault : PutFault)
       → Serves state a b Sync (Refuse refusal)
       → RenamesFile state {X = X} a b beside path (Err fault)
-  sync_refused a b beside path refusal fault syncs = record {
+  sync_refused a b beside path {refusal} fault syncs = record {
     calls = made Sync (Refuse refusal) ∷ [];
     served = (b, syncs, refl);
     outcome = inl (λ handle. (tt, tt));
   }
 
-  pub rename_refused : {X : Type 0} (a b c : Mounted D) (beside path : List ℕ) (refusal : Refusal) (fault : PutFault)
+  pub rename_refused : {X : Type 0} (a b c : Mounted D) {beside path : List ℕ} {refusal : Refusal} (fault : PutFault)
       → Serves state a b Sync Done
       → Serves state b c (Rename beside path) (Refuse refusal) → RenamesFile state {X = X} a c beside path (Err fault)
-  rename_refused a b c beside path refusal fault syncs renames = record {
+  rename_refused a b c {beside} {path} {refusal} fault syncs renames = record {
     calls = made Sync Done ∷ made (Rename beside path) (Refuse refusal) ∷ [];
     served = (b, syncs, (c, renames, refl));
     outcome = inl (λ handle. (tt, ((refl, refl, refl), tt)));
   }
 
-  pub not_synced : {X : Type 0} (a b c d : Mounted D) (beside path : List ℕ) (refusal : Refusal) (fault : PutFault)
+  pub not_synced : {X : Type 0} (a b c d : Mounted D) {beside path : List ℕ} {refusal : Refusal} (fault : PutFault)
       → Serves state a b Sync Done → Serves state b c (Rename beside path) Done
       → Serves state c d Sync (Refuse refusal) → RenamesFile state {X = X} a d beside path (Err fault)
-  not_synced a b c d beside path refusal fault syncs renames last = record {
+  not_synced a b c d {beside} {path} {refusal} fault syncs renames last = record {
     calls = renaming beside path (Refuse refusal);
     served = (b, syncs, (c, renames, (d, last, refl)));
     outcome = inr (refusal, refl);
   }
 
-  pub file_renamed : {X : Type 0} (a b c d : Mounted D) (beside path : List ℕ) (done : X) → Serves state a b Sync Done
+  pub file_renamed : {X : Type 0} (a b c d : Mounted D) {beside path : List ℕ} {done : X} → Serves state a b Sync Done
       → Serves state b c (Rename beside path) Done → Serves state c d Sync Done
       → RenamesFile state {X = X} a d beside path (Ok done)
-  file_renamed a b c d beside path done syncs renames last = record {
+  file_renamed a b c d {beside} {path} syncs renames last = record {
     calls = renaming beside path Done;
     served = (b, syncs, (c, renames, (d, last, refl)));
     outcome = refl;
@@ -231,9 +235,9 @@ module _ {D : Type 0} (state : D → DeviceState) where
 
   -- ---- the file under its name
 
-  pub not_made : (a b : Mounted D) (beside path : List ℕ) (r r' : Option (List ℕ)) (fault : PutFault)
+  pub not_made : (a b : Mounted D) {beside : List ℕ} (path : List ℕ) (r : Option (List ℕ)) {r' : Option (List ℕ)} {fault : PutFault}
       → MakesFile state a b beside r r' (Err fault) → Replaces state a b beside path r r' (Err fault)
-  not_made a b beside path r r' fault makes = record {
+  not_made a b path r makes = record {
     handle = makes.handle;
     calls = makes.calls;
     served = makes.served;
@@ -241,43 +245,43 @@ module _ {D : Type 0} (state : D → DeviceState) where
   }
 
   -- the calls of a file that was made, and those behind it
-  both : (a b c : Mounted D) (beside : List ℕ) (r r' : Option (List ℕ)) (count : ℕ) (calls : List Made)
+  both : (a b c : Mounted D) {beside : List ℕ} {r r' : Option (List ℕ)} {count : ℕ} (calls : List Made)
       (makes : MakesFile state a b beside r r' (Ok count)) → ServesAll state b c calls
       → ServesAll state a c (making beside makes.handle makes.outcome.0 ++ calls)
-  both a b c beside r r' count calls makes more =
+  both a b c {beside} calls makes more =
       serves_append state a b c (making beside makes.handle makes.outcome.0) calls
       (subst (ServesAll state a b) makes.outcome.1 makes.served) more
 
-  pub replaced : {X : Type 0} (a b c : Mounted D) (beside path : List ℕ) (r r' : Option (List ℕ)) (count : ℕ) (done : X)
+  pub replaced : {X : Type 0} (a b c : Mounted D) {beside path : List ℕ} (r r' : Option (List ℕ)) {count : ℕ} {done : X}
       → MakesFile state a b beside r r' (Ok count)
       → RenamesFile state {X = X} b c beside path (Ok done) → Replaces state a c beside path r r' (Ok count)
-  replaced a b c beside path r r' count done makes renames = record {
+  replaced a b c {beside} {path} r r' {count} makes renames = record {
     handle = makes.handle;
     calls = making beside makes.handle makes.outcome.0 ++ renaming beside path Done;
-    served = both a b c beside r r' count (renaming beside path Done) makes (subst (ServesAll state b c) renames.outcome renames.served);
+    served = both a b c (renaming beside path Done) makes (subst (ServesAll state b c) renames.outcome renames.served);
     outcome = (makes.outcome.0, refl, makes.outcome.2);
   }
 
-  not_renamed_by : (a b c : Mounted D) (beside path : List ℕ) (r r' : Option (List ℕ)) (count : ℕ) (fault : PutFault) (calls : List Made)
+  not_renamed_by : (a b c : Mounted D) (beside path : List ℕ) (r r' : Option (List ℕ)) (count : ℕ) {fault : PutFault} (calls : List Made)
       → MakesFile state a b beside r r' (Ok count)
       → ServesAll state b c calls → HasRenamed {X = Unit {0}} beside path calls (Err fault)
       → Replaces state a c beside path r r' (Err fault)
-  not_renamed_by a b c beside path r r' count fault calls makes more (inl spares) =
+  not_renamed_by a b c beside path r r' count calls makes more (inl spares) =
       let file = making beside makes.handle makes.outcome.0 in
       record {
         handle = makes.handle;
         calls = file ++ calls;
-        served = both a b c beside r r' count calls makes more;
+        served = both a b c calls makes more;
         outcome = inl (all_append (λ (m : Made). SparesBy path beside makes.handle m.call m.answer) file calls
             (making_spare path beside makes.handle makes.outcome.0) (spares makes.handle));
       }
-  not_renamed_by a b c beside path r r' count fault calls makes more (inr (refusal, order)) =
+  not_renamed_by a b c beside path r r' count calls makes more (inr (refusal, order)) =
       let file = making beside makes.handle makes.outcome.0 in
       let last = made (Rename beside path) Done ∷ made Sync (Refuse refusal) ∷ [] in
       record {
         handle = makes.handle;
         calls = file ++ renaming beside path (Refuse refusal);
-        served = both a b c beside r r' count (renaming beside path (Refuse refusal)) makes (subst (ServesAll state b c) order more);
+        served = both a b c (renaming beside path (Refuse refusal)) makes (subst (ServesAll state b c) order more);
         outcome = inr (record {
           before = file ++ made Sync Done ∷ [];
           refusal = refusal;
@@ -289,17 +293,17 @@ module _ {D : Type 0} (state : D → DeviceState) where
         });
       }
 
-  pub not_renamed : (a b c : Mounted D) (beside path : List ℕ) (r r' : Option (List ℕ)) (count : ℕ) (fault : PutFault)
+  pub not_renamed : (a b c : Mounted D) {beside path : List ℕ} (r r' : Option (List ℕ)) {count : ℕ} (fault : PutFault)
       → MakesFile state a b beside r r' (Ok count)
       → RenamesFile state {X = Unit {0}} b c beside path (Err fault) → Replaces state a c beside path r r' (Err fault)
-  not_renamed a b c beside path r r' count fault makes renames =
-      not_renamed_by a b c beside path r r' count fault renames.calls makes renames.served renames.outcome
+  not_renamed a b c {beside} {path} r r' {count} fault makes renames =
+      not_renamed_by a b c beside path r r' count renames.calls makes renames.served renames.outcome
 
   -- ---- a whole put
 
-  pub looked_alone : (a b : Mounted D) (path beside : List ℕ) (r : Option (List ℕ)) (fault : PutFault) → IsBeside path beside
+  pub looked_alone : (a b : Mounted D) {path beside : List ℕ} (r : Option (List ℕ)) (fault : PutFault) → IsBeside path beside
       → Asks state a b (LstatOf path) → PutsFile state a b path r r (Err fault)
-  looked_alone a b path beside r fault is looks = record {
+  looked_alone a b {path} {beside} r fault is looks = record {
     beside = beside;
     handle = 0;
     calls = made (LstatOf path) looks.0 ∷ [];
@@ -308,10 +312,10 @@ module _ {D : Type 0} (state : D → DeviceState) where
     outcome = inl (refl, tt);
   }
 
-  pub cleared_alone : (a b c : Mounted D) (path beside : List ℕ) (r : Option (List ℕ)) (fault : PutFault) → IsBeside path beside
+  pub cleared_alone : (a b c : Mounted D) {path beside : List ℕ} (r : Option (List ℕ)) (fault : PutFault) → IsBeside path beside
       → Asks state a b (LstatOf path) → Asks state b c (Unlink beside)
       → PutsFile state a c path r r (Err fault)
-  cleared_alone a b c path beside r fault is looks clears = record {
+  cleared_alone a b c {path} {beside} r fault is looks clears = record {
     beside = beside;
     handle = 0;
     calls = made (LstatOf path) looks.0 ∷ made (Unlink beside) clears.0 ∷ [];
@@ -320,10 +324,11 @@ module _ {D : Type 0} (state : D → DeviceState) where
     outcome = inl (refl, (refl, tt));
   }
 
-  pub put_whole : (a b c d : Mounted D) (path beside : List ℕ) (r r' : Option (List ℕ)) (count : ℕ) → IsBeside path beside
+  pub put_whole : (a b c d : Mounted D) {path beside : List ℕ} (r : Option (List ℕ)) {r' : Option (List ℕ)} {count : ℕ}
+      → IsBeside path beside
       → Asks state a b (LstatOf path) → Asks state b c (Unlink beside)
       → Replaces state c d beside path r r' (Ok count) → PutsFile state a d path r r' (Ok count)
-  put_whole a b c d path beside r r' count is looks clears replaces = record {
+  put_whole a b c d {path} {beside} r is looks clears replaces = record {
     beside = beside;
     handle = replaces.handle;
     calls = made (LstatOf path) looks.0 ∷ made (Unlink beside) clears.0
@@ -333,11 +338,12 @@ module _ {D : Type 0} (state : D → DeviceState) where
     outcome = (looks.0, clears.0, replaces.outcome.0, refl, replaces.outcome.2);
   }
 
-  given_up_by : (a b c d e : Mounted D) (path beside : List ℕ) (handle : ℕ) (r r' : Option (List ℕ)) (fault : PutFault) (calls : List Made)
+  given_up_by : {a : Mounted D} (b c d e : Mounted D) (path beside : List ℕ) (handle : ℕ) {r r' : Option (List ℕ)} {fault : PutFault}
+      (calls : List Made)
       → IsBeside path beside → Asks state a b (LstatOf path)
       → Asks state b c (Unlink beside) → ServesAll state c d calls → HasReplaced beside path handle r r' calls (Err fault)
       → GivesUp state d e beside → PutsFile state a e path r r' (Err fault)
-  given_up_by a b c d e path beside handle r r' fault calls is looks clears replaces (inl spares) gives_up =
+  given_up_by b c d e path beside handle calls is looks clears replaces (inl spares) gives_up =
       let last = made (Unlink beside) gives_up.0 ∷ made Sync gives_up.1 ∷ [] in
       record {
         beside = beside;
@@ -348,7 +354,7 @@ module _ {D : Type 0} (state : D → DeviceState) where
         outcome =
             inl (refl, (refl, all_append (λ (m : Made). SparesBy path beside handle m.call m.answer) calls last spares (refl, (tt, tt))));
       }
-  given_up_by a b c d e path beside handle r r' fault calls is looks clears replaces (inr unsynced) gives_up =
+  given_up_by b c d e path beside handle calls is looks clears replaces (inr unsynced) gives_up =
       let last = made (Unlink beside) gives_up.0 ∷ made Sync gives_up.1 ∷ [] in
       let done = made (Rename beside path) Done ∷ made Sync (Refuse unsynced.refusal) ∷ unsynced.after in
       record {
@@ -369,15 +375,15 @@ module _ {D : Type 0} (state : D → DeviceState) where
         });
       }
 
-  pub given_up : (a b c d e : Mounted D) (path beside : List ℕ) (r r' : Option (List ℕ)) (fault : PutFault) → IsBeside path beside
+  pub given_up : (a b c d e : Mounted D) {path beside : List ℕ} (r r' : Option (List ℕ)) (fault : PutFault) → IsBeside path beside
       → Asks state a b (LstatOf path) → Asks state b c (Unlink beside)
       → Replaces state c d beside path r r' (Err fault) → GivesUp state d e beside → PutsFile state a e path r r' (Err fault)
-  given_up a b c d e path beside r r' fault is looks clears replaces gives_up =
-      given_up_by a b c d e path beside replaces.handle r r' fault replaces.calls is looks clears replaces.served replaces.outcome gives_up
+  given_up a b c d e {path} {beside} r r' fault is looks clears replaces gives_up =
+      given_up_by b c d e path beside replaces.handle replaces.calls is looks clears replaces.served replaces.outcome gives_up
 
   -- ---- a record of a result that is known
 
-  pub replaces_of : (a b : Mounted D) (beside path : List ℕ) (r r' : Option (List ℕ)) (result is : Result ℕ PutFault) → result ≡ is
+  pub replaces_of : (a b : Mounted D) {beside path : List ℕ} (r r' : Option (List ℕ)) {result is : Result ℕ PutFault} → result ≡ is
       → Replaces state a b beside path r r' result
       → Replaces state a b beside path r r' is
-  replaces_of a b beside path r r' result is same = subst (Replaces state a b beside path r r') same
+  replaces_of a b {beside} {path} r r' same = subst (Replaces state a b beside path r r') same

@@ -35,11 +35,11 @@ above_ends path (suc j) few (inr is) =
     let here : get_or path j 0 ≡ 47 = ap (λ (n : ℕ). get_or path n 0) back ∙ is in
     inr (take j path, take-suc path j 0 (omega (arith, few)) ∙ ap (λ (b : ℕ). take j path ++ b ∷ []) here)
 
-pub beside_of : (path whole name beside : List ℕ) (k : ℕ) → whole ≡ path → k ≤ length whole
+pub beside_of : {path : List ℕ} (whole : List ℕ) {name : List ℕ} (beside : List ℕ) (k : ℕ) → whole ≡ path → k ≤ length whole
     → ((i : ℕ) → k ≤ i → i < length whole → slice_index whole i ≢ 47)
     → ((k ≡ 0) ⊎ (slice_index whole (k - 1) ≡ 47)) → name ≡ drop k whole → name ≢ unfinished → beside ≡ take k path ++ unfinished
     → IsBeside path beside
-beside_of path whole name beside k same few plain place is other put =
+beside_of whole {name} beside k same few plain place is other put =
     subst (λ (p : List ℕ). beside ≡ take k p ++ unfinished → IsBeside p beside) same of put
   where
     of : beside ≡ take k whole ++ unfinished → IsBeside whole beside

@@ -16,21 +16,21 @@ longer : (orders told : List Order) → length told ≤ length (onto orders told
 longer [] told = omega arith
 longer (order ∷ orders) told = let more = longer orders (order ∷ told) in omega (arith, more)
 
-pub carried_none : (d : DeviceState) → IsLawful d → IsCarried d d []
-carried_none d lawful = record {
-  carries = carries_none d;
+pub carried_none : {d : DeviceState} → IsLawful d → IsCarried d d []
+carried_none {d} lawful = record {
+  carries = carries_none;
   failures = refl;
   told = refl;
   as_told = λ keeps start told is. is;
-  moments = λ keeps start told is. started d (LeftSince start told (length told)) lawful
+  moments = λ keeps start told is. started (LeftSince start told (length told)) lawful
       (λ c left. counts_left start told (length told) c (omega arith) (is.left c left));
 }
 
-carried_more : (a b c : DeviceState) (orders : List Order) (order : Order) → IsCarried a b orders → Carries b c → Elapses b c
+carried_more : (a b c : DeviceState) {orders : List Order} {order : Order} → IsCarried a b orders → Carries b c → Elapses b c
     → c.failures ≡ b.failures
     → c.told ≡ order ∷ b.told → GoesOn b c order → IsCarried a c (orders ++ order ∷ [])
-carried_more a b c orders order one carries time fails told goes = record {
-  carries = carries_then a b c one.carries carries;
+carried_more a b c {orders} {order} one carries time fails told goes = record {
+  carries = carries_then one.carries carries;
   failures = fails ∙ one.failures;
   told = told ∙ ap (λ (l : List Order). order ∷ l) one.told ∙ sym (told_at_end orders order a.told);
   as_told = λ keeps start before is. subst (λ (l : List Order). IsAsTold start l c) (sym (told_at_end orders order before))
@@ -38,23 +38,22 @@ carried_more a b c orders order one carries time fails told goes = record {
   moments = λ keeps start before is.
       (let now = goes keeps start (onto orders before) (one.as_told (carries.kept_before keeps) start before is) in
       subst (λ (l : List Order). LeavesOnly a c (LeftSince start l (length before))) (sym (told_at_end orders order before))
-      (goes_on a b c (LeftSince start (order ∷ onto orders before) (length before))
-      (weaker a b (LeftSince start (onto orders before) (length before)) (LeftSince start (order ∷ onto orders before) (length before))
+      (goes_on (LeftSince start (order ∷ onto orders before) (length before))
+      (weaker (LeftSince start (onto orders before) (length before)) (LeftSince start (order ∷ onto orders before) (length before))
       (λ x was. inr was)
       (one.moments (carries.kept_before keeps) start before is))
       carries time (λ x left. inl (let more = longer orders before in omega (arith, more), now.left x left))));
 }
 
-pub carried_next : (a b c : DeviceState) (orders : List Order) (i : ℕ) (o : Order) → i < length orders → IsCarried a b (take i orders)
+pub carried_next : {a b c : DeviceState} (orders : List Order) (i : ℕ) (o : Order) → i < length orders → IsCarried a b (take i orders)
     → Carries b c → Elapses b c
     → c.failures ≡ b.failures → c.told ≡ get_or orders i o ∷ b.told → GoesOn b c (get_or orders i o) → IsCarried a c (take (i + 1) orders)
-carried_next a b c orders i o lt one carries time fails told goes =
-    subst (λ (l : List Order). IsCarried a c l) (sym (take_more orders i o lt))
-    (carried_more a b c (take i orders) (get_or orders i o) one carries time fails told goes)
+carried_next {a} {b} {c} orders i o lt one carries time fails told goes =
+    subst (λ (l : List Order). IsCarried a c l) (sym (take_more orders i o lt)) (carried_more a b c one carries time fails told goes)
 
-pub within : (n n' : ℕ) (orders : List Order) (i : ℕ) (o : Order) → i < length orders → n' ≡ n → IsWithin n (get_or orders i Sync)
+pub within : {n n' : ℕ} (orders : List Order) (i : ℕ) (o : Order) → i < length orders → n' ≡ n → IsWithin n (get_or orders i Sync)
     → IsWithin n' (get_or orders i o)
-within n n' orders i o lt same is = subst (λ (size : ℕ). IsWithin size (get_or orders i o)) (sym same)
+within {n} orders i o lt same is = subst (λ (size : ℕ). IsWithin size (get_or orders i o)) (sym same)
     (subst (λ (x : Order). IsWithin n x) (get_or_default orders i Sync o lt) is)
 
 -- the order that failed, behind those before it
@@ -63,13 +62,13 @@ fails_since : (start : List Cell) (order : Order) (told before : List Order) (c 
 fails_since start order told before c le (inl with') = inl (omega (arith, le), with')
 fails_since start order told before c le (inr without) = inr (counts_left start told (length before) c le without)
 
-pub carried_up_to : (a b c : DeviceState) (orders : List Order) (i : ℕ) → i < length orders → IsCarried a b (take i orders) → Carries b c
+pub carried_up_to : (a b c : DeviceState) {orders : List Order} (i : ℕ) → i < length orders → IsCarried a b (take i orders) → Carries b c
     → Elapses b c
     → b.failures < c.failures → MayTell (get_or orders i Sync) b.told c.told → LeftBy b c (get_or orders i Sync) → IsCarriedUpTo a c orders
-carried_up_to a b c orders i lt one carries time fails told left = record {
+carried_up_to a b c {orders} i lt one carries time fails told left = record {
   mid = i;
   few = lt;
-  carries = carries_then a b c one.carries carries;
+  carries = carries_then one.carries carries;
   failed = subst (λ (n : ℕ). n < c.failures) one.failures fails;
   told = subst (λ (l : List Order). MayTell (get_or orders i Sync) l c.told) one.told told;
   left = λ keeps start before is. left start (onto (take i orders) before) (one.as_told (carries.kept_before keeps) start before is);
@@ -77,8 +76,8 @@ carried_up_to a b c orders i lt one carries time fails told left = record {
       (let last = get_or orders i Sync in
       let mid = onto (take i orders) before in
       let was = carries.kept_before keeps in
-      goes_on a b c (LeftSince start (last ∷ mid) (length before))
-      (weaker a b (LeftSince start mid (length before)) (LeftSince start (last ∷ mid) (length before)) (λ x then'. inr then')
+      goes_on (LeftSince start (last ∷ mid) (length before))
+      (weaker (LeftSince start mid (length before)) (LeftSince start (last ∷ mid) (length before)) (λ x then'. inr then')
       (one.moments was start before is))
       carries time
       (λ x now.
@@ -86,12 +85,12 @@ carried_up_to a b c orders i lt one carries time fails told left = record {
 }
 
 -- the same for an order that the loop knows by another default
-pub failed_here : {T E : Type 0} (r : Result T E) (a b c : DeviceState) (orders : List Order) (i : ℕ) (o : Order) → i < length orders
+pub failed_here : {T E : Type 0} (r : Result T E) {a b c : DeviceState} (orders : List Order) (i : ℕ) (o : Order) → i < length orders
     → IsCarried a b (take i orders) → Carries b c → Elapses b c
     → b.failures < c.failures → MayTell (get_or orders i o) b.told c.told → LeftBy b c (get_or orders i o)
     → OnErr r (IsCarriedUpTo a c orders)
-failed_here (Ok x) a b c orders i o lt one carries time fails told left = tt
-failed_here (Err e) a b c orders i o lt one carries time fails told left =
+failed_here (Ok x) orders i o lt one carries time fails told left = tt
+failed_here (Err e) {a} {b} {c} orders i o lt one carries time fails told left =
     let same = sym (get_or_default orders i Sync o lt) in
-    carried_up_to a b c orders i lt one carries time fails
+    carried_up_to a b c i lt one carries time fails
     (subst (λ (x : Order). MayTell x b.told c.told) same told) (subst (λ (x : Order). LeftBy b c x) same left)

@@ -41,15 +41,15 @@ begins_short first (order ∷ told) (inl is) = let same = ap (λ (l : List Order
 begins_short first (order ∷ told) (inr begins) = let le = begins_short first told begins in omega (arith, le)
 
 -- two beginnings of one length are the same
-begins_once : (a b told : List Order) → IsBeginning a told → IsBeginning b told → length a ≡ length b → a ≡ b
+begins_once : {a b : List Order} (told : List Order) → IsBeginning a told → IsBeginning b told → length a ≡ length b → a ≡ b
 unfolding IsBeginning
-begins_once a b [] one two same = one ∙ sym two
-begins_once a b (order ∷ told) (inl one) (inl two) same = one ∙ sym two
-begins_once a b (order ∷ told) (inl one) (inr two) same =
+begins_once [] one two same = one ∙ sym two
+begins_once (order ∷ told) (inl one) (inl two) same = one ∙ sym two
+begins_once {b} (order ∷ told) (inl one) (inr two) same =
     let long = ap (λ (l : List Order). length l) one in let short = begins_short b told two in absurd (omega (arith, long, short, same))
-begins_once a b (order ∷ told) (inr one) (inl two) same =
+begins_once {a} (order ∷ told) (inr one) (inl two) same =
     let long = ap (λ (l : List Order). length l) two in let short = begins_short a told one in absurd (omega (arith, long, short, same))
-begins_once a b (order ∷ told) (inr one) (inr two) same = begins_once a b told one two same
+begins_once {a} {b} (order ∷ told) (inr one) (inr two) same = begins_once told one two same
 
 begins_less : (order : Order) (first told : List Order) → IsBeginning (order ∷ first) told → IsBeginning first told
 unfolding IsBeginning
@@ -59,22 +59,22 @@ begins_less order first (x ∷ told) (inl is) =
 begins_less order first (x ∷ told) (inr begins) = inr (begins_less order first told begins)
 
 -- one that waits has the number of what was carried out before, and of those that wait before it
-pub numbered : (queue : List Order) (i : ℕ) (x : Order) (told : List Order) → i < length queue → x ≡ slice_index_or queue i x
+pub numbered : (queue : List Order) (i : ℕ) {x : Order} (told : List Order) → i < length queue → x ≡ slice_index_or queue i x
     → HasNumber (onto queue told) (length told + i) x
-numbered [] i x told lt is = absurd (omega (arith, lt))
-numbered (order ∷ queue) zero x told lt is = record {
+numbered [] i told lt is = absurd (omega (arith, lt))
+numbered (order ∷ queue) zero {x} told lt is = record {
   before = told;
   count = omega arith;
   begins = begins_before queue (x ∷ told) (order ∷ told)
       (subst (λ (o : Order). IsBeginning (x ∷ told) (o ∷ told)) is (begins_whole (x ∷ told)));
 }
-numbered (order ∷ queue) (suc i) x told lt is =
-    let rest = numbered queue i x (order ∷ told) (omega (arith, lt)) is in
+numbered (order ∷ queue) (suc i) {x} told lt is =
+    let rest = numbered queue i (order ∷ told) (omega (arith, lt)) is in
     record { before = rest.before; count = (let same = rest.count in omega (arith, same)); begins = rest.begins }
 
-pub number_stays : (old new : List Order) (number : ℕ) (order : Order) → Grows old new → HasNumber old number order
+pub number_stays : (old new : List Order) {number : ℕ} (order : Order) → Grows old new → HasNumber old number order
     → HasNumber new number order
-number_stays old new number order grows has = record {
+number_stays old new order grows has = record {
   before = has.before;
   count = has.count;
   begins = grows (order ∷ has.before) has.begins;
@@ -88,7 +88,7 @@ taken_on told (order ∷ taken) first begins each =
     let has = each 0 (omega arith) in
     let count = has.count in
     let same : has.before ≡ first =
-    begins_once has.before first told (begins_less order has.before told has.begins) begins (omega (arith, count)) in
+    begins_once told (begins_less order has.before told has.begins) begins (omega (arith, count)) in
     let one : IsBeginning (order ∷ first) told = subst (λ (l : List Order). IsBeginning (order ∷ l) told) same has.begins in
     taken_on told taken (order ∷ first) one (λ i lt.
     let at : length first + suc i ≡ length (order ∷ first) + i = omega arith in

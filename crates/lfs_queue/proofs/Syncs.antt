@@ -6,9 +6,9 @@ use Rattle.lfs_queue.specs.Orders.{MayLeave, present_left, queue_state_of}
 use Rattle.lfs_model.specs.declared.Order.{Order}
 use Rattle.lfs_model.specs.declared.Order.TheVariants.{Sync}
 
-pub synced_untouched : (n : ℕ) (start : List Cell) (old new : List Order) (f : ℕ) → new ≡ Sync ∷ old
+pub synced_untouched : (n : ℕ) (start : List Cell) (old : List Order) {new : List Order} (f : ℕ) → new ≡ Sync ∷ old
     → IsUntouched (queue_state_of n start old f) (queue_state_of n start new f)
-synced_untouched n start old new f is =
+synced_untouched n start old f is =
     subst (λ (told : List Order). IsUntouched (queue_state_of n start old f) (queue_state_of n start told f)) (sym is)
     (record { content = refl; crash = λ c left. subst (MayLeave start old) (sym left) (present_left start old) })
 
@@ -24,16 +24,16 @@ one_order n start order told f = record {
   told = grows_one order told (order ∷ told) refl;
 }
 
-pub order_carries : (n : ℕ) (start : List Cell) (order : Order) (old new : List Order) (f : ℕ) → new ≡ order ∷ old
+pub order_carries : (n : ℕ) (start : List Cell) (order : Order) (old : List Order) {new : List Order} (f : ℕ) → new ≡ order ∷ old
     → Carries (queue_state_of n start old f) (queue_state_of n start new f)
-order_carries n start order old new f is = subst
+order_carries n start order old f is = subst
     (λ (told : List Order). Carries (queue_state_of n start old f) (queue_state_of n start told f)) (sym is) (one_order n start order old f)
 
-pub same_carries : (n n' : ℕ) (start start' : List Cell) (told told' : List Order) (f f' : ℕ) → n' ≡ n → start' ≡ start → told' ≡ told
+pub same_carries : (n n' : ℕ) (start start' : List Cell) (told told' : List Order) (f : ℕ) {f' : ℕ} → n' ≡ n → start' ≡ start → told' ≡ told
     → f' ≡ f
     → Carries (queue_state_of n start told f) (queue_state_of n' start' told' f')
-same_carries n n' start start' told told' f f' one two three four =
-    let a : Carries (queue_state_of n start told f) (queue_state_of n start told f) = carries_none (queue_state_of n start told f) in
+same_carries n n' start start' told told' f one two three four =
+    let a : Carries (queue_state_of n start told f) (queue_state_of n start told f) = carries_none in
     let b : Carries (queue_state_of n start told f) (queue_state_of n' start told f) =
     subst (λ (x : ℕ). Carries (queue_state_of n start told f) (queue_state_of x start told f)) (sym one) a in
     let c : Carries (queue_state_of n start told f) (queue_state_of n' start' told f) =

@@ -11,14 +11,14 @@ use Rattle.lfs_model.specs.Slots.{HoldsCheckpoint, SlotHolds, IsNewest, NewestIs
 use Rattle.lfs_model.proofs.Slots.{held_same}
 use Rattle.lfs_model.proofs.CheckpointPlaces.{one_checkpoint}
 
-some_is : {X : Type 0} (x y : X) → Some x ≡ Some y → x ≡ y
-some_is x y is = cc is
+some_is : {X : Type 0} {x y : X} → Some x ≡ Some y → x ≡ y
+some_is is = cc is
 
 -- a cell holds one checkpoint
-pub one_held : (content : List Cell) (j k : ℕ) (c d : CheckpointValue) → j ≡ k → HoldsCheckpoint content j c → HoldsCheckpoint content k d
+pub one_held : {content : List Cell} {j k : ℕ} {c d : CheckpointValue} → j ≡ k → HoldsCheckpoint content j c → HoldsCheckpoint content k d
     → c ≡ d
-one_held content j k c d same one two =
-    one_checkpoint c d one.fits two.fits (some_is _ _ (sym one.spells ∙ ap (λ (i : ℕ). cell_at content i) same ∙ two.spells))
+one_held {content} {c} {d} same one two =
+    one_checkpoint c d one.fits two.fits (some_is (sym one.spells ∙ ap (λ (i : ℕ). cell_at content i) same ∙ two.spells))
 
 -- a content has one newest checkpoint
 pub one_newest : (content : List Cell) (c d : CheckpointValue) → IsNewest content c → IsNewest content d → c ≡ d
@@ -26,14 +26,14 @@ one_newest content c d one two =
     let below : c.number ≤ d.number = two.greatest (c.number % 2) c (omega arith) one.held in
     let above : d.number ≤ c.number = one.greatest (d.number % 2) d (omega arith) two.held in
     let same : c.number ≡ d.number = omega (arith, below, above) in
-    one_held content (c.number % 2) (d.number % 2) c d (ap (λ (n : ℕ). n % 2) same) one.held two.held
+    one_held (ap (λ (n : ℕ). n % 2) same) one.held two.held
 
 slot_cases : (slot : ℕ) → slot < 2 → (slot ≡ 0) ⊎ (slot ≡ 1)
 slot_cases zero lt = inl refl
 slot_cases (suc zero) lt = inr refl
 slot_cases (suc (suc slot)) lt = absurd (omega (arith, lt))
 
-module _ (last next : CheckpointValue) (follows : next.number ≡ last.number + 1) (fits : FitsCheckpoint next) (content : List Cell)
+module _ {last next : CheckpointValue} (follows : next.number ≡ last.number + 1) (fits : FitsCheckpoint next) {content : List Cell}
     (long : 2 ≤ length content) (newest : IsNewest content last) where
   abbrev at : ℕ
   at = next.number % 2
@@ -41,19 +41,19 @@ module _ (last next : CheckpointValue) (follows : next.number ≡ last.number + 
   other_cell : (x : Cell) (slot : ℕ) → slot ≢ at → cell_at (slice_set content at x) slot ≡ cell_at content slot
   other_cell x slot ne = get_or-set_other content at slot x None ne
 
-  this_cell : (x : Cell) → cell_at (slice_set content at x) at ≡ x
-  this_cell x = let lt : at < 2 = omega arith in get_or-set_same content at x None (omega (arith, lt, long))
+  this_cell : {x : Cell} → cell_at (slice_set content at x) at ≡ x
+  this_cell {x} = let lt : at < 2 = omega arith in get_or-set_same content at x None (omega (arith, lt, long))
 
   -- the slot becomes unreadable
   pub newest_lost : IsNewest (lose content at) last
   newest_lost = record {
     held =
         let ne : last.number % 2 ≢ at = λ same. absurd (omega (arith, follows, same)) in
-        held_same content (lose content at) (last.number % 2) last (other_cell None (last.number % 2) ne) newest.held;
+        held_same (lose content at) last (other_cell None (last.number % 2) ne) newest.held;
     greatest = λ slot d lt held. elim (cases_eq slot at) [
-      | inl same ↦ (let none : None ≡ Some (checkpoint_sector d) = sym (this_cell None)
+      | inl same ↦ (let none : None ≡ Some (checkpoint_sector d) = sym (this_cell {x = None})
           ∙ ap (λ (i : ℕ). cell_at (lose content at) i) (sym same) ∙ held.spells in absurd (cc none))
-      | inr ne ↦ newest.greatest slot d lt (held_same (lose content at) content slot d (sym (other_cell None slot ne)) held)
+      | inr ne ↦ newest.greatest slot d lt (held_same content d (sym (other_cell None slot ne)) held)
     ];
   }
 
@@ -61,68 +61,68 @@ module _ (last next : CheckpointValue) (follows : next.number ≡ last.number + 
   pub newest_written : IsNewest (put content at (checkpoint_sector next)) next
   newest_written =
       let written : HoldsCheckpoint (put content at (checkpoint_sector next)) at next =
-      record { fits = fits; spells = this_cell (Some (checkpoint_sector next)); parity = refl } in
+      record { fits = fits; spells = this_cell; parity = refl } in
       record {
         held = written;
         greatest = λ slot d lt held. elim (cases_eq slot at) [
-          | inl same ↦ (let is : d ≡ next = one_held _ slot at d next same held written in
+          | inl same ↦ (let is : d ≡ next = one_held same held written in
               let n : d.number ≡ next.number = ap (λ (c : CheckpointValue). c.number) is in omega (arith, n))
-          | inr ne ↦ (let le : d.number ≤ last.number = newest.greatest slot d lt (held_same (put content at (checkpoint_sector next))
-              content slot d (sym (other_cell (Some (checkpoint_sector next)) slot ne)) held) in omega (arith, le, follows))
+          | inr ne ↦ (let le : d.number ≤ last.number = newest.greatest slot d lt (held_same
+              content d (sym (other_cell (Some (checkpoint_sector next)) slot ne)) held) in omega (arith, le, follows))
         ];
       }
 
   -- a stop leaves the one or the other
-  pub newest_torn : (e : List Cell) → MayWrite at (checkpoint_sector next) content e → NewestIsOneOf last next e
-  newest_torn e (left_old is) = inl (subst (λ (c : List Cell). IsNewest c last) (sym is) newest)
-  newest_torn e (left_new is) = inr (subst (λ (c : List Cell). IsNewest c next) (sym is) newest_written)
-  newest_torn e (left_bad is) = inl (subst (λ (c : List Cell). IsNewest c last) (sym is) newest_lost)
+  pub newest_torn : {e : List Cell} → MayWrite at (checkpoint_sector next) content e → NewestIsOneOf last next e
+  newest_torn (left_old is) = inl (subst (λ (c : List Cell). IsNewest c last) (sym is) newest)
+  newest_torn (left_new is) = inr (subst (λ (c : List Cell). IsNewest c next) (sym is) newest_written)
+  newest_torn (left_bad is) = inl (subst (λ (c : List Cell). IsNewest c last) (sym is) newest_lost)
 
 -- the greater of what the two slots hold
-held_by : (content : List Cell) (slot : ℕ) (x : Option CheckpointValue) (a : CheckpointValue) → x ≡ Some a → SlotHolds content slot x
+held_by : (content : List Cell) (slot : ℕ) {x : Option CheckpointValue} {a : CheckpointValue} → x ≡ Some a → SlotHolds content slot x
     → HoldsCheckpoint content slot a
-held_by content slot x a is held = subst (SlotHolds content slot) is held
+held_by content slot is held = subst (SlotHolds content slot) is held
 
-at_parity : (content : List Cell) (slot : ℕ) (a : CheckpointValue) → HoldsCheckpoint content slot a
+at_parity : {content : List Cell} {slot : ℕ} {a : CheckpointValue} → HoldsCheckpoint content slot a
     → HoldsCheckpoint content (a.number % 2) a
-at_parity content slot a held = subst (λ (s : ℕ). HoldsCheckpoint content s a) (sym held.parity) held
+at_parity {content} {a} held = subst (λ (s : ℕ). HoldsCheckpoint content s a) (sym held.parity) held
 
-both : (content : List Cell) (a b c : CheckpointValue) → HoldsCheckpoint content 0 a → HoldsCheckpoint content 1 b
+both : {content : List Cell} (a b : CheckpointValue) {c : CheckpointValue} → HoldsCheckpoint content 0 a → HoldsCheckpoint content 1 b
     → HoldsCheckpoint content (c.number % 2) c → a.number ≤ c.number → b.number ≤ c.number
     → IsNewest content c
-both content a b c one two held first second = record {
+both {content} a b one two held first second = record {
   held = held;
   greatest = λ slot d lt has. elim (slot_cases slot lt) [
-    | inl zero_is ↦ (let is : d ≡ a = one_held content slot 0 d a zero_is has one in
+    | inl zero_is ↦ (let is : d ≡ a = one_held zero_is has one in
         let n : d.number ≡ a.number = ap (λ (x : CheckpointValue). x.number) is in omega (arith, n, first))
-    | inr one_is ↦ (let is : d ≡ b = one_held content slot 1 d b one_is has two in
+    | inr one_is ↦ (let is : d ≡ b = one_held one_is has two in
         let n : d.number ≡ b.number = ap (λ (x : CheckpointValue). x.number) is in omega (arith, n, second))
   ];
 }
 
-pub newest_second : (content : List Cell) (x y : Option CheckpointValue) (a b : CheckpointValue) → x ≡ Some a → y ≡ Some b
+pub newest_second : {content : List Cell} (x y : Option CheckpointValue) (a b : CheckpointValue) → x ≡ Some a → y ≡ Some b
     → a.number < b.number → SlotHolds content 0 x → SlotHolds content 1 y → IsNewest content b
-newest_second content x y a b x_is y_is lt first second =
-    let one = held_by content 0 x a x_is first in
-    let two = held_by content 1 y b y_is second in
-    both content a b b one two (at_parity content 1 b two) (omega (arith, lt)) (omega arith)
+newest_second {content} x y a b x_is y_is lt first second =
+    let one = held_by content 0 x_is first in
+    let two = held_by content 1 y_is second in
+    both a b one two (at_parity two) (omega (arith, lt)) (omega arith)
 
-pub newest_first : (content : List Cell) (x y : Option CheckpointValue) (a b : CheckpointValue) → x ≡ Some a → y ≡ Some b
+pub newest_first : {content : List Cell} (x y : Option CheckpointValue) (a b : CheckpointValue) → x ≡ Some a → y ≡ Some b
     → b.number ≤ a.number → SlotHolds content 0 x → SlotHolds content 1 y → IsNewest content a
-newest_first content x y a b x_is y_is le first second =
-    let one = held_by content 0 x a x_is first in
-    let two = held_by content 1 y b y_is second in
-    both content a b a one two (at_parity content 0 a one) (omega arith) le
+newest_first {content} x y a b x_is y_is le first second =
+    let one = held_by content 0 x_is first in
+    let two = held_by content 1 y_is second in
+    both a b one two (at_parity one) (omega arith) le
 
-pub newest_alone : (content : List Cell) (x y : Option CheckpointValue) (a : CheckpointValue) → x ≡ Some a → y ≡ None
+pub newest_alone : {content : List Cell} (x y : Option CheckpointValue) (a : CheckpointValue) → x ≡ Some a → y ≡ None
     → SlotHolds content 0 x → SlotHolds content 1 y → IsNewest content a
-newest_alone content x y a x_is y_is first second =
-    let one = held_by content 0 x a x_is first in
+newest_alone {content} x y a x_is y_is first second =
+    let one = held_by content 0 x_is first in
     let none = subst (SlotHolds content 1) y_is second in
     record {
-      held = at_parity content 0 a one;
+      held = at_parity one;
       greatest = λ slot d lt has. elim (slot_cases slot lt) [
-        | inl zero_is ↦ (let is : d ≡ a = one_held content slot 0 d a zero_is has one in
+        | inl zero_is ↦ (let is : d ≡ a = one_held zero_is has one in
             let n : d.number ≡ a.number = ap (λ (c : CheckpointValue). c.number) is in omega (arith, n))
         | inr one_is ↦ absurd (none d (subst (λ (s : ℕ). HoldsCheckpoint content s d) one_is has))
       ];
@@ -135,10 +135,10 @@ newest_default content None none second = λ slot d lt has. elim (slot_cases slo
   | inr one_is ↦ second d (subst (λ (s : ℕ). HoldsCheckpoint content s d) one_is has)
 ]
 newest_default content (Some b) none second = record {
-  held = at_parity content 1 b second;
+  held = at_parity second;
   greatest = λ slot d lt has. elim (slot_cases slot lt) [
     | inl zero_is ↦ absurd (none d (subst (λ (s : ℕ). HoldsCheckpoint content s d) zero_is has))
-    | inr one_is ↦ (let is : d ≡ b = one_held content slot 1 d b one_is has second in
+    | inr one_is ↦ (let is : d ≡ b = one_held one_is has second in
         let n : d.number ≡ b.number = ap (λ (c : CheckpointValue). c.number) is in omega (arith, n))
   ];
 }
@@ -148,19 +148,20 @@ pub newest_of_second : (content : List Cell) (x y : Option CheckpointValue) → 
 newest_of_second content x y x_is first second = newest_default content y (subst (SlotHolds content 0) x_is first) second
 
 -- a checkpoint with the other slot's parity
-pub misplaced : (content : List Cell) (slot : ℕ) (bytes : List ℕ) (c : CheckpointValue) → FitsCheckpoint c → bytes ≡ checkpoint_sector c
+pub misplaced : (content : List Cell) (slot : ℕ) {bytes : List ℕ} (c : CheckpointValue) → FitsCheckpoint c → bytes ≡ checkpoint_sector c
     → cell_at content slot ≡ Some bytes → c.number % 2 ≢ slot
     → SlotHolds content slot None
-misplaced content slot bytes c fits spelt cell other d held =
-    let same : c ≡ d = one_checkpoint c d fits held.fits (sym spelt ∙ some_is _ _ (sym cell ∙ held.spells)) in
+misplaced content slot c fits spelt cell other d held =
+    let same : c ≡ d = one_checkpoint c d fits held.fits (sym spelt ∙ some_is (sym cell ∙ held.spells)) in
     other (ap (λ (x : CheckpointValue). x.number % 2) same ∙ held.parity)
 
 -- the slots are read one after the other
-pub found_newest : (x y z : List Cell) (first second found : Option CheckpointValue) (c : CheckpointValue) → y ≡ x → z ≡ y
+pub found_newest : (x y z : List Cell) (first second : Option CheckpointValue) {found : Option CheckpointValue} (c : CheckpointValue)
+    → y ≡ x → z ≡ y
     → SlotHolds y 0 first → SlotHolds z 1 second
     → ((content : List Cell) → SlotHolds content 0 first → SlotHolds content 1 second → NewestIs content found) → found ≡ Some c
     → IsNewest x c
-found_newest x y z first second found c y_is z_is one two decides is =
+found_newest x y z first second c y_is z_is one two decides is =
     let zero : SlotHolds x 0 first = subst (λ (l : List Cell). SlotHolds l 0 first) y_is one in
     let other : SlotHolds x 1 second = subst (λ (l : List Cell). SlotHolds l 1 second) (z_is ∙ y_is) two in
     subst (NewestIs x) is (decides x zero other)
@@ -171,16 +172,16 @@ pub on_ok : {A E : Type 0} (r : Result A E) (P Q R : Type 0) → (P → Q → R)
 on_ok (Ok x) P Q R gives p q = gives p q
 on_ok (Err e) P Q R gives p q = tt
 
-module _ (a b : DeviceState) (last next : CheckpointValue) (slot : ℕ) (bytes : List ℕ) (place : slot ≡ next.number % 2)
+module _ (a b : DeviceState) (last : CheckpointValue) {next : CheckpointValue} (slot : ℕ) (bytes : List ℕ) (place : slot ≡ next.number % 2)
     (spelt : bytes ≡ checkpoint_sector next) (fits : FitsCheckpoint next) (lawful : IsLawful a) (two : 2 ≤ a.size)
     (all : AllLeft a (λ c. IsNewest c last)) (follows : next.number ≡ last.number + 1) where
   pub one_of : (x : List Cell) → ComesFrom a (MayWrite slot bytes) x → NewestIsOneOf last next x
   one_of x from =
-      newest_torn last next follows fits from.0 (omega (arith, two, lawful.sizes from.0 from.1)) (all from.0 from.1) x
+      newest_torn follows fits (omega (arith, two, lawful.sizes from.0 from.1)) (all from.0 from.1)
       (subst (λ (s : List ℕ). MayWrite (next.number % 2) s from.0 x) spelt (subst (λ (k : ℕ). MayWrite k bytes from.0 x) place from.2))
 
   pub one_at_each_moment : LeavesOnly a b (ComesFrom a (MayWrite slot bytes)) → LeavesOnly a b (NewestIsOneOf last next)
-  one_at_each_moment leaves = weaker a b (ComesFrom a (MayWrite slot bytes)) (NewestIsOneOf last next) one_of leaves
+  one_at_each_moment leaves = weaker (ComesFrom a (MayWrite slot bytes)) (NewestIsOneOf last next) one_of leaves
 
   pub next_alone : a.keeps_model → b.content ≡ put a.content slot bytes → Only b.content b → AllLeft b (λ c. IsNewest c next)
   next_alone keeps content only x left =
@@ -188,4 +189,4 @@ module _ (a b : DeviceState) (last next : CheckpointValue) (slot : ℕ) (bytes :
       let is : x ≡ put a.content (next.number % 2) (checkpoint_sector next) = only x left ∙ content
       ∙ ap (λ (s : List ℕ). put a.content slot s) spelt ∙ ap (λ (k : ℕ). put a.content k (checkpoint_sector next)) place in
       subst (λ (c : List Cell). IsNewest c next) (sym is)
-      (newest_written last next follows fits a.content (omega (arith, two, lawful.size)) (all a.content present))
+      (newest_written follows fits (omega (arith, two, lawful.size)) (all a.content present))

@@ -85,9 +85,9 @@ cut_space c text h = rw (eq-eqb c 32 h) refl
 cut_byte : (c : ℕ) (text : List ℕ) → c ≢ 32 → cut (c ∷ text) ≡ onto c (cut text)
 cut_byte c text h = rw (solid_byte c h) refl
 
-take-past : (c : ℕ) (text : List ℕ) (p n : ℕ) → n ≡ suc p
+take-past : (c : ℕ) (text : List ℕ) {p n : ℕ} → n ≡ suc p
     → (take n (c ∷ text) ≡ c ∷ take p text) × (drop (n + 1) (c ∷ text) ≡ drop (p + 1) text)
-take-past c text p n e =
+take-past c text {p} {n} e =
     let more : n + 1 ≡ suc (p + 1) = omega arith in
     (rw e refl, rw more refl)
 
@@ -99,7 +99,7 @@ first_some (c ∷ text) h = elim (cases_eq c 32) [
   | inr apart ↦
       let place = past_byte c text apart in
       let within : space_or_len text < length text = omega (arith, place, h) in
-      let parts = take-past c text (space_or_len text) (space_or_len (c ∷ text)) place in
+      let parts = take-past c text place in
       cut_byte c text apart ∙ ap (onto c) (first_some text within) ∙ sym (ap (λ w. w ∷ cut (drop (space_or_len (c ∷ text) + 1) (c ∷ text)))
       parts.0 ∙ ap (λ t. (c ∷ take (space_or_len text) text) ∷ cut t) parts.1)
 ]
@@ -125,8 +125,8 @@ at_some text (Some i) e = elim (cases_lt (space_or_len text) (length text)) [
       let is : Some i ≡ None = e ∙ rw (le-ltb (space_or_len text) (length text) past) refl in cc
 ]
 
-pub at_none : (text : List ℕ) (r : Option ℕ) → r ≡ position (λ b. b == 32) text → r ≡ None → cut text ≡ text ∷ []
-at_none text r e none = elim (cases_lt (space_or_len text) (length text)) [
+pub at_none : {text : List ℕ} {r : Option ℕ} → r ≡ position (λ b. b == 32) text → r ≡ None → cut text ≡ text ∷ []
+at_none {text} e none = elim (cases_lt (space_or_len text) (length text)) [
   | inl within ↦
       let is : None ≡ Some (space_or_len text) = sym none ∙ e ∙ rw (lt-ltb (space_or_len text) (length text) within) refl in cc
   | inr past ↦ first_none text past
@@ -140,8 +140,8 @@ pub is_some-copied : {T : Type 0} (o : Option (Bor T)) → is_some (option_copie
 is_some-copied None = refl
 is_some-copied (Some x) = refl
 
-pub cut_some : (text : List ℕ) (i : ℕ) → Some i ≡ position (λ b. b == 32) text → cut text ≡ take i text ∷ cut (drop (i + 1) text)
-cut_some text i e = (at_some text (Some i) e).1
+pub cut_some : (text : List ℕ) {i : ℕ} → Some i ≡ position (λ b. b == 32) text → cut text ≡ take i text ∷ cut (drop (i + 1) text)
+cut_some text {i} e = (at_some text (Some i) e).1
 
 -- ---- the words of a line have no spaces
 
@@ -245,25 +245,25 @@ line-cut line fits =
 same_text : (line : Line) (text : List ℕ) → words_of line ≡ cut text → text_of line ≡ text
 same_text line text e = text_is line ∙ ap spaced e ∙ spaced-cut text
 
-same_words : (line : Line) (text : List ℕ) → InRange line → text_of line ≡ text → words_of line ≡ cut text
-same_words line text fits e = sym (line-cut line fits) ∙ ap cut e
+same_words : (line : Line) {text : List ℕ} → InRange line → text_of line ≡ text → words_of line ≡ cut text
+same_words line fits e = sym (line-cut line fits) ∙ ap cut e
 
 -- ---- the words of a text that begin with a command's
 
-pub ok_text : {E : Type 0} (r : Result Call E) (text : List ℕ) (words : List (List ℕ)) → cut text ≡ words
+pub ok_text : {E : Type 0} (r : Result Call E) (text : List ℕ) {words : List (List ℕ)} → cut text ≡ words
     → IfOk r (λ call. words_of (line_for call) ≡ words)
     → IfOk r (λ call. text_of (line_for call) ≡ text)
-ok_text (Ok c) text words e h = same_text (line_for c) text (h ∙ sym e)
-ok_text (Err f) text words e h = tt
+ok_text (Ok c) text e h = same_text (line_for c) text (h ∙ sym e)
+ok_text (Err f) text e h = tt
 
-pub bad_text : (text : List ℕ) (words : List (List ℕ)) → cut text ≡ words → ((line : Line) → InRange line → words_of line ≢ words)
+pub bad_text : (text : List ℕ) {words : List (List ℕ)} → cut text ≡ words → ((line : Line) → InRange line → words_of line ≢ words)
     → IsUnknown text
-bad_text text words e h line fits same = h line fits (same_words line text fits same ∙ e)
+bad_text text e h line fits same = h line fits (same_words line fits same ∙ e)
 
-pub found_text : (text : List ℕ) (words : List (List ℕ)) → cut text ≡ words → (line : Line) × InRange line × IsTrue (has_word line)
+pub found_text : {text : List ℕ} {words : List (List ℕ)} → cut text ≡ words → (line : Line) × InRange line × IsTrue (has_word line)
     × (words_of line ≡ words)
     → (line : Line) × InRange line × IsTrue (has_word line) × (text_of line ≡ text)
-found_text text words e h = (h.0, h.1, h.2, same_text h.0 text (h.3 ∙ sym e))
+found_text {text} e h = (h.0, h.1, h.2, same_text h.0 text (h.3 ∙ sym e))
 
 -- a text whose first word is no command's
 pub no_command : (word : List ℕ) (rest : List (List ℕ)) → ((command : Command) → command_word command ≢ word) → (line : Line) → InRange line

@@ -136,23 +136,23 @@ encode-append (x ∷ xs) ys = ap (λ t. slice_index lower_digits (x / 16) ∷ sl
 pub one : (b : ℕ) → b < 256 → IsBytes (b ∷ [])
 one b h = bytes-cons b [] h (λ i. omega arith)
 
-decoded_one : (b : ℕ) (digits : List ℕ) → b < 256 → encode_lower (b ∷ []) ≡ digits → decode_sized digits 1 ≡ Ok (b ∷ [])
-decoded_one b digits fits e = subst (λ d. decode_sized d 1 ≡ Ok (b ∷ [])) e (decode_sized-encode_lower (b ∷ []) 1 refl (one b fits))
+decoded_one : (b : ℕ) {digits : List ℕ} → b < 256 → encode_lower (b ∷ []) ≡ digits → decode_sized digits 1 ≡ Ok (b ∷ [])
+decoded_one b fits e = subst (λ d. decode_sized d 1 ≡ Ok (b ∷ [])) e (decode_sized-encode_lower (b ∷ []) 1 refl (one b fits))
 
 abbrev pub Decodes : List ℕ → Result Unit FromHexError → List ℕ → Type 0
 Decodes digits r out = MatchResult (decode_sized digits 1) (λ bytes. (r ≡ Ok tt) × (out ≡ bytes)) (λ e. r ≡ Err e)
 
-pub decode-fails : (digits : List ℕ) (r : Result Unit FromHexError) (out : List ℕ) (f : FromHexError) → Decodes digits r out → r ≡ Err f
+pub decode-fails : (digits : List ℕ) {r : Result Unit FromHexError} (out : List ℕ) {f : FromHexError} → Decodes digits r out → r ≡ Err f
     → (b : ℕ) → b < 256 → encode_lower (b ∷ []) ≢ digits
-decode-fails digits r out f h fails b fits e =
-    let read : (r ≡ Ok tt) × (out ≡ b ∷ []) = rw (decoded_one b digits fits e) at h in
+decode-fails digits {r} out h fails b fits e =
+    let read : (r ≡ Ok tt) × (out ≡ b ∷ []) = rw (decoded_one b fits e) at h in
     let bad = sym read.0 ∙ fails in cc
 
 pub decode-gives : (digits : List ℕ) (r : Result Unit FromHexError) (out : List ℕ) → Decodes digits r out
     → encode_lower (slice_index out 0 ∷ []) ≢ digits
     → (b : ℕ) → b < 256 → encode_lower (b ∷ []) ≢ digits
 decode-gives digits r out h differ b fits e =
-    let read : (r ≡ Ok tt) × (out ≡ b ∷ []) = rw (decoded_one b digits fits e) at h in
+    let read : (r ≡ Ok tt) × (out ≡ b ∷ []) = rw (decoded_one b fits e) at h in
     differ (rw read.1 e)
 
 -- ---- whole words
@@ -176,16 +176,16 @@ pairs word h =
       lower = outer.1;
     }
 
-spelt-some : (bytes word : List ℕ) → encode_lower bytes ≡ word → word ≢ [] → hex_word bytes ≡ word
+spelt-some : (bytes : List ℕ) {word : List ℕ} → encode_lower bytes ≡ word → word ≢ [] → hex_word bytes ≡ word
 unfolding encode_with
-spelt-some [] word e apart = absurd (apart (sym e))
-spelt-some (b ∷ bytes) word e apart = e
+spelt-some [] e apart = absurd (apart (sym e))
+spelt-some (b ∷ bytes) e apart = e
 
 pub pairs-bytes : (word : List ℕ) → is_pairs word ≡ true → (bytes : List ℕ) × IsBytes bytes × (hex_word bytes ≡ word)
 pairs-bytes word h =
     let p = pairs word h in
     let found = spelt-pairs word p.even p.lower in
-    (found.0, found.1, spelt-some found.0 word found.2 p.some)
+    (found.0, found.1, spelt-some found.0 found.2 p.some)
 
 pub decoded : (word found : List ℕ) → is_pairs word ≡ true → decode_of word ≡ Ok found → IsBytes found × (hex_word found ≡ word)
 decoded word found h read =
@@ -193,7 +193,7 @@ decoded word found h read =
     let is = spelt-pairs word p.even p.lower in
     let same : is.0 ≡ found =
     decode_of-same word is.0 found (subst (λ w. decode_of w ≡ Ok is.0) is.2 (decode_of-encode_lower is.0 is.1)) read in
-    subst (λ f. IsBytes f × (hex_word f ≡ word)) same (is.1, spelt-some is.0 word is.2 p.some)
+    subst (λ f. IsBytes f × (hex_word f ≡ word)) same (is.1, spelt-some is.0 is.2 p.some)
 
 -- ---- writing
 

@@ -99,10 +99,10 @@ spells-none word = record { within = omega arith; bytes_fit = λ i. omega arith;
 abbrev pub tail_of : List ℕ → ℕ → List ℕ
 tail_of word at = take (length word - at) (drop at word)
 
-pub spells-more : (word bytes : List ℕ) (at b n : ℕ) → Spells word bytes at → b < 256
+pub spells-more : {word bytes : List ℕ} {at : ℕ} (b n : ℕ) → Spells word bytes at → b < 256
     → (0 < n) × (n ≤ length (tail_of word at)) × (take n (tail_of word at) ≡ escaped_byte b)
     → (0 < n) × (at + n ≤ length word) × Spells word (bytes ++ b ∷ []) (at + n)
-spells-more word bytes at b n before fits found =
+spells-more {word} {bytes} {at} b n before fits found =
     let rest = take_rest word at in
     let is : take n (drop at word) ≡ escaped_byte b = rw rest at found.2 in
     let room : n ≤ length (drop at word) = rw rest at found.1 in
@@ -119,11 +119,11 @@ spells-more word bytes at b n before fits found =
     )
 
 -- where no byte's spelling comes next, the word is no bytes' spelling
-pub spells-stuck : (word bytes : List ℕ) (at : ℕ) → Spells word bytes at → at < length word
+pub spells-stuck : {word bytes : List ℕ} {at : ℕ} → Spells word bytes at → at < length word
     → ((b : ℕ) (rest : List ℕ) → b < 256 → escaped_byte b ++ rest ≢ tail_of word at)
     → (xs : List ℕ) → IsBytes xs → escaped_bytes xs ≢ word
 unfolding escaped_bytes
-spells-stuck word bytes at before more none xs fx e =
+spells-stuck {word} {bytes} {at} before more none xs fx e =
     let whole : escaped_bytes xs ≡ escaped_bytes bytes ++ drop at word = e ∙ sym (take-append-drop at word)
     ∙ ap (λ t. t ++ drop at word) (sym before.text) in
     let rest = behind bytes xs (drop at word) before.bytes_fit fx whole in
@@ -140,18 +140,18 @@ pub other_front : (b : ℕ) (word : List ℕ) → is_plain b ≡ false → 3 ≤
 other_front b [] h long first e = absurd (omega arith)
 other_front b (x ∷ word) h long first e = sym (other_byte b h ∙ rw (← first) (ap (λ t. x ∷ t) e))
 
-pub other_parts : (b : ℕ) (rest word : List ℕ) → is_plain b ≡ false → escaped_byte b ++ rest ≡ word
+pub other_parts : (b : ℕ) (rest : List ℕ) {word : List ℕ} → is_plain b ≡ false → escaped_byte b ++ rest ≡ word
     → (3 ≤ length word) × (slice_index word 0 ≡ 92) × (encode_lower (b ∷ []) ≡ take 2 (drop 1 word))
 unfolding encode_with
-other_parts b rest word h e =
+other_parts b rest {word} h e =
     let text : 92 ∷ (encode_lower (b ∷ []) ++ rest) ≡ word = rw (other_byte b h) at e in
     subst (λ w. (3 ≤ length w) × (slice_index w 0 ≡ 92) × (encode_lower (b ∷ []) ≡ take 2 (drop 1 w))) text (omega arith, refl, refl)
 
-pub other_same : (b c : ℕ) (digits : List ℕ) → b < 256 → c < 256 → encode_lower (b ∷ []) ≡ digits → encode_lower (c ∷ []) ≡ digits → b ≡ c
-other_same b c digits fb fc eb ec = ap (λ xs. get_or xs 0 0) (same_bytes (b ∷ []) (c ∷ []) (one b fb) (one c fc) (eb ∙ sym ec))
+pub other_same : (b c : ℕ) {digits : List ℕ} → b < 256 → c < 256 → encode_lower (b ∷ []) ≡ digits → encode_lower (c ∷ []) ≡ digits → b ≡ c
+other_same b c fb fc eb ec = ap (λ xs. get_or xs 0 0) (same_bytes (b ∷ []) (c ∷ []) (one b fb) (one c fc) (eb ∙ sym ec))
 
-pub clash : (b c : ℕ) → b ≡ c → is_plain b ≡ false → is_plain c ≡ true → ⊥
-clash b c e escaped known = false≢true (sym escaped ∙ subst (λ x. is_plain x ≡ true) (sym e) known)
+pub clash : (b : ℕ) {c : ℕ} → b ≡ c → is_plain b ≡ false → is_plain c ≡ true → ⊥
+clash b e escaped known = false≢true (sym escaped ∙ subst (λ x. is_plain x ≡ true) (sym e) known)
 
 -- a byte that stands for itself
 pub plain_front : (word : List ℕ) → 0 < length word → is_plain (slice_index word 0) ≡ true → take 1 word ≡ escaped_byte (slice_index word 0)
@@ -175,14 +175,14 @@ none_empty (x ∷ word) h b rest fits e = omega arith
 
 -- ---- whole words
 
-pub word_of_bytes : (bytes word : List ℕ) → escaped_bytes bytes ≡ word → 0 < length word → escaped_word bytes ≡ word
+pub word_of_bytes : (bytes : List ℕ) {word : List ℕ} → escaped_bytes bytes ≡ word → 0 < length word → escaped_word bytes ≡ word
 unfolding escaped_bytes
-word_of_bytes [] word e some = absurd (omega (arith, ap length e))
-word_of_bytes (b ∷ bytes) word e some = e
+word_of_bytes [] e some = absurd (omega (arith, ap length e))
+word_of_bytes (b ∷ bytes) e some = e
 
-pub bytes_of_word : (bytes word : List ℕ) → escaped_word bytes ≡ word → word ≢ 92 ∷ [] → escaped_bytes bytes ≡ word
-bytes_of_word [] word e apart = absurd (apart (sym e))
-bytes_of_word (b ∷ bytes) word e apart = e
+pub bytes_of_word : (bytes : List ℕ) {word : List ℕ} → escaped_word bytes ≡ word → word ≢ 92 ∷ [] → escaped_bytes bytes ≡ word
+bytes_of_word [] e apart = absurd (apart (sym e))
+bytes_of_word (b ∷ bytes) e apart = e
 
 pub word_some : (bytes word : List ℕ) → escaped_word bytes ≡ word → 0 < length word
 unfolding escaped_bytes
@@ -193,7 +193,7 @@ word_some (b ∷ bytes) (x ∷ word) e = omega arith
 -- ---- writing
 
 -- a backslash and the two digits
-pub other_text : (b : ℕ) (digits : List ℕ) → digits ≡ encode_lower (b ∷ [])
+pub other_text : (b : ℕ) {digits : List ℕ} → digits ≡ encode_lower (b ∷ [])
     → 92 ∷ get_or digits 0 0 ∷ get_or digits 1 0 ∷ [] ≡ 92 ∷ encode_lower (b ∷ [])
 unfolding encode_with
-other_text b digits e = rw e refl
+other_text b e = rw e refl

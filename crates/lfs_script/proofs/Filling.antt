@@ -32,9 +32,9 @@ module _ (N : ℕ) (s : State) (h off : ℕ) where
       ap (λ (b : Bool). checked s (bad_handle s h ∷ when b Inval ∷ (length w == 0, Count 0) ∷ when (nat_lt 8511488 (off + length w))
       FileTooBig ∷ no_space N t ∷ []) (Count (length w), with_tree s t)) (above 65536 (length w) long)
 
-  same_step : (w v : List ℕ) → 65536 < length w → 65536 < length v → (a : Answer) (s' : State) → Step N s (Pwrite h off w) a s'
+  same_step : (w v : List ℕ) → 65536 < length w → 65536 < length v → {a : Answer} {s' : State} → Step N s (Pwrite h off w) a s'
       → Step N s (Pwrite h off v) a s'
-  same_step w v long_w long_v a s' step =
+  same_step w v long_w long_v step =
       let same : writes N s h off v ≡ writes N s h off w = refused v long_v ∙ sym (refused w long_w) in record {
         first_end = step.first_end;
         second_end = step.second_end;
@@ -54,7 +54,7 @@ module _ (N h off : ℕ) where
         (λ changed. inr (
           changed.0,
           (let would = changed.1 in
-              (would.0, would.1, same_step N p.state h off w v long_w long_v would.0 would.1 would.2, would.3)),
+              (would.0, would.1, same_step N p.state h off w v long_w long_v would.2, would.3)),
         ))
         past.1,
   )
@@ -86,7 +86,7 @@ module _ (N h off : ℕ) where
 
     same_steps : (a : Answer) → StepsOr N (Pwrite h off w) p a q → StepsOr N (Pwrite h off v) p a q
     same_steps a steps = ⊎_elim
-        (λ done. inl (same_step N p.state h off w v long_w long_v a q.state done.0, λ past. done.1 (past_last v w long_v long_w p past)))
+        (λ done. inl (same_step N p.state h off w v long_w long_v done.0, λ past. done.1 (past_last v w long_v long_w p past)))
         (λ out. inr (out.0, out.1, excused out.0 out.2, out.3))
         steps
 
@@ -141,7 +141,7 @@ no_halt e = cc
 
 -- ---- the calls
 
-module _ {D : Type 0} (state : D → DeviceState) (old new : Mounted D) (h off : ℕ) where
+module _ {D : Type 0} {state : D → DeviceState} {old new : Mounted D} {h off : ℕ} where
   -- what holds over any device of a write of other bytes
   filled_behaves : (w v : List ℕ) (a : Answer) → Behaves state old new (Pwrite h off w) a → Behaves state old new (Pwrite h off v) a
   filled_behaves w v a behaves = record {
@@ -158,9 +158,9 @@ module _ {D : Type 0} (state : D → DeviceState) (old new : Mounted D) (h off :
   }
 
   -- and of a write that is refused where room was asked for
-  told_behaves : (w : List ℕ) (r : Refusal) (a : Answer) → (Refuse r ≡ Refuse Stuck → ⊥) → Behaves state old new Space a
+  told_behaves : {w : List ℕ} {r : Refusal} {a : Answer} → (Refuse r ≡ Refuse Stuck → ⊥) → Behaves state old new Space a
       → Behaves state old new (Pwrite h off w) (Refuse r)
-  told_behaves w r a none behaves = record {
+  told_behaves none behaves = record {
     refused = λ x e. behaves.handles refl;
     handles = behaves.handles;
     first_halted = λ e. inr refl;
@@ -173,9 +173,9 @@ module _ {D : Type 0} (state : D → DeviceState) (old new : Mounted D) (h off :
     one_commit = λ unclean. behaves.one_commit refl;
   }
 
-  long_serves : (w v : List ℕ) → 65536 < length w → 65536 < length v → (a : Answer) → Serves state old new (Pwrite h off w) a
+  long_serves : {w : List ℕ} (v : List ℕ) → 65536 < length w → 65536 < length v → (a : Answer) → Serves state old new (Pwrite h off w) a
       → Serves state old new (Pwrite h off v) a
-  long_serves w v long_w long_v a serves = record {
+  long_serves {w} v long_w long_v a serves = record {
     carries = serves.carries;
     segments = serves.segments;
     orderly = serves.orderly;
@@ -203,26 +203,26 @@ module _ {D : Type 0} (state : D → DeviceState) (old new : Mounted D) (h off :
   }
 
   -- so many bytes, or as many as are refused
-  pub filled_serves : (len byte : ℕ) (w : List ℕ) → w ≡ replicate (min len 65537) byte → (a : Answer)
+  pub filled_serves : (len byte : ℕ) {w : List ℕ} → w ≡ replicate (min len 65537) byte → {a : Answer}
       → Serves state old new (Pwrite h off w) a → Serves state old new (Pwrite h off (replicate len byte)) a
-  filled_serves len byte w is a serves =
+  filled_serves len byte is {a} serves =
       let cut = subst (λ (v : List ℕ). Serves state old new (Pwrite h off v) a) is serves in
       ⊎_elim
       (λ (low : len < 65537). subst (λ (n : ℕ). Serves state old new (Pwrite h off (replicate n byte)) a) (omega (arith, low)) cut)
-      (λ (high : 65537 ≤ len). long_serves (replicate (min len 65537) byte) (replicate len byte)
+      (λ (high : 65537 ≤ len). long_serves (replicate len byte)
       (let long = length-replicate (min len 65537) byte in omega (arith, long, high)) (let long = length-replicate len byte in
       omega (arith, long, high)) a cut)
       (cases_lt len 65537)
 
   -- memory for the bytes is refused, and room is told
-  pub memory_serves : (w : List ℕ) (blocks others need limit : ℕ) → Serves state old new Space (Room blocks others need limit)
+  pub memory_serves : (w : List ℕ) {blocks others need limit : ℕ} → Serves state old new Space (Room blocks others need limit)
       → Serves state old new (Pwrite h off w) (Refuse NoMemory)
-  memory_serves w blocks others need limit serves = record {
+  memory_serves w {blocks} {others} {need} {limit} serves = record {
     carries = serves.carries;
     segments = serves.segments;
     orderly = λ e. (let e = (serves.orderly e).0 in absurd (cc));
     halts = λ e. absurd (no_halt e);
-    behaves = told_behaves w NoMemory (Room blocks others need limit) (λ e. cc) serves.behaves;
+    behaves = told_behaves (λ e. cc) serves.behaves;
     model = λ p keeps at. (
         let does = serves.model p keeps at in
         let answers = does.answers in record {
@@ -245,13 +245,13 @@ module _ {D : Type 0} (state : D → DeviceState) (old new : Mounted D) (h off :
   }
 
   -- nor is room told
-  pub refused_serves : (w : List ℕ) (r : Refusal) → Serves state old new Space (Refuse r) → Serves state old new (Pwrite h off w) (Refuse r)
-  refused_serves w r serves = record {
+  pub refused_serves : (w : List ℕ) {r : Refusal} → Serves state old new Space (Refuse r) → Serves state old new (Pwrite h off w) (Refuse r)
+  refused_serves w {r} serves = record {
     carries = serves.carries;
     segments = serves.segments;
     orderly = serves.orderly;
     halts = serves.halts;
-    behaves = told_behaves w r (Refuse r) serves.behaves.stuck serves.behaves;
+    behaves = told_behaves serves.behaves.stuck serves.behaves;
     model = λ p keeps at. (
         let does = serves.model p keeps at in
         let answers = does.answers in record {

@@ -55,10 +55,10 @@ module _ {D : Type 0} (state : D → DeviceState) where
         pending = one.pending;
       }
 
-  pub uses_more : (texts : List (List ℕ)) (text : List ℕ) (old : Between D) (w w' : Option (List ℕ)) (d d' : D)
+  pub uses_more : {texts : List (List ℕ)} (text : List ℕ) (old : Between D) (w w' : Option (List ℕ)) (d d' : D)
       → UsesInTurn state texts old w d → GoesOn text w w' d d'
       → Only (state d').content (state d') → UsesInTurn state (texts ++ text ∷ []) old w' d'
-  uses_more texts text old w w' d d' was goes alone =
+  uses_more {texts} text old w w' d d' was goes alone =
       then_last texts text old was.last w' d' was.uses
       (subst (λ (x : D). LeavesPrefix (state x) was.last.points was.last.calls was.last.given) (sym was.device) was.pending)
       (subst (λ (x : D). GoesOn text was.last.written w' x d') (sym was.device)
@@ -78,15 +78,14 @@ module _ {D : Type 0} (state : D → DeviceState) where
         ap texts_of up ∙ map-append (λ (x : StoppedScript). x.script.items) (take i scripts) (s ∷ [])
 
     -- the script there was used too
-    pub in_turn : (s : StoppedScript) (text : List ℕ) → i < length scripts → get_or scripts i s ≡ s → text ≡ s.script.items
+    pub in_turn : (s : StoppedScript) {text : List ℕ} → i < length scripts → get_or scripts i s ≡ s → text ≡ s.script.items
         → (old : Between D) (w w' : Option (List ℕ)) (d d' : D)
         → UsesInTurn state (texts_of (take i scripts)) old w d → GoesOn text w w' d d' → Only (state d').content (state d')
         → UsesInTurn state (texts_of (take (i + 1) scripts)) old w' d'
-    in_turn s text within own is old w w' d d' was goes alone =
+    in_turn s {text} within own is old w w' d d' was goes alone =
         let same : texts_of (take i scripts) ++ text ∷ [] ≡ texts_of (take (i + 1) scripts) =
         ap (λ (t : List ℕ). texts_of (take i scripts) ++ t ∷ []) is ∙ sym (texts_more s within own) in
-        subst (λ (ts : List (List ℕ)). UsesInTurn state ts old w' d') same
-        (uses_more (texts_of (take i scripts)) text old w w' d d' was goes alone)
+        subst (λ (ts : List (List ℕ)). UsesInTurn state ts old w' d') same (uses_more text old w w' d d' was goes alone)
 
     -- there is none
     pub all_used : (old : Between D) (w : Option (List ℕ)) (d : D) → length scripts ≤ i
@@ -94,12 +93,12 @@ module _ {D : Type 0} (state : D → DeviceState) where
     all_used old w d past was = subst (λ (ss : List StoppedScript). UsesInTurn state (texts_of ss) old w d) (take_all i scripts past) was
 
     -- a mount failed
-    pub stops : (fault : MountFault) (old : Between D) (w w' : Option (List ℕ)) (d d' : D) → i < length scripts → w' ≡ w
+    pub stops : (fault : MountFault) {old : Between D} (w : Option (List ℕ)) {w' : Option (List ℕ)} (d d' : D) → i < length scripts → w' ≡ w
         → UsesInTurn state (texts_of (take i scripts)) old w d
         → ((fault ≡ NoMemory → ⊥) → IsMountFault (state d) (state d') fault) → IsRefused (state d) (state d') fault
         → LeavesOnly (state d) (state d') (state d).may_leave → AllLeft (state d') (state d).may_leave
         → StopsAtMount state (texts_of scripts) fault old w' d'
-    stops fault old w w' d d' within same was cause reason moments left = record {
+    stops fault w d d' within same was cause reason moments left = record {
       done = texts_of (take i scripts);
       others = texts_of (drop i scripts);
       all = sym (map-append (λ (x : StoppedScript). x.script.items) (take i scripts) (drop i scripts))

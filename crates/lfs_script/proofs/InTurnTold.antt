@@ -67,10 +67,10 @@ module _ {D : Type 0} (state : D → DeviceState) (strict : Bool) where
         pending = one.uses.pending;
       }
 
-  uses_more : (texts : List (List ℕ)) (text : List ℕ) (old : Between D) (w w' : Option (List ℕ)) (d d' : D) (s s1 s2 : List Look)
+  uses_more : {texts : List (List ℕ)} (text : List ℕ) (old : Between D) (w w' : Option (List ℕ)) (d d' : D) (s s1 s2 : List Look)
       → UsesInTurnTold state strict texts old w d s s1 → GoesOn text w w' d d' s1 s2
       → Only (state d').content (state d') → UsesInTurnTold state strict (texts ++ text ∷ []) old w' d' s s2
-  uses_more texts text old w w' d d' s s1 s2 was goes alone =
+  uses_more {texts} text old w w' d d' s s1 s2 was goes alone =
       then_last texts text old was.last w' d' s s1 s2 was.told
       (subst (λ (x : D). LeavesPrefix (state x) was.last.points was.last.calls was.last.given) (sym was.device) was.pending)
       (subst (λ (x : D). GoesOn text was.last.written w' x d' s1 s2) (sym was.device)
@@ -83,15 +83,15 @@ module _ {D : Type 0} (state : D → DeviceState) (strict : Bool) where
   -- the scripts so far are those up to an index
   module _ (scripts : List StoppedScript) (i : ℕ) where
     -- the script there was used too
-    pub more_told : (it : StoppedScript) (text : List ℕ) → i < length scripts → get_or scripts i it ≡ it → text ≡ it.script.items
+    pub more_told : (it : StoppedScript) {text : List ℕ} → i < length scripts → get_or scripts i it ≡ it → text ≡ it.script.items
         → (old : Between D) (w w' : Option (List ℕ)) (d d' : D) (s s1 s2 : List Look)
         → UsesInTurnTold state strict (texts_of (take i scripts)) old w d s s1 → GoesOn text w w' d d' s1 s2
         → Only (state d').content (state d') → UsesInTurnTold state strict (texts_of (take (i + 1) scripts)) old w' d' s s2
-    more_told it text within own is old w w' d d' s s1 s2 was goes alone =
+    more_told it {text} within own is old w w' d d' s s1 s2 was goes alone =
         let same : texts_of (take i scripts) ++ text ∷ [] ≡ texts_of (take (i + 1) scripts) =
         ap (λ (t : List ℕ). texts_of (take i scripts) ++ t ∷ []) is ∙ sym (texts_more state scripts i it within own) in
         subst (λ (ts : List (List ℕ)). UsesInTurnTold state strict ts old w' d' s s2) same
-        (uses_more (texts_of (take i scripts)) text old w w' d d' s s1 s2 was goes alone)
+        (uses_more text old w w' d d' s s1 s2 was goes alone)
 
     -- there is none
     pub all_told : (old : Between D) (w : Option (List ℕ)) (d : D) (s s1 : List Look) → length scripts ≤ i
@@ -100,12 +100,13 @@ module _ {D : Type 0} (state : D → DeviceState) (strict : Bool) where
         subst (λ (ss : List StoppedScript). UsesInTurnTold state strict (texts_of ss) old w d s s1) (take_all i scripts past) was
 
     -- a mount failed
-    pub stops_told : (fault : MountFault) (old : Between D) (w w' : Option (List ℕ)) (d d' : D) (s s1 s2 : List Look) → i < length scripts
+    pub stops_told : (fault : MountFault) (old : Between D) (w : Option (List ℕ)) {w' : Option (List ℕ)} (d d' : D) (s : List Look)
+        {s1 s2 : List Look} → i < length scripts
         → w' ≡ w → s2 ≡ s1 → UsesInTurnTold state strict (texts_of (take i scripts)) old w d s s1
         → ((fault ≡ NoMemory → ⊥) → IsMountFault (state d) (state d') fault) → IsRefused (state d) (state d') fault
         → LeavesOnly (state d) (state d') (state d).may_leave → AllLeft (state d') (state d).may_leave
         → StopsAtMountTold state strict (texts_of scripts) fault old w' d' s s2
-    stops_told fault old w w' d d' s s1 s2 within same seen was cause reason moments left = record {
+    stops_told fault old w d d' s within same seen was cause reason moments left = record {
       done = texts_of (take i scripts);
       others = texts_of (drop i scripts);
       all = sym (map-append (λ (x : StoppedScript). x.script.items) (take i scripts) (drop i scripts))

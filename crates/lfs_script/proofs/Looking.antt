@@ -9,18 +9,18 @@ use Rattle.lfs_script.specs.Ending.{replies}
 use Rattle.lfs_script.specs.Told.{Look, Looked, LooksAt}
 
 -- what stands at a place of a list with one more
-get_snoc : {X : Type 0} (xs : List X) (x : X) (i : ℕ) (t : X) → slice_get (xs ++ x ∷ []) i ≡ Some t
+get_snoc : {X : Type 0} (xs : List X) (x : X) (i : ℕ) {t : X} → slice_get (xs ++ x ∷ []) i ≡ Some t
     → (slice_get xs i ≡ Some t) ⊎ ((i ≡ length xs) × (t ≡ x))
-get_snoc [] x zero t is = inr (refl, cc is)
-get_snoc [] x (suc i) t is = absurd (cc is)
-get_snoc (y ∷ xs) x zero t is = inl is
-get_snoc (y ∷ xs) x (suc i) t is = ⊎_elim (λ one. inl one) (λ last. inr (ap suc last.0, last.1)) (get_snoc xs x i t is)
+get_snoc [] x zero is = inr (refl, cc is)
+get_snoc [] x (suc i) is = absurd (cc is)
+get_snoc (y ∷ xs) x zero is = inl is
+get_snoc (y ∷ xs) x (suc i) {t} is = ⊎_elim (λ one. inl one) (λ last. inr (ap suc last.0, last.1)) (get_snoc xs x i is)
 
 abbrev look_at : ℕ → Option (List ℕ) → Look
 look_at t w = record { moment = t; written = w }
 
-pub looked_none : (w : Option (List ℕ)) (s : List Look) → Looked w [] [] s s
-looked_none w s = record {
+pub looked_none : {w : Option (List ℕ)} (s : List Look) → Looked w [] [] s s
+looked_none s = record {
   looks = [];
   all = sym (append-nil s);
   clocks_are = refl;
@@ -28,17 +28,18 @@ looked_none w s = record {
   before = λ i look is. absurd (cc is);
 }
 
-pub looked_more : (w w1 : Option (List ℕ)) (answers : List Answer) (answer : Answer) (clocks : List ℕ) (t : ℕ) (s s1 s2 : List Look)
+pub looked_more : {w : Option (List ℕ)} (w1 : Option (List ℕ)) {answers : List Answer} (answer : Answer) {clocks : List ℕ} (t : ℕ)
+    {s s1 s2 : List Look}
     → Looked w answers clocks s s1
     → Appends w w1 (replies answers) → LooksAt t w1 s1 s2 → Looked w (answers ++ answer ∷ []) (clocks ++ t ∷ []) s s2
-looked_more w w1 answers answer clocks t s s1 s2 was appended is = record {
+looked_more {w} w1 {answers} answer t {s} was appended is = record {
   looks = was.looks ++ look_at t w1 ∷ [];
   all = is ∙ ap (λ (l : List Look). l ++ look_at t w1 ∷ []) was.all ∙ append_assoc s was.looks (look_at t w1 ∷ []);
   clocks_are = map-append (λ (l : Look). l.moment) was.looks (look_at t w1 ∷ []) ∙ ap (λ (l : List ℕ). l ++ t ∷ []) was.clocks_are;
   one_each =
       (let one = was.one_each in omega (arith, length-append was.looks (look_at t w1 ∷ []), length-append answers (answer ∷ []), one));
   before = λ i look at. ⊎_elim (λ old. earlier i look old)
-      (λ (last : (i ≡ length was.looks) × (look ≡ look_at t w1)). now i look last.0 last.1) (get_snoc was.looks (look_at t w1) i look at);
+      (λ (last : (i ≡ length was.looks) × (look ≡ look_at t w1)). now i look last.0 last.1) (get_snoc was.looks (look_at t w1) i at);
 }
   where
     earlier : (i : ℕ) (look : Look) → slice_get was.looks i ≡ Some look → Appends w look.written (replies (take i (answers ++ answer ∷ [])))

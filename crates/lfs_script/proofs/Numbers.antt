@@ -48,10 +48,10 @@ read-none {E} word (Err f) bare h none n fits e =
     let value : digits_value 10 word ≡ n = ap (digits_value 10) (sym e) ∙ digits_value-decimal own n fits in
     not (digits, bare.0, rw value fits)
 
-pub small-none : {E : Type 0} (bound : ℕ) (word : List ℕ) (m : ℕ) (r : Result ℕ E) → bound ≤ 2 ^ 64 → m < 2 ^ 64 → decimal m ≡ word
+pub small-none : {E : Type 0} (bound : ℕ) {word : List ℕ} (m : ℕ) (r : Result ℕ E) → bound ≤ 2 ^ 64 → m < 2 ^ 64 → decimal m ≡ word
     → OkIff r (m < bound) m → result_ok r ≡ None
     → (n : ℕ) → n < bound → decimal n ≢ word
-small-none bound word m (Ok k) small wide is h none n fits e = cc
-small-none bound word m (Err f) small wide is h none n fits e =
+small-none bound m (Ok k) small wide is h none n fits e = cc
+small-none bound m (Err f) small wide is h none n fits e =
     let same : m ≡ n = decimal_injective m n wide (omega (arith, small, fits)) (is ∙ sym e) in
     h (rw same fits)

@@ -27,19 +27,19 @@ pieces-some f a b c xs i d lt before next =
     subst (AppendsSome a c) whole (some_front a c _ (flat_map f (drop (i + 1) xs)) (some_then a b c _ _ before next))
 
 -- behind a text that is out
-pub after-more : {X : Type 0} (f : X → List ℕ) (head : List ℕ) (a b c : Option (List ℕ)) (xs : List X) (i : ℕ) (d : X) → i < length xs
+pub after-more : {X : Type 0} (f : X → List ℕ) (head : List ℕ) (a b c : Option (List ℕ)) (xs : List X) (i : ℕ) {d : X} → i < length xs
     → get_or xs i d ≡ d
     → Appends a b (head ++ flat_map f (take i xs)) → Appends b c (f d) → Appends a c (head ++ flat_map f (take (i + 1) xs))
-after-more f head a b c xs i d lt is before next =
+after-more f head a b c xs i {d} lt is before next =
     let whole : (head ++ flat_map f (take i xs)) ++ f d ≡ head ++ flat_map f (take (i + 1) xs) =
     append_assoc head (flat_map f (take i xs)) (f d)
     ∙ ap (λ t. head ++ t) (ap (λ x. flat_map f (take i xs) ++ f x) (sym is) ∙ sym (more f xs i d lt)) in
     subst (Appends a c) whole (Appends-trans a b c _ _ before next)
 
-pub after-some : {X : Type 0} (f : X → List ℕ) (head : List ℕ) (a b c : Option (List ℕ)) (xs : List X) (i : ℕ) (d : X) → i < length xs
+pub after-some : {X : Type 0} (f : X → List ℕ) (head : List ℕ) (a b c : Option (List ℕ)) (xs : List X) (i : ℕ) {d : X} → i < length xs
     → get_or xs i d ≡ d
     → Appends a b (head ++ flat_map f (take i xs)) → AppendsSome b c (f d) → AppendsSome a c (head ++ flat_map f xs)
-after-some f head a b c xs i d lt is before next =
+after-some f head a b c xs i {d} lt is before next =
     let rest = flat_map f (drop (i + 1) xs) in
     let whole : ((head ++ flat_map f (take i xs)) ++ f d) ++ rest ≡ head ++ flat_map f xs =
     ap (λ t. t ++ rest) (append_assoc head (flat_map f (take i xs)) (f d)

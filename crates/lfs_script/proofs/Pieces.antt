@@ -27,7 +27,7 @@ on_ok (Ok x) P p = p
 on_ok (Err e) P p = tt
 
 -- a call that failed put some of the bytes
-pub puts_some : {T E : Type 0} (Q : E → Type 0) (a b : Option (List ℕ)) (bytes : List ℕ) (r : Result T E) → IsErrAnd r Q
+pub puts_some : {T E : Type 0} (Q : E → Type 0) {a b : Option (List ℕ)} {bytes : List ℕ} (r : Result T E) → IsErrAnd r Q
     → AppendsSome a b bytes → Puts a b bytes r
-puts_some Q a b bytes (Ok x) err some = absurd err
-puts_some Q a b bytes (Err e) err some = record { ok = tt; err = some }
+puts_some Q (Ok x) err some = absurd err
+puts_some Q (Err e) err some = record { ok = tt; err = some }

@@ -24,9 +24,9 @@ plain_more text b plain ne = All-append (λ c. c ≢ 10) text (b ∷ []) plain (
 -- ---- what was read
 
 -- a byte more of a line
-pub byte_read : (E : Type 0) (a b c : Option (List ℕ)) (text new : List ℕ) (found : Option ℕ) (byte : ℕ) → found ≡ Some byte
+pub byte_read : (E : Type 0) (a b c : Option (List ℕ)) (text : List ℕ) {new : List ℕ} {found : Option ℕ} {byte : ℕ} → found ≡ Some byte
     → new ≡ text ++ byte ∷ [] → Consumes a b text → Consumes b c (taken {E = E} (Ok found)) → Consumes a c new
-byte_read E a b c text new found byte is pushed before next =
+byte_read E a b c text {byte} is pushed before next =
     subst (Consumes a c) (sym pushed)
     (Consumes-trans a b c text (byte ∷ []) before (subst (λ o. Consumes b c (taken {E = E} (Ok o))) is next))
 
@@ -65,9 +65,9 @@ last_read r mid now before text left first next end =
     (Consumes-trans r mid _ before text first (subst (Consumes mid (prepend_known left now)) (append-nil text) next)) end
 
 -- nothing was read yet
-pub none_read : (r : Option (List ℕ)) (left : List ℕ) → left ≡ [] → Consumes r (prepend_known left r) []
-none_read None left none = tt
-none_read (Some xs) left none = sym (ap (λ t. t ++ xs) none)
+pub none_read : (r : Option (List ℕ)) {left : List ℕ} → left ≡ [] → Consumes r (prepend_known left r) []
+none_read None none = tt
+none_read (Some xs) none = sym (ap (λ t. t ++ xs) none)
 
 -- ---- what was written
 
@@ -108,12 +108,12 @@ pub all_more : (texts : List (List ℕ)) (text : List ℕ) → AllByRecursion Is
     → AllByRecursion IsText (texts ++ text ∷ [])
 all_more texts text all plain = each_more IsText texts text all plain
 
-pub spelled_more : (texts : List (List ℕ)) (script : List Line) (text : List ℕ) (line : Line) → AreSpelled texts script → Spells text line
+pub spelled_more : (texts : List (List ℕ)) (script : List Line) {text : List ℕ} {line : Line} → AreSpelled texts script → Spells text line
     → AreSpelled (texts ++ text ∷ []) (script ++ line ∷ [])
-spelled_more [] [] text line all spells = (spells, tt)
-spelled_more [] (l ∷ script) text line all spells = absurd all
-spelled_more (t ∷ texts) [] text line all spells = absurd all
-spelled_more (t ∷ texts) (l ∷ script) text line all spells = (all.0, spelled_more texts script text line all.1 spells)
+spelled_more [] [] all spells = (spells, tt)
+spelled_more [] (l ∷ script) all spells = absurd all
+spelled_more (t ∷ texts) [] all spells = absurd all
+spelled_more (t ∷ texts) (l ∷ script) {text} {line} all spells = (all.0, spelled_more texts script all.1 spells)
 
 pub lines_before : (texts : List (List ℕ)) (rest : List ℕ) → AllByRecursion IsText texts
     → lines (ended_texts texts ++ rest) ≡ texts ++ lines rest

@@ -48,17 +48,17 @@ unknown_is_bad text unknown line spells = unknown line spells.in_range (sym spel
 
 module _ {D : Type 0} (state : D → DeviceState) where
   -- a line's call is made
-  pub called_text : (old new : Mounted D) (text : List ℕ) (line : Line) (answer : Answer) → length text ≤ 140000 → text_of line ≡ text
+  pub called_text : (old new : Mounted D) {text : List ℕ} (line : Line) (answer : Answer) → length text ≤ 140000 → text_of line ≡ text
       → InRange line → ServesLine state old new line answer
       → AnswersText state (Some answer) old new text
-  called_text old new text line answer short is fits serves = (line, record { text = sym is; short = short; in_range = fits }, serves)
+  called_text old new {text} line answer short is fits serves = (line, record { text = sym is; short = short; in_range = fits }, serves)
 
   -- memory for a line's word was refused
-  pub without_memory : (old : Mounted D) (text : List ℕ) → length text ≤ 140000 → (line : Line) × InRange line × IsTrue (has_word line)
+  pub without_memory : (old : Mounted D) {text : List ℕ} → length text ≤ 140000 → (line : Line) × InRange line × IsTrue (has_word line)
       × (text_of line ≡ text)
       → AnswersText state (Some (Refuse NoMemory)) old old text
-  without_memory old text short (line, fits, word, is) =
-      called_text old old text line (Refuse NoMemory) short is fits (inr (word, refl, refl))
+  without_memory old {text} short (line, fits, word, is) =
+      called_text old old line (Refuse NoMemory) short is fits (inr (word, refl, refl))
 
   pub called : (R : List ℕ → Type 0) (old new : Mounted D) (text : List ℕ) (answer : Answer) → AnswersText state (Some answer) old new text
       → R (reply answer) → Called state R old new text
@@ -77,23 +77,23 @@ module _ {D : Type 0} (state : D → DeviceState) where
   turned (Some (Script end)) strict w w1 old new text n answer answers replied decides = absurd decides
 
   -- device and writer were looked at behind the call
-  pub looks_called : (v : Mounted D) (d : D) (w : Option (List ℕ)) (answer : Answer) (old : Mounted D) (text : List ℕ) (s s1 : List Look)
+  pub looks_called : {v : Mounted D} {d : D} (w : Option (List ℕ)) (answer : Answer) (old : Mounted D) {text : List ℕ} (s s1 : List Look)
       → AnswersText state (Some answer) old v text → d ≡ v.log.device
       → LooksAt (state d).moment w s s1 → LooksBeforeReply state v w text s s1
-  looks_called v d w answer old text s s1 answers same looks = record {
+  looks_called w answer old s s1 answers same looks = record {
     once = λ line spells. subst (λ (x : D). LooksAt (state x).moment w s s1) same looks;
     never = λ bad. absurd (bad answers.0 answers.1);
   }
 
   -- a bad text isn't looked at
-  pub looks_never : (v : Mounted D) (w : Option (List ℕ)) (text : List ℕ) (s : List Look) → IsBadText text
+  pub looks_never : (v : Mounted D) (w : Option (List ℕ)) {text : List ℕ} (s : List Look) → IsBadText text
       → LooksBeforeReply state v w text s s
-  looks_never v w text s bad = record { once = λ line spells. absurd (bad line spells); never = λ e. refl }
+  looks_never v w s bad = record { once = λ line spells. absurd (bad line spells); never = λ e. refl }
 
   -- the line as a slice
-  pub looks_of : (v : Mounted D) (w : Option (List ℕ)) (slice text : List ℕ) (s s1 : List Look) → slice ≡ text
+  pub looks_of : (v : Mounted D) (w : Option (List ℕ)) {slice text : List ℕ} (s s1 : List Look) → slice ≡ text
       → LooksBeforeReply state v w slice s s1 → LooksBeforeReply state v w text s s1
-  looks_of v w slice text s s1 is looks = subst (λ (t : List ℕ). LooksBeforeReply state v w t s s1) is looks
+  looks_of v w s s1 is looks = subst (λ (t : List ℕ). LooksBeforeReply state v w t s s1) is looks
 
 module _ {D : Type 0} (state : D → DeviceState) (strict : Bool) where
   -- the last line is none, or goes on, or ends the script
@@ -101,30 +101,32 @@ module _ {D : Type 0} (state : D → DeviceState) (strict : Bool) where
       → Finishes state strict (Script Done) w w v v text n s s
   finish_none w v text n s e = inl (nothing text (zero_length (length text) e), refl, refl, refl, refl)
 
-  pub finish_done : (w w1 : Option (List ℕ)) (old new : Mounted D) (text : List ℕ) (n : ℕ) (s s1 : List Look) → false ≡ (length text == 0)
+  pub finish_done : (w w1 : Option (List ℕ)) (old : Mounted D) {new : Mounted D} {text : List ℕ} (n : ℕ) (s : List Look) {s1 : List Look}
+      → false ≡ (length text == 0)
       → Turns state strict None w w1 old new text n → LooksBeforeReply state new w text s s1
       → Finishes state strict (Script Done) w w1 old new text n s s1
-  finish_done w w1 old new text n s s1 e turns looks = inr (some_length (length text) e, looks, inl (refl, turns))
+  finish_done w w1 old {text} n s e turns looks = inr (some_length (length text) e, looks, inl (refl, turns))
 
-  pub finish_end : (end : StrictEnd) (w w1 : Option (List ℕ)) (old new : Mounted D) (text : List ℕ) (n : ℕ) (s s1 : List Look)
+  pub finish_end : (end : StrictEnd) (w w1 : Option (List ℕ)) (old : Mounted D) {new : Mounted D} {text : List ℕ} (n : ℕ) (s : List Look)
+      {s1 : List Look}
       → false ≡ (length text == 0) → Turns state strict (Some end) w w1 old new text n → LooksBeforeReply state new w text s s1
       → Finishes state strict end w w1 old new text n s s1
-  finish_end end w w1 old new text n s s1 e turns looks = inr (some_length (length text) e, looks, inr turns)
+  finish_end end w w1 old {text} n s e turns looks = inr (some_length (length text) e, looks, inr turns)
 
   -- the line as a slice
-  pub turns_of : (end : Option StrictEnd) (w w1 : Option (List ℕ)) (old new : Mounted D) (slice text : List ℕ) (n : ℕ) → slice ≡ text
+  pub turns_of : (end : Option StrictEnd) (w w1 : Option (List ℕ)) (old new : Mounted D) {slice text : List ℕ} (n : ℕ) → slice ≡ text
       → Turns state strict end w w1 old new slice n → Turns state strict end w w1 old new text n
-  turns_of end w w1 old new slice text n is turns = subst (λ (t : List ℕ). Turns state strict end w w1 old new t n) is turns
+  turns_of end w w1 old new n is turns = subst (λ (t : List ℕ). Turns state strict end w w1 old new t n) is turns
 
-  pub finishes_of : (end : StrictEnd) (w w1 : Option (List ℕ)) (old new : Mounted D) (slice text : List ℕ) (n : ℕ) (s s1 : List Look)
+  pub finishes_of : (end : StrictEnd) (w w1 : Option (List ℕ)) (old new : Mounted D) {slice text : List ℕ} (n : ℕ) (s s1 : List Look)
       → slice ≡ text → Finishes state strict end w w1 old new slice n s s1 → Finishes state strict end w w1 old new text n s s1
-  finishes_of end w w1 old new slice text n s s1 is finishes =
+  finishes_of end w w1 old new n s s1 is finishes =
       subst (λ (t : List ℕ). Finishes state strict end w w1 old new t n s s1) is finishes
 
   -- the replies so far are flushed
-  pub so_far_flushed : (n : ℕ) (r left w w1 w2 : Option (List ℕ)) (old now : Mounted D) (s s1 : List Look) → Keeps w1 w2
+  pub so_far_flushed : {n : ℕ} {r left w w1 : Option (List ℕ)} (w2 : Option (List ℕ)) {old now : Mounted D} {s s1 : List Look} → Keeps w1 w2
       → SoFar state strict n r left w w1 old now s s1 → SoFar state strict n r left w w2 old now s s1
-  so_far_flushed n r left w w1 w2 old now s s1 keeps so = record {
+  so_far_flushed {w} {w1} w2 keeps so = record {
     texts = so.texts;
     script = so.script;
     answers = so.answers;
@@ -140,22 +142,22 @@ module _ {D : Type 0} (state : D → DeviceState) (strict : Bool) where
   }
 
 -- how a line ended
-pub line_ended : (a b : Option (List ℕ)) (text : List ℕ) (end is : LineEnd) → end ≡ is
+pub line_ended : (a b : Option (List ℕ)) (text : List ℕ) {end is : LineEnd} → end ≡ is
     → Consumes a b (text ++ consumed_by_line {E = ReadError} (Ok end)) → Consumes a b (text ++ consumed_by_line {E = ReadError} (Ok is))
-line_ended a b text end is e consumes = subst (λ (l : LineEnd). Consumes a b (text ++ consumed_by_line {E = ReadError} (Ok l))) e consumes
+line_ended a b text e consumes = subst (λ (l : LineEnd). Consumes a b (text ++ consumed_by_line {E = ReadError} (Ok l))) e consumes
 
-pub long_ended : (end : LineEnd) (b : ℕ) (P : ℕ → Type 0) → end ≡ TooLong b → OnTooLong {E = ReadError} (Ok end) P → P b
-long_ended end b P is long = subst (λ (l : LineEnd). OnTooLong {E = ReadError} (Ok l) P) is long
+pub long_ended : {end : LineEnd} {b : ℕ} (P : ℕ → Type 0) → end ≡ TooLong b → OnTooLong {E = ReadError} (Ok end) P → P b
+long_ended P is long = subst (λ (l : LineEnd). OnTooLong {E = ReadError} (Ok l) P) is long
 
 -- ---- a line more, and the ends
 
-module _ {D : Type 0} (state : D → DeviceState) (strict : Bool) (none : (old : Mounted D) → TellsLines state old old [] [] [])
+module _ {D : Type 0} {state : D → DeviceState} {strict : Bool} (none : (old : Mounted D) → TellsLines state old old [] [] [])
     (more : (old mid new : Mounted D) (script : List Line) (answers : List Answer) (clocks : List ℕ) (line : Line) (answer : Answer)
     → TellsLines state old mid script answers clocks → ServesLine state mid new line answer
     → TellsLines state old new (script ++ line ∷ []) (answers ++ answer ∷ []) (clocks ++ (state new.log.device).moment ∷ [])) where
-  pub so_far_none : (r w : Option (List ℕ)) (left : List ℕ) (old : Mounted D) (s : List Look) → left ≡ []
+  pub so_far_none : (r w : Option (List ℕ)) {left : List ℕ} (old : Mounted D) (s : List Look) → left ≡ []
       → SoFar state strict 1 r (prepend_known left r) w w old old s s
-  so_far_none r w left old s empty = record {
+  so_far_none r w {left} old s empty = record {
     texts = [];
     script = [];
     answers = [];
@@ -163,9 +165,9 @@ module _ {D : Type 0} (state : D → DeviceState) (strict : Bool) (none : (old :
     spelled = tt;
     clocks = [];
     told = none old;
-    looked = looked_none w s;
+    looked = looked_none s;
     goes_on = tt;
-    consumed = none_read r left empty;
+    consumed = none_read r empty;
     appended = Appends-nil w;
     count = refl;
   }
@@ -182,23 +184,22 @@ module _ {D : Type 0} (state : D → DeviceState) (strict : Bool) (none : (old :
     };
     clocks = [];
     told = none old;
-    looked = looked_none w s;
+    looked = looked_none s;
   }
 
-  pub so_far_more : (n : ℕ) (r mid left w w1 w2 : Option (List ℕ)) (old now new : Mounted D) (text : List ℕ) (s s1 s2 : List Look)
+  pub so_far_more : (n : ℕ) (r mid left w w1 w2 : Option (List ℕ)) (old now new : Mounted D) {text : List ℕ} (s s1 s2 : List Look)
       → SoFar state strict n r mid w w1 old now s s1 → IsText text → Consumes mid left (text ++ 10 ∷ [])
       → Turns state strict None w1 w2 now new text n → LooksBeforeReply state new w1 text s1 s2
       → SoFar state strict (n + 1) r left w w2 old new s s2
-  so_far_more n r mid left w w1 w2 old now new text s s1 s2 so plain consumes (call, goes_on) looks = record {
+  so_far_more n r mid left w w1 w2 old now new {text} s s1 s2 so plain consumes (call, goes_on) looks = record {
     texts = so.texts ++ text ∷ [];
     script = so.script ++ call.line ∷ [];
     answers = so.answers ++ call.answer ∷ [];
     plain = all_more so.texts text so.plain plain;
-    spelled = spelled_more so.texts so.script text call.line so.spelled call.spells;
+    spelled = spelled_more so.texts so.script so.spelled call.spells;
     clocks = so.clocks ++ (state new.log.device).moment ∷ [];
     told = more old now new so.script so.answers so.clocks call.line call.answer so.told call.serves;
-    looked = looked_more w w1 so.answers call.answer so.clocks (state new.log.device).moment s s1 s2 so.looked so.appended
-        (looks.once call.line call.spells);
+    looked = looked_more w1 call.answer (state new.log.device).moment so.looked so.appended (looks.once call.line call.spells);
     goes_on = each_more (GoesOnBehind strict) so.answers call.answer so.goes_on goes_on;
     consumed = line_more r mid left so.texts text so.consumed consumes;
     appended = replies_after w w1 w2 so.answers call.answer so.appended call.replied;
@@ -206,17 +207,18 @@ module _ {D : Type 0} (state : D → DeviceState) (strict : Bool) (none : (old :
   }
 
   -- a reply that went out in part
-  reply_stops : (n : ℕ) (r mid now w w1 w2 : Option (List ℕ)) (old at new : Mounted D) (text input rest : List ℕ) (s s1 s2 : List Look)
+  reply_stops : {n : ℕ} {r mid : Option (List ℕ)} (now w w1 w2 : Option (List ℕ)) {old : Mounted D} (at : Mounted D) {new : Mounted D}
+      {text : List ℕ} (input rest : List ℕ) (s s1 s2 : List Look)
       (so : SoFar state strict n r mid w w1 old at s s1) → LooksAt (state new.log.device).moment w1 s1 s2
       → Called state (AppendsSome w1 w2) at new text
       → lines input ≡ so.texts ++ text ∷ [] → EndsWithLine input rest now → Consumes r now (input ++ rest)
       → EndsTold state strict (Script Write) r now w w2 old new s s2
-  reply_stops n r mid now w w1 w2 old at new text input rest s s1 s2 so looks call cut whole consumes = record {
+  reply_stops now w w1 w2 {old} at {new} {text} input rest s s1 s2 so looks call cut whole consumes = record {
     ends = record {
       texts = so.texts ++ text ∷ [];
       script = so.script ++ call.line ∷ [];
       answers = so.answers ++ call.answer ∷ [];
-      spelled = spelled_more so.texts so.script text call.line so.spelled call.spells;
+      spelled = spelled_more so.texts so.script so.spelled call.spells;
       run = (more old at new so.script so.answers so.clocks call.line call.answer so.told call.serves).runs;
       bytes = inl (
         record {
@@ -235,21 +237,22 @@ module _ {D : Type 0} (state : D → DeviceState) (strict : Bool) (none : (old :
     };
     clocks = so.clocks ++ (state new.log.device).moment ∷ [];
     told = more old at new so.script so.answers so.clocks call.line call.answer so.told call.serves;
-    looked = looked_more w w1 so.answers call.answer so.clocks (state new.log.device).moment s s1 s2 so.looked so.appended looks;
+    looked = looked_more w1 call.answer (state new.log.device).moment so.looked so.appended looks;
   }
 
   -- a reply behind which a strict run ends
-  refusal_stops : (n : ℕ) (r mid now w w1 w2 : Option (List ℕ)) (old at new : Mounted D) (text input rest : List ℕ) (s s1 s2 : List Look)
+  refusal_stops : {n : ℕ} {r mid : Option (List ℕ)} (now w w1 w2 : Option (List ℕ)) {old : Mounted D} (at : Mounted D) {new : Mounted D}
+      {text : List ℕ} (input rest : List ℕ) (s s1 s2 : List Look)
       (so : SoFar state strict n r mid w w1 old at s s1) → LooksAt (state new.log.device).moment w1 s1 s2
       → (call : Called state (Appends w1 w2) at new text)
       → EndsBehind strict call.answer → lines input ≡ so.texts ++ text ∷ [] → EndsWithLine input rest now → Consumes r now (input ++ rest)
       → EndsTold state strict Refused r now w w2 old new s s2
-  refusal_stops n r mid now w w1 w2 old at new text input rest s s1 s2 so looks call refused cut whole consumes = record {
+  refusal_stops now w w1 w2 {old} at {new} {text} input rest s s1 s2 so looks call refused cut whole consumes = record {
     ends = record {
       texts = so.texts ++ text ∷ [];
       script = so.script ++ call.line ∷ [];
       answers = so.answers ++ call.answer ∷ [];
-      spelled = spelled_more so.texts so.script text call.line so.spelled call.spells;
+      spelled = spelled_more so.texts so.script so.spelled call.spells;
       run = (more old at new so.script so.answers so.clocks call.line call.answer so.told call.serves).runs;
       bytes = record {
         input = input;
@@ -267,14 +270,15 @@ module _ {D : Type 0} (state : D → DeviceState) (strict : Bool) (none : (old :
     };
     clocks = so.clocks ++ (state new.log.device).moment ∷ [];
     told = more old at new so.script so.answers so.clocks call.line call.answer so.told call.serves;
-    looked = looked_more w w1 so.answers call.answer so.clocks (state new.log.device).moment s s1 s2 so.looked so.appended looks;
+    looked = looked_more w1 call.answer (state new.log.device).moment so.looked so.appended looks;
   }
 
   -- an end at which no call is made
-  stays : (end : StrictEnd) (n : ℕ) (r mid now w w1 w2 : Option (List ℕ)) (old at new : Mounted D) (s s1 s2 : List Look)
+  stays : {end : StrictEnd} {n : ℕ} {r mid : Option (List ℕ)} (now : Option (List ℕ)) {w w1 : Option (List ℕ)} (w2 : Option (List ℕ))
+      {old at new : Mounted D} {s s1 s2 : List Look}
       (so : SoFar state strict n r mid w w1 old at s s1) → new ≡ at → s2 ≡ s1 → StrictEndOf strict end r now w w2 so.texts so.answers
       → EndsTold state strict end r now w w2 old new s s2
-  stays end n r mid now w w1 w2 old at new s s1 s2 so same seen bytes = record {
+  stays now {w} w2 {old} {s} so same seen bytes = record {
     ends = record {
       texts = so.texts;
       script = so.script;
@@ -289,17 +293,15 @@ module _ {D : Type 0} (state : D → DeviceState) (strict : Bool) (none : (old :
   }
 
   -- a bad line
-  bad_ends : (end : ScriptEnd) (n : ℕ) (r mid now w w1 w2 : Option (List ℕ)) (old at new : Mounted D) (text rest : List ℕ)
-      (s s1 s2 : List Look) (so : SoFar state strict n r mid w w1 old at s s1) → new ≡ at → s2 ≡ s1 → IsBadLine text rest now
+  bad_ends : (end : ScriptEnd) {n : ℕ} {r mid now w w1 w2 : Option (List ℕ)} {old at new : Mounted D} (text rest : List ℕ)
+      {s s1 s2 : List Look} (so : SoFar state strict n r mid w w1 old at s s1) → new ≡ at → s2 ≡ s1 → IsBadLine text rest now
       → Consumes r now (ended_texts so.texts ++ (text ++ rest)) → RepliesBadLine end w1 w2 n
       → EndsTold state strict (Script end) r now w w2 old new s s2
-  bad_ends Done n r mid now w w1 w2 old at new text rest s s1 s2 so same seen line consumes refuses = absurd refuses
-  bad_ends Read n r mid now w w1 w2 old at new text rest s s1 s2 so same seen line consumes refuses = absurd refuses
-  bad_ends Memory n r mid now w w1 w2 old at new text rest s s1 s2 so same seen line consumes refuses = absurd refuses
-  bad_ends (BadLine m) n r mid now w w1 w2 old at new text rest s s1 s2 so same seen line consumes (is, appends) =
-      stays (Script (BadLine m)) n r mid now w w1 w2 old at new s s1 s2 so same seen (
-        (
-          is ∙ sym so.count,
+  bad_ends Done text rest so same seen line consumes refuses = absurd refuses
+  bad_ends Read text rest so same seen line consumes refuses = absurd refuses
+  bad_ends Memory text rest so same seen line consumes refuses = absurd refuses
+  bad_ends (BadLine m) {n} {r} {mid} {now} {w} {w1} {w2} {old} {at} {new} text rest {s} {s1} {s2} so same seen line consumes (is, appends) =
+      stays {end = Script (BadLine m)} now w2 so same seen ( ( is ∙ sym so.count,
           text,
           rest,
           line,
@@ -308,9 +310,8 @@ module _ {D : Type 0} (state : D → DeviceState) (strict : Bool) (none : (old :
         ),
         so.goes_on,
       )
-  bad_ends Write n r mid now w w1 w2 old at new text rest s s1 s2 so same seen line consumes appends =
-      stays (Script Write) n r mid now w w1 w2 old at new s s1 s2 so same seen
-      (inr (
+  bad_ends Write {n} {r} {mid} {now} {w} {w1} {w2} {old} {at} {new} text rest {s} {s1} {s2} so same seen line consumes appends =
+      stays now w2 so same seen (inr (
         record {
           text = text;
           more = rest;
@@ -323,33 +324,33 @@ module _ {D : Type 0} (state : D → DeviceState) (strict : Bool) (none : (old :
       ))
 
   -- a line with its newline, which is the last
-  pub turned_end : (end : StrictEnd) (n : ℕ) (r mid now w w1 w2 : Option (List ℕ)) (old at new : Mounted D) (text left : List ℕ)
+  pub turned_end : (end : StrictEnd) (n : ℕ) (r mid now w w1 w2 : Option (List ℕ)) (old at new : Mounted D) {text : List ℕ} (left : List ℕ)
       (s s1 s2 : List Look) → SoFar state strict n r mid w w1 old at s s1 → IsText text
       → Consumes mid (prepend_known left now) (text ++ 10 ∷ []) → Turns state strict (Some end) w1 w2 at new text n
       → LooksBeforeReply state new w1 text s1 s2 → EndsTold state strict end r now w w2 old new s s2
-  turned_end Refused n r mid now w w1 w2 old at new text left s s1 s2 so plain consumes (call, refused) looks =
-      refusal_stops n r mid now w w1 w2 old at new text (ended_texts (so.texts ++ text ∷ [])) left s s1 s2 so
+  turned_end Refused n r mid now w w1 w2 old at new {text} left s s1 s2 so plain consumes (call, refused) looks =
+      refusal_stops now w w1 w2 at (ended_texts (so.texts ++ text ∷ [])) left s s1 s2 so
       (looks.once call.line call.spells) call refused (lines_whole (so.texts ++ text ∷ []) (all_more so.texts text so.plain plain))
       (inl (ended_texts so.texts ++ text, ended_more so.texts text)) (with_left r now left (ended_texts (so.texts ++ text ∷ []))
       (line_more r mid (prepend_known left now) so.texts text so.consumed consumes))
-  turned_end (Script end) n r mid now w w1 w2 old at new text left s s1 s2 so plain consumes (inl (is, call)) looks =
+  turned_end (Script end) n r mid now w w1 w2 old at new {text} left s s1 s2 so plain consumes (inl (is, call)) looks =
       subst (λ (e : ScriptEnd). EndsTold state strict (Script e) r now w w2 old new s s2) (sym is)
-      (reply_stops n r mid now w w1 w2 old at new text (ended_texts (so.texts ++ text ∷ [])) left s s1 s2 so
+      (reply_stops now w w1 w2 at (ended_texts (so.texts ++ text ∷ [])) left s s1 s2 so
       (looks.once call.line call.spells) call (lines_whole (so.texts ++ text ∷ []) (all_more so.texts text so.plain plain))
       (inl (ended_texts so.texts ++ text, ended_more so.texts text)) (with_left r now left (ended_texts (so.texts ++ text ∷ []))
       (line_more r mid (prepend_known left now) so.texts text so.consumed consumes)))
-  turned_end (Script end) n r mid now w w1 w2 old at new text left s s1 s2 so plain consumes (inr (unspelled, refuses, same)) looks =
-      bad_ends end n r mid now w w1 w2 old at new text (10 ∷ left) s s1 s2 so same (looks.never unspelled)
-      (record { plain = plain; is_bad = inr (unspelled, inl (left, refl)) })
+  turned_end (Script end) n r mid now w w1 w2 old at new {text} left s s1 s2 so plain consumes (inr (unspelled, refuses, same)) looks =
+      bad_ends end text (10 ∷ left) so same (looks.never unspelled) (record { plain = plain; is_bad = inr (unspelled, inl (left, refl)) })
       (line_read r mid now (ended_texts so.texts) text (10 ∷ []) left so.consumed consumes) refuses
 
   -- a line that is too long
-  pub too_long : (end : ScriptEnd) (n : ℕ) (r mid now w w1 w2 : Option (List ℕ)) (old at : Mounted D) (text left : List ℕ) (b : ℕ)
+  pub too_long : (end : ScriptEnd) {n : ℕ} (r mid : Option (List ℕ)) {now : Option (List ℕ)} (w w1 w2 : Option (List ℕ))
+      (old at : Mounted D) (text left : List ℕ) (b : ℕ)
       (s s1 : List Look) → SoFar state strict n r mid w w1 old at s s1 → IsText text → b ≢ 10 → length text ≡ 140000
       → Consumes mid (prepend_known left now) (text ++ b ∷ []) → RepliesBadLine end w1 w2 n
       → EndsTold state strict (Script end) r now w w2 old at s s1
-  too_long end n r mid now w w1 w2 old at text left b s s1 so plain apart long consumes refuses =
-      bad_ends end n r mid now w w1 w2 old at at (text ++ b ∷ []) left s s1 s1 so refl refl
+  too_long end {n} r mid {now} w w1 w2 old at text left b s s1 so plain apart long consumes refuses =
+      bad_ends end (text ++ b ∷ []) left so refl refl
       (record { plain = plain_more text b plain apart; is_bad = inl (let l = length-append text (b ∷ []) in omega (arith, l, long)) })
       (subst (Consumes r now) (append_assoc (ended_texts so.texts) (text ++ b ∷ []) left)
       (with_left r now left (ended_texts so.texts ++ (text ++ b ∷ []))
@@ -357,34 +358,34 @@ module _ {D : Type 0} (state : D → DeviceState) (strict : Bool) (none : (old :
       refuses
 
   -- a read that failed
-  pub read_fails : (n : ℕ) (r mid now w w1 : Option (List ℕ)) (old at : Mounted D) (text left : List ℕ) (s s1 : List Look)
+  pub read_fails : (n : ℕ) (r mid now w w1 : Option (List ℕ)) (old at : Mounted D) (text : List ℕ) {left : List ℕ} (s s1 : List Look)
       → SoFar state strict n r mid w w1 old at s s1 → IsText text
       → Consumes mid (prepend_known left now) (text ++ []) → left ≡ [] → EndsTold state strict (Script Read) r now w w1 old at s s1
-  read_fails n r mid now w w1 old at text left s s1 so plain consumes empty =
+  read_fails n r mid now w w1 old at text s s1 so plain consumes empty =
       let read : Consumes mid now text = subst (Consumes mid now) (append-nil text)
       (subst (λ o. Consumes mid o (text ++ [])) (ap (λ l. prepend_known l now) empty ∙ prepend_known-nil now) consumes) in
-      stays (Script Read) n r mid now w w1 w1 old at at s s1 s1 so refl refl
+      stays now w1 so refl refl
       ((text, inl plain, Consumes-trans r mid now (ended_texts so.texts) text so.consumed read, so.appended), so.goes_on)
 
   -- as many lines as have a number
-  pub numbers_end : (n : ℕ) (r now w w1 : Option (List ℕ)) (old at : Mounted D) (left : List ℕ) (s s1 : List Look) → SoFar state strict n r
+  pub numbers_end : {n : ℕ} (r : Option (List ℕ)) {now : Option (List ℕ)} (w w1 : Option (List ℕ)) (old at : Mounted D) (left : List ℕ)
+      (s s1 : List Look) → SoFar state strict n r
       (prepend_known left now) w w1 old at s s1 → 2 ^ 64 - 1 ≤ n → EndsTold state strict (Script Read) r now w w1 old at s s1
-  numbers_end n r now w w1 old at left s s1 so last =
-      stays (Script Read) n r (prepend_known left now) now w w1 w1 old at at s s1 s1 so refl refl (
+  numbers_end {n} r {now} w w1 old at left s s1 so last =
+      stays now w1 so refl refl (
         (left, inr (let c = so.count in omega (arith, c, last)), with_left r now left (ended_texts so.texts) so.consumed, so.appended),
         so.goes_on,
       )
 
   -- the end of the input
-  pub finished : (end : StrictEnd) (n : ℕ) (r mid now w w1 w2 : Option (List ℕ)) (old at new : Mounted D) (text left : List ℕ)
+  pub finished : (end : StrictEnd) {n : ℕ} (r mid : Option (List ℕ)) {now : Option (List ℕ)} (w w1 w2 : Option (List ℕ))
+      (old at new : Mounted D) (text left : List ℕ)
       (s s1 s2 : List Look) → SoFar state strict n r mid w w1 old at s s1 → IsText text
       → Consumes mid (prepend_known left now) (text ++ []) → IsAtEnd (prepend_known left now)
       → Finishes state strict end w1 w2 at new text n s1 s2 → EndsTold state strict end r now w w2 old new s s2
-  finished end n r mid now w w1 w2 old at new text left s s1 s2 so plain consumes ended (inl (empty, is, still, same, seen)) =
+  finished end {n} r mid {now} w w1 w2 old at new text left s s1 s2 so plain consumes ended (inl (empty, is, still, same, seen)) =
       let read = last_read r mid now (ended_texts so.texts) text left so.consumed consumes ended in
-      subst (λ (e : StrictEnd). EndsTold state strict e r now w w2 old new s s2) (sym is)
-      (stays (Script Done) n r mid now w w1 w2 old at new s s1 s2 so same seen (
-        (
+      subst (λ (e : StrictEnd). EndsTold state strict e r now w w2 old new s s2) (sym is) (stays {end = Script Done} now w2 so same seen ( (
           ended_texts so.texts,
           subst (Consumes r now) (ap (λ t. ended_texts so.texts ++ t) empty ∙ append-nil (ended_texts so.texts)) read.0,
           read.1,
@@ -393,7 +394,7 @@ module _ {D : Type 0} (state : D → DeviceState) (strict : Bool) (none : (old :
         ),
         so.goes_on,
       ))
-  finished end n r mid now w w1 w2 old at new text left s s1 s2 so plain consumes ended (inr (some, looks, inl (is, (call, goes_on)))) =
+  finished end r mid {now} w w1 w2 old at new text left s s1 s2 so plain consumes ended (inr (some, looks, inl (is, (call, goes_on)))) =
       let read = last_read r mid now (ended_texts so.texts) text left so.consumed consumes ended in
       subst (λ (e : StrictEnd). EndsTold state strict e r now w w2 old new s s2) (sym is)
       (record {
@@ -401,7 +402,7 @@ module _ {D : Type 0} (state : D → DeviceState) (strict : Bool) (none : (old :
           texts = so.texts ++ text ∷ [];
           script = so.script ++ call.line ∷ [];
           answers = so.answers ++ call.answer ∷ [];
-          spelled = spelled_more so.texts so.script text call.line so.spelled call.spells;
+          spelled = spelled_more so.texts so.script so.spelled call.spells;
           run = (more old at new so.script so.answers so.clocks call.line call.answer so.told call.serves).runs;
           bytes = (
             (
@@ -416,25 +417,24 @@ module _ {D : Type 0} (state : D → DeviceState) (strict : Bool) (none : (old :
         };
         clocks = so.clocks ++ (state new.log.device).moment ∷ [];
         told = more old at new so.script so.answers so.clocks call.line call.answer so.told call.serves;
-        looked = looked_more w w1 so.answers call.answer so.clocks (state new.log.device).moment s s1 s2 so.looked so.appended
-            (looks.once call.line call.spells);
+        looked = looked_more w1 call.answer (state new.log.device).moment so.looked so.appended (looks.once call.line call.spells);
       })
-  finished Refused n r mid now w w1 w2 old at new text left s s1 s2 so plain consumes ended (inr (some, looks, inr (call, refused))) =
+  finished Refused {n} r mid {now} w w1 w2 old at new text left s s1 s2 so plain consumes ended (inr (some, looks, inr (call, refused))) =
       let read = last_read r mid now (ended_texts so.texts) text left so.consumed consumes ended in
-      refusal_stops n r mid now w w1 w2 old at new text (ended_texts so.texts ++ text) [] s s1 s2 so
+      refusal_stops now w w1 w2 at (ended_texts so.texts ++ text) [] s s1 s2 so
       (looks.once call.line call.spells) call refused (lines_last so.texts text so.plain plain some) (inr (refl, read.1))
       (subst (Consumes r now) (sym (append-nil (ended_texts so.texts ++ text))) read.0)
-  finished (Script end) n r mid now w w1 w2 old at new text left s s1 s2 so plain consumes ended (inr (some, looks, inr (inl (is, call)))) =
+  finished (Script end) {n} r mid {now} w w1 w2 old at new text left s s1 s2 so plain consumes ended
+      (inr (some, looks, inr (inl (is, call)))) =
       let read = last_read r mid now (ended_texts so.texts) text left so.consumed consumes ended in
       subst (λ (e : ScriptEnd). EndsTold state strict (Script e) r now w w2 old new s s2) (sym is)
-      (reply_stops n r mid now w w1 w2 old at new text (ended_texts so.texts ++ text) [] s s1 s2 so (looks.once call.line call.spells) call
+      (reply_stops now w w1 w2 at (ended_texts so.texts ++ text) [] s s1 s2 so (looks.once call.line call.spells) call
       (lines_last so.texts text so.plain plain some) (inr (refl, read.1))
       (subst (Consumes r now) (sym (append-nil (ended_texts so.texts ++ text))) read.0))
-  finished (Script end) n r mid now w w1 w2 old at new text left s s1 s2 so plain consumes ended
+  finished (Script end) {n} r mid {now} w w1 w2 old at new text left s s1 s2 so plain consumes ended
       (inr (some, looks, inr (inr (unspelled, refuses, same)))) =
       let read = last_read r mid now (ended_texts so.texts) text left so.consumed consumes ended in
-      bad_ends end n r mid now w w1 w2 old at new text [] s s1 s2 so same (looks.never unspelled)
-      (record { plain = plain; is_bad = inr (unspelled, inr (refl, some, read.1)) })
+      bad_ends end text [] so same (looks.never unspelled) (record { plain = plain; is_bad = inr (unspelled, inr (refl, some, read.1)) })
       (subst (λ t. Consumes r now (ended_texts so.texts ++ t)) (sym (append-nil text)) read.0) refuses
 
 -- ---- a run that isn't strict
@@ -448,10 +448,10 @@ plain_end Write r r' w w' texts answers (inl (stop, goes_on)) = inl stop
 plain_end Write r r' w w' texts answers (inr (stop, goes_on)) = inr stop
 plain_end Memory r r' w w' texts answers (bytes, goes_on) = bytes
 
-module _ {D : Type 0} (state : D → DeviceState) where
-  pub plain_run : (by : StrictEnd) (end : ScriptEnd) (r r' w w' : Option (List ℕ)) (old new : Mounted D) → by ≡ Script end
+module _ {D : Type 0} {state : D → DeviceState} where
+  pub plain_run : {by : StrictEnd} {end : ScriptEnd} (r r' w w' : Option (List ℕ)) (old new : Mounted D) → by ≡ Script end
       → EndsBy state false by r r' w w' old new → Ends state end r r' w w' old new
-  plain_run by end r r' w w' old new is ends =
+  plain_run {end} r r' w w' old new is ends =
       let run = subst (λ (e : StrictEnd). EndsBy state false e r r' w w' old new) is ends in
       record {
         texts = run.texts;
@@ -463,8 +463,8 @@ module _ {D : Type 0} (state : D → DeviceState) where
       }
 
   -- no refusal ends it
-  pub not_refused : (by : StrictEnd) (r r' w w' : Option (List ℕ)) (old new : Mounted D) → by ≡ Refused
+  pub not_refused : {by : StrictEnd} (r r' w w' : Option (List ℕ)) (old new : Mounted D) → by ≡ Refused
       → EndsBy state false by r r' w w' old new → ⊥
-  not_refused by r r' w w' old new is ends =
+  not_refused r r' w w' old new is ends =
       let run = subst (λ (e : StrictEnd). EndsBy state false e r r' w w' old new) is ends in
       let bad : false ≡ true = run.bytes.refused.0 in cc

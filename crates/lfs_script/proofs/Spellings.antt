@@ -61,21 +61,22 @@ not_hex text odd apart bytes fits e = not_pairs text odd apart bytes (fits_of by
 pub pairs_hex : (text : List ℕ) → is_pairs text ≡ true → (bytes : List ℕ) × AreBytes bytes × (hex bytes ≡ text)
 pairs_hex text are = let found = pairs-bytes text are in (found.0, are_of found.0 found.1, sym (hex_is found.0 found.1) ∙ found.2)
 
-pub decoded_hex : (text found : List ℕ) → is_pairs text ≡ true → decode_of text ≡ Ok found → AreBytes found × (hex found ≡ text)
-decoded_hex text found are read = let both = decoded text found are read in (are_of found both.0, sym (hex_is found both.0) ∙ both.1)
+pub decoded_hex : (text : List ℕ) {found : List ℕ} → is_pairs text ≡ true → decode_of text ≡ Ok found → AreBytes found × (hex found ≡ text)
+decoded_hex text {found} are read = let both = decoded text found are read in (are_of found both.0, sym (hex_is found both.0) ∙ both.1)
 
-pub word_length : (bytes text : List ℕ) → AreBytes bytes → word bytes ≡ text → 0 < length text
-word_length bytes text fits e = word_some bytes text (word_is bytes (fits_of bytes fits) ∙ e)
+pub word_length : (bytes : List ℕ) {text : List ℕ} → AreBytes bytes → word bytes ≡ text → 0 < length text
+word_length bytes {text} fits e = word_some bytes text (word_is bytes (fits_of bytes fits) ∙ e)
 
-pub unescaped : (bytes text : List ℕ) → AreBytes bytes → word bytes ≡ text → text ≢ 92 ∷ [] → escaped_bytes bytes ≡ text
-unescaped bytes text fits e apart = bytes_of_word bytes text (word_is bytes (fits_of bytes fits) ∙ e) apart
+pub unescaped : (bytes : List ℕ) {text : List ℕ} → AreBytes bytes → word bytes ≡ text → text ≢ 92 ∷ [] → escaped_bytes bytes ≡ text
+unescaped bytes {text} fits e apart = bytes_of_word bytes (word_is bytes (fits_of bytes fits) ∙ e) apart
 
-pub escaped_as : (bytes text : List ℕ) → IsBytes bytes → escaped_bytes bytes ≡ text → 0 < length text → AreBytes bytes × (word bytes ≡ text)
-escaped_as bytes text fits e some = (are_of bytes fits, sym (word_is bytes fits) ∙ word_of_bytes bytes text e some)
+pub escaped_as : (bytes : List ℕ) {text : List ℕ} → IsBytes bytes → escaped_bytes bytes ≡ text → 0 < length text
+    → AreBytes bytes × (word bytes ≡ text)
+escaped_as bytes {text} fits e some = (are_of bytes fits, sym (word_is bytes fits) ∙ word_of_bytes bytes e some)
 
 pub IfOk-word : {A E : Type 0} (r : Result (Vec ℕ A) E) (text : List ℕ) → IfOk r
     (λ bytes. IsBytes bytes.items × (escaped_bytes bytes.items ≡ text)) → 0 < length text → IfOk r (λ bytes. word bytes.items ≡ text)
-IfOk-word (Ok v) text h some = (escaped_as v.items text h.0 h.1 some).1
+IfOk-word (Ok v) text h some = (escaped_as v.items h.0 h.1 some).1
 IfOk-word (Err e) text h some = tt
 
 pub IfOk-bytes : {A E : Type 0} (r : Result (Vec ℕ A) E) (text : List ℕ)
@@ -88,9 +89,9 @@ IfOk-bytes (Err e) text h = tt
 pub plain_word : (b : ℕ) → is_plain b ≡ true → word_byte b ≡ b ∷ []
 plain_word b p = rw p refl
 
-pub other_word : (b : ℕ) (digits : List ℕ) → b < 256 → is_plain b ≡ false → digits ≡ encode_lower (b ∷ [])
+pub other_word : (b : ℕ) {digits : List ℕ} → b < 256 → is_plain b ≡ false → digits ≡ encode_lower (b ∷ [])
     → word_byte b ≡ 92 ∷ get_or digits 0 0 ∷ get_or digits 1 0 ∷ []
-other_word b digits fits p e = rw p (ap (λ t. 92 ∷ t) (sym (encoded_byte b fits))) ∙ sym (other_text b digits e)
+other_word b {digits} fits p e = rw p (ap (λ t. 92 ∷ t) (sym (encoded_byte b fits))) ∙ sym (other_text b e)
 
 pub word_of_some : (bytes : List ℕ) → 0 < length bytes → flat_map word_byte bytes ≡ word bytes
 word_of_some [] some = absurd (omega arith)

@@ -13,7 +13,7 @@ Spelt words p = word p.0.items ∷ word p.1.items ∷ [] ≡ words
 abbrev Fit : {A : Type 0} → Vec ℕ A × Vec ℕ A → Type 0
 Fit p = AreBytes p.0.items × AreBytes p.1.items
 
-module _ (words : List (List ℕ)) (first second : List ℕ) (left : words ≡ first ∷ second ∷ []) where
+module _ (words : List (List ℕ)) {first second : List ℕ} (left : words ≡ first ∷ second ∷ []) where
   spelt : (a b : List ℕ) → word a ≡ first → word b ≡ second → word a ∷ word b ∷ [] ≡ words
   spelt a b one two = ap₂ (λ (x y : List ℕ). x ∷ y ∷ []) one two ∙ sym left
 
@@ -43,24 +43,24 @@ module _ (words : List (List ℕ)) (first second : List ℕ) (left : words ≡ f
     both_bytes (Err Memory) (Err Memory) r is one two = subst (λ z. IfOk z Fit) (sym is) tt
     both_bytes (Err Memory) (Ok y) r is one two = subst (λ z. IfOk z Fit) (sym is) tt
 
-    pub both_spelling : (a b : Result (Vec ℕ A) WordFault) (r : Result (Vec ℕ A × Vec ℕ A) WordFault) → IsBoth a b r → IsRead word first a
+    pub both_spelling : (a b : Result (Vec ℕ A) WordFault) {r : Result (Vec ℕ A × Vec ℕ A) WordFault} → IsBoth a b r → IsRead word first a
         → IsRead word second b
         → r ≡ Err Spelling → (x y : List ℕ) → AreBytes x → AreBytes y → word x ∷ word y ∷ [] ≢ words
-    both_spelling (Ok u) (Ok v) r is one two e x y fx fy = absurd (let no = sym is ∙ e in cc)
-    both_spelling (Ok u) (Err f) r is one two e x y fx fy = not_second x y (two.spelling (let same = sym is ∙ e in cc) y fy)
-    both_spelling (Err Spelling) b r is one two e x y fx fy = not_first x y (one.spelling refl x fx)
-    both_spelling (Err Memory) (Err Spelling) r is one two e x y fx fy = not_second x y (two.spelling refl y fy)
-    both_spelling (Err Memory) (Err Memory) r is one two e x y fx fy = absurd (let no = sym is ∙ e in cc)
-    both_spelling (Err Memory) (Ok v) r is one two e x y fx fy = absurd (let no = sym is ∙ e in cc)
+    both_spelling (Ok u) (Ok v) is one two e x y fx fy = absurd (let no = sym is ∙ e in cc)
+    both_spelling (Ok u) (Err f) is one two e x y fx fy = not_second x y (two.spelling (let same = sym is ∙ e in cc) y fy)
+    both_spelling (Err Spelling) b is one two e x y fx fy = not_first x y (one.spelling refl x fx)
+    both_spelling (Err Memory) (Err Spelling) is one two e x y fx fy = not_second x y (two.spelling refl y fy)
+    both_spelling (Err Memory) (Err Memory) is one two e x y fx fy = absurd (let no = sym is ∙ e in cc)
+    both_spelling (Err Memory) (Ok v) is one two e x y fx fy = absurd (let no = sym is ∙ e in cc)
 
-    pub both_memory : (a b : Result (Vec ℕ A) WordFault) (r : Result (Vec ℕ A × Vec ℕ A) WordFault) → IsBoth a b r → IsRead word first a
+    pub both_memory : (a b : Result (Vec ℕ A) WordFault) {r : Result (Vec ℕ A × Vec ℕ A) WordFault} → IsBoth a b r → IsRead word first a
         → IsRead word second b
         → r ≡ Err Memory → (x : List ℕ) × (y : List ℕ) × AreBytes x × AreBytes y × (word x ∷ word y ∷ [] ≡ words)
-    both_memory (Ok u) (Ok v) r is one two e = absurd (let no = sym is ∙ e in cc)
-    both_memory (Ok u) (Err f) r is one two e = let found = two.memory (let same = sym is ∙ e in cc) in
+    both_memory (Ok u) (Ok v) is one two e = absurd (let no = sym is ∙ e in cc)
+    both_memory (Ok u) (Err f) is one two e = let found = two.memory (let same = sym is ∙ e in cc) in
         (u.items, found.0, one.bytes, found.1, spelt u.items found.0 one.ok found.2)
-    both_memory (Err Spelling) b r is one two e = absurd (let no = sym is ∙ e in cc)
-    both_memory (Err Memory) (Err Spelling) r is one two e = absurd (let no = sym is ∙ e in cc)
-    both_memory (Err Memory) (Err Memory) r is one two e = let a = one.memory refl in let b = two.memory refl in
+    both_memory (Err Spelling) b is one two e = absurd (let no = sym is ∙ e in cc)
+    both_memory (Err Memory) (Err Spelling) is one two e = absurd (let no = sym is ∙ e in cc)
+    both_memory (Err Memory) (Err Memory) is one two e = let a = one.memory refl in let b = two.memory refl in
         (a.0, b.0, a.1, b.1, spelt a.0 b.0 a.2 b.2)
-    both_memory (Err Memory) (Ok v) r is one two e = let a = one.memory refl in (a.0, v.items, a.1, two.bytes, spelt a.0 v.items a.2 two.ok)
+    both_memory (Err Memory) (Ok v) is one two e = let a = one.memory refl in (a.0, v.items, a.1, two.bytes, spelt a.0 v.items a.2 two.ok)

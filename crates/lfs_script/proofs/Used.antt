@@ -26,47 +26,50 @@ use Rattle.lfs_script.specs.declared.script.StrictEnd.{StrictEnd}
 use Rattle.lfs_script.specs.declared.script.StrictEnd.TheVariants.{Refused}
 
 -- a mount, and then a run of a script
-pub used : {D : Type 0} (state : D → DeviceState) (d : D) (end : ScriptEnd) (r r' w w' : Option (List ℕ)) (v : Fs D) (new : Mounted D)
+pub used : {D : Type 0} {state : D → DeviceState} (d : D) {end : ScriptEnd} (r : Option (List ℕ)) {r' : Option (List ℕ)}
+    (w : Option (List ℕ)) {w' : Option (List ℕ)} (v : Fs D) (new : Mounted D)
     → IsLawful (state d) → FindsState state d v
     → ((state (seen v).log.device).keeps_model → Only (state d).content (state (seen v).log.device))
     → IsUntouched (state d) (state (seen v).log.device) → Carries (state d) (state (seen v).log.device)
     → LeavesOnly (state d) (state (seen v).log.device) (state d).may_leave → (state (seen v).log.device).failures ≡ (state d).failures
     → Ends state end r r' w w' (seen v) new → Session end r r' w w' (state d) (state new.log.device)
-used state d end r r' w w' v new lawful finds durable untouched carries moment no_failure ends = record {
+used {state} d r w v new lawful finds durable untouched carries moment no_failure ends = record {
   texts = ends.texts;
   script = ends.script;
   answers = ends.answers;
   spelled = ends.spelled;
   bytes = ends.bytes;
   uses = λ keeps.
-      uses_volume state d lawful v new ends.script ends.answers finds durable untouched carries moment no_failure ends.run keeps;
+      uses_volume d lawful v finds durable untouched carries moment no_failure ends.run keeps;
 }
 
 -- and a strict one
-pub used_strictly : {D : Type 0} (state : D → DeviceState) (d : D) (end : StrictEnd) (r r' w w' : Option (List ℕ)) (v : Fs D)
+pub used_strictly : {D : Type 0} {state : D → DeviceState} (d : D) {end : StrictEnd} (r : Option (List ℕ)) {r' : Option (List ℕ)}
+    (w : Option (List ℕ)) {w' : Option (List ℕ)} (v : Fs D)
     (new : Mounted D) → IsLawful (state d) → FindsState state d v
     → ((state (seen v).log.device).keeps_model → Only (state d).content (state (seen v).log.device))
     → IsUntouched (state d) (state (seen v).log.device) → Carries (state d) (state (seen v).log.device)
     → LeavesOnly (state d) (state (seen v).log.device) (state d).may_leave → (state (seen v).log.device).failures ≡ (state d).failures
     → EndsBy state true end r r' w w' (seen v) new → StrictSession end r r' w w' (state d) (state new.log.device)
-used_strictly state d end r r' w w' v new lawful finds durable untouched carries moment no_failure ends = record {
+used_strictly {state} d r w v new lawful finds durable untouched carries moment no_failure ends = record {
   texts = ends.texts;
   script = ends.script;
   answers = ends.answers;
   spelled = ends.spelled;
   bytes = ends.bytes;
   uses = λ keeps.
-      uses_volume state d lawful v new ends.script ends.answers finds durable untouched carries moment no_failure ends.run keeps;
+      uses_volume d lawful v finds durable untouched carries moment no_failure ends.run keeps;
 }
 
 -- and one before a witness
-pub used_told : {D : Type 0} (state : D → DeviceState) (d : D) (strict : Bool) (end : StrictEnd) (r r' w w' : Option (List ℕ)) (v : Fs D)
-    (new : Mounted D) (s s' : List Look) → IsLawful (state d) → FindsState state d v
+pub used_told : {D : Type 0} {state : D → DeviceState} (d : D) {strict : Bool} {end : StrictEnd} (r : Option (List ℕ))
+    {r' : Option (List ℕ)} (w : Option (List ℕ)) {w' : Option (List ℕ)} (v : Fs D)
+    (new : Mounted D) (s : List Look) {s' : List Look} → IsLawful (state d) → FindsState state d v
     → ((state (seen v).log.device).keeps_model → Only (state d).content (state (seen v).log.device))
     → IsUntouched (state d) (state (seen v).log.device) → Carries (state d) (state (seen v).log.device)
     → LeavesOnly (state d) (state (seen v).log.device) (state d).may_leave → (state (seen v).log.device).failures ≡ (state d).failures
     → EndsTold state strict end r r' w w' (seen v) new s s' → SessionTold strict end r r' w w' (state d) (state new.log.device) s s'
-used_told state d strict end r r' w w' v new s s' lawful finds durable untouched carries moment no_failure ends = record {
+used_told {state} d r w v new s lawful finds durable untouched carries moment no_failure ends = record {
   texts = ends.ends.texts;
   script = ends.ends.script;
   answers = ends.ends.answers;
@@ -74,8 +77,7 @@ used_told state d strict end r r' w w' v new s s' lawful finds durable untouched
   spelled = ends.ends.spelled;
   bytes = ends.ends.bytes;
   looked = ends.looked;
-  uses = λ keeps. uses_told state d lawful v new ends.ends.script ends.ends.answers finds durable untouched carries moment no_failure
-      ends.clocks ends.told keeps;
+  uses = λ keeps. uses_told d lawful v finds durable untouched carries moment no_failure ends.told keeps;
 }
 
 -- where it isn't strict, no refusal ends it
@@ -91,11 +93,11 @@ pub told_of : (strict : Bool) (end is : StrictEnd) (r r' w w' : Option (List ℕ
 told_of strict end is r r' w w' d d' s s' same session = subst (λ (e : StrictEnd). SessionTold strict e r r' w w' d d' s s') same session
 
 -- what is said of what a result holds
-pub ok_of : {A E : Type 0} (P : A → Type 0) (r : Result A E) (x : A) → r ≡ Ok x → IfOk r P → P x
-ok_of {A} {E} P r x is has = subst (λ (q : Result A E). IfOk q P) is has
+pub ok_of : {A E : Type 0} (P : A → Type 0) {r : Result A E} {x : A} → r ≡ Ok x → IfOk r P → P x
+ok_of {A} {E} P is has = subst (λ (q : Result A E). IfOk q P) is has
 
-pub err_of : {A E : Type 0} (P : E → Type 0) (r : Result A E) (e : E) → r ≡ Err e → IfErr r P → P e
-err_of {A} {E} P r e is has = subst (λ (q : Result A E). IfErr q P) is has
+pub err_of : {A E : Type 0} (P : E → Type 0) {r : Result A E} {e : E} → r ≡ Err e → IfErr r P → P e
+err_of {A} {E} P is has = subst (λ (q : Result A E). IfErr q P) is has
 
 -- and what follows from it
 pub ok_more : {A E : Type 0} (P Q : A → Type 0) (r : Result A E) → ((x : A) → P x → Q x) → IfOk r P → IfOk r Q
@@ -107,7 +109,7 @@ err_more P Q (Ok x) more has = tt
 err_more P Q (Err e) more has = more e has
 
 -- A stop, which leaves one of the contents that might be left.
-module _ (mid new : DeviceState) (counts : (t : ℕ) (c : Content) → t ≤ mid.moment → mid.may_leave c → mid.left_since t c)
+module _ {mid new : DeviceState} (counts : (t : ℕ) (c : Content) → t ≤ mid.moment → mid.may_leave c → mid.left_since t c)
     (carries : Carries mid new) (time : Elapses mid new)
     (same : new.failures ≡ mid.failures) (only : Only new.content new) (chosen : mid.may_leave new.content) where
   pub was_left : (c : Content) → new.may_leave c → mid.may_leave c
@@ -115,11 +117,11 @@ module _ (mid new : DeviceState) (counts : (t : ℕ) (c : Content) → t ≤ mid
 
   pub stop_leaves : (d : DeviceState) (P : Content → Type 0) → LeavesOnly d mid P → LeavesOnly d new P
   stop_leaves d P leaves =
-      goes_on d mid new P leaves carries time (λ c left. leaves.each c (counts d.moment c leaves.later (was_left c left)))
+      goes_on P leaves carries time (λ c left. leaves.each c (counts d.moment c leaves.later (was_left c left)))
 
-  stopped_use : (d : DeviceState) (lines : List Line) (answers : List Answer) → UsesVolume d mid lines answers
+  stopped_use : (d : DeviceState) {lines : List Line} {answers : List Answer} → UsesVolume d mid lines answers
       → UsesVolume d new lines answers
-  stopped_use d lines answers uses = record {
+  stopped_use d uses = record {
     first = uses.first;
     points = uses.points;
     segments = uses.segments;
@@ -139,30 +141,32 @@ module _ (mid new : DeviceState) (counts : (t : ℕ) (c : Content) → t ≤ mid
         record { began = more.began; moments = stop_leaves d _ more.moments });
   }
 
-  pub stopped : (d : DeviceState) (end : ScriptEnd) (r r' w w' : Option (List ℕ)) → Session end r r' w w' d mid
+  pub stopped : {d : DeviceState} {end : ScriptEnd} (r : Option (List ℕ)) {r' : Option (List ℕ)} (w : Option (List ℕ))
+      {w' : Option (List ℕ)} → Session end r r' w w' d mid
       → Session end r r' w w' d new
-  stopped d end r r' w w' session = record {
+  stopped {d} r w session = record {
     texts = session.texts;
     script = session.script;
     answers = session.answers;
     spelled = session.spelled;
     bytes = session.bytes;
-    uses = λ keeps. stopped_use d session.script session.answers (session.uses (carries.kept_before keeps));
+    uses = λ keeps. stopped_use d (session.uses (carries.kept_before keeps));
   }
 
   -- what was told is kept over the stop
-  kept_over : (points : List Point) (calls : List Call) (answers : List Answer) (clocks : List ℕ)
+  kept_over : {points : List Point} {calls : List Call} {answers : List Answer} {clocks : List ℕ}
       → AreKeptSince mid points calls answers clocks → AreKeptSince new points calls answers clocks
-  kept_over points calls answers clocks kept = record {
+  kept_over kept = record {
     past = λ i t is. (let was = kept.past i t is in let later = carries.later in omega (arith, was, later));
     since = λ i t is c left. kept.since i t is c
         (⊎_elim (λ was. was) (λ now. counts t c (kept.past i t is) (was_left c now)) (time t c (kept.past i t is) left));
   }
 
-  pub stopped_told : (d : DeviceState) (strict : Bool) (end : StrictEnd) (r r' w w' : Option (List ℕ)) (s s' : List Look)
+  pub stopped_told : {d : DeviceState} {strict : Bool} {end : StrictEnd} (r : Option (List ℕ)) {r' : Option (List ℕ)} (w : Option (List ℕ))
+      {w' : Option (List ℕ)} (s : List Look) {s' : List Look}
       → SessionTold strict end r r' w w' d mid s s' → SessionTold strict end r r' w w' d new s s'
   unfolding stopped_use
-  stopped_told d strict end r r' w w' s s' session = record {
+  stopped_told {d} r w s session = record {
     texts = session.texts;
     script = session.script;
     answers = session.answers;
@@ -172,8 +176,8 @@ module _ (mid new : DeviceState) (counts : (t : ℕ) (c : Content) → t ≤ mid
     looked = session.looked;
     uses = λ keeps. (
         let was = session.uses (carries.kept_before keeps) in record {
-          uses = stopped_use d session.script session.answers was.uses;
-          since = kept_over (was.uses.first ∷ was.uses.points) (map call_of session.script) session.answers session.clocks was.since;
+          uses = stopped_use d was.uses;
+          since = kept_over was.since;
         });
   }
 
@@ -192,9 +196,9 @@ module _ (mid new : DeviceState) (counts : (t : ℕ) (c : Content) → t ≤ mid
   still_faulty d NoCheckpoint told = λ s keeps stands. told s (carries.kept_before keeps) stands
   still_faulty d (Damaged code) told = λ s keeps stands. told s (carries.kept_before keeps) stands
 
-  pub still_unused : {R W : Type 0} (d : DeviceState) (fault : MountFault) (r r' : R) (w w' : W) → IsUnused r r' w w' d mid fault
+  pub still_unused : {R W : Type 0} {d : DeviceState} {fault : MountFault} {r r' : R} {w w' : W} → IsUnused r r' w w' d mid fault
       → IsUnused r r' w w' d new fault
-  still_unused d fault r r' w w' unused = record {
+  still_unused {d} {fault} unused = record {
     cause = λ other. still_faulty d fault (unused.cause other);
     reason = still_refused d fault unused.reason;
     left = λ c left. unused.left c (was_left c left);

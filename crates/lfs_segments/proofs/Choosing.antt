@@ -31,9 +31,9 @@ module _ (t : UsageTable) (p : Preference) (last : Option Candidate) where
   IsBehindOf (Some c) = IsBehind t p last c.segment
 
   -- a segment takes its place, where it comes before
-  pub leads_on : (next : Option Candidate) (c : Candidate) → Leads t p last c.segment next → IsCandidate t c → IsBehind t p last c.segment
+  pub leads_on : (next : Option Candidate) {c : Candidate} → Leads t p last c.segment next → IsCandidate t c → IsBehind t p last c.segment
       → IsAhead t p next c.segment → Leads t p last (suc c.segment) (Some c)
-  leads_on next c is there behind ahead = record {
+  leads_on next {c} is there behind ahead = record {
     least = λ i low used after. ⊎_elim
         (λ (before : i < c.segment). on_reaches next c i ahead (is.least i before used after))
         (λ (here : c.segment ≤ i). inl (omega (arith, here, low)))
@@ -70,10 +70,10 @@ module _ (t : UsageTable) (p : Preference) where
       (end.1 s is)
 
   -- and what isn't chosen comes behind it
-  behind_out : (last : Option Candidate) (xs : List ℕ) (s : ℕ) → IsEnd t p last xs → AreFirst t R xs → MayBeVictim t s → (IsIn xs s → ⊥)
+  behind_out : (last : Option Candidate) {xs : List ℕ} (s : ℕ) → IsEnd t p last xs → AreFirst t R xs → MayBeVictim t s → (IsIn xs s → ⊥)
       → IsBehind t p last s
-  behind_out None xs s end first used out = tt
-  behind_out (Some c) xs s end first used out = first.others c.segment s end.0 used out
+  behind_out None s end first used out = tt
+  behind_out (Some c) s end first used out = first.others c.segment s end.0 used out
 
   module _ (last : Option Candidate) (xs : List ℕ) (c : Candidate) (was : Picked t p last xs)
       (leads : Leads t p last (length t.segments) (Some c)) where
@@ -94,7 +94,7 @@ module _ (t : UsageTable) (p : Preference) where
     before_others s there out = ⊎_elim
         (λ (here : c.segment ≡ s). absurd (out (subst (λ (z : ℕ). IsIn (xs ++ c.segment ∷ []) z) here (last_in xs c.segment))))
         (λ (later : R c.segment s). later)
-        (leads.least s there.0 there (behind_out last xs s was.end was.first there (λ is. out (was_in xs c.segment s is))))
+        (leads.least s there.0 there (behind_out last s was.end was.first there (λ is. out (was_in xs c.segment s is))))
 
     -- The next one is chosen too.
     pub picked_next : Picked t p (Some c) (xs ++ c.segment ∷ [])
@@ -120,12 +120,11 @@ module _ (t : UsageTable) (p : Preference) where
     }
 
   -- where no candidate is left, each segment that may be cleaned is chosen
-  pub none_left : (last : Option Candidate) (xs : List ℕ) → Picked t p last xs → Leads t p last (length t.segments) None → (s : ℕ)
+  pub none_left : {last : Option Candidate} (xs : List ℕ) → Picked t p last xs → Leads t p last (length t.segments) None → (s : ℕ)
       → MayBeVictim t s → IsIn xs s
-  none_left last xs was leads s there = ⊎_elim
+  none_left {last} xs was leads s there = ⊎_elim
       (λ (is : IsIn xs s). is)
-      (λ (out : IsIn xs s → ⊥). absurd (leads.least s there.0 there (behind_out last xs s was.end was.first there out)))
-      (in_or_out xs s)
+      (λ (out : IsIn xs s → ⊥). absurd (leads.least s there.0 there (behind_out last s was.end was.first there out))) (in_or_out xs s)
 
 -- a list with one more is longer by one
 pub length_pushed : (xs : List ℕ) (x : ℕ) → length (xs ++ x ∷ []) ≡ length xs + 1

@@ -65,8 +65,8 @@ pub taken_change : (segments : List SegmentNumbers) (s : ℕ) (x : SegmentNumber
 unfolding taken_in
 taken_change segments s x lt = sum_change taken_of segments s x lt
 
-early_most : (n : SegmentNumbers) → FitsSegment n → early_of n ≤ 64
-early_most n fits = by_kept (n.kept == 0)
+early_most : {n : SegmentNumbers} → FitsSegment n → early_of n ≤ 64
+early_most {n} fits = by_kept (n.kept == 0)
   where
     by_kept : (b : Bool) → cond b (n.live + n.held) 0 ≤ 64
     by_kept true = let fewer = fits.fewer in let used = fits.used in omega (arith, fewer, used)
@@ -75,7 +75,7 @@ early_most n fits = by_kept (n.kept == 0)
 pub early_total : (segments : List SegmentNumbers) → ((s : ℕ) → FitsSegment (get_or segments s no_segment))
     → early_in segments ≤ 64 * length segments
 unfolding early_in
-early_total segments each = sum_most early_of 64 segments (λ s. early_most (get_or segments s no_segment) (each s))
+early_total segments each = sum_most early_of 64 segments (λ s. early_most (each s))
 
 pub taken_total : (segments : List SegmentNumbers) → ((s : ℕ) → FitsSegment (get_or segments s no_segment))
     → taken_in segments ≤ 64 * length segments
@@ -101,20 +101,20 @@ unfolding taken_in
 taken_has segments s lt = sum_has taken_of segments s lt
 
 -- The totals, as each loses the term of a segment and gains that of its new numbers.
-pub totals_change : (segments : List SegmentNumbers) (s : ℕ) (x : SegmentNumbers) (clean early taken clean' early' taken' : ℕ)
+pub totals_change : {segments : List SegmentNumbers} (s : ℕ) (x : SegmentNumbers) {clean early : ℕ} (taken clean' early' taken' : ℕ)
     → s < length segments → AreTotals segments clean early taken
     → clean' + cond ((get_or segments s no_segment).used == 0) 1 0 ≡ clean + cond (x.used == 0) 1 0
     → early' + early_of (get_or segments s no_segment) ≡ early + early_of x
     → taken' + taken_of (get_or segments s no_segment) ≡ taken + taken_of x
     → AreTotals (slice_set segments s x) clean' early' taken'
-totals_change segments s x clean early taken clean' early' taken' lt totals cleans earlies takens = record {
+totals_change {segments} s x taken clean' early' taken' lt totals cleans earlies takens = record {
   clean_ones = let change = clean_change segments s x lt in let is = totals.clean_ones in omega (arith, change, is, cleans);
   early_ones = let change = early_change segments s x lt in let is = totals.early_ones in omega (arith, change, is, earlies);
   taken_ones = let change = taken_change segments s x lt in let is = totals.taken_ones in omega (arith, change, is, takens);
 }
 
-pub totals_new : (segments : List SegmentNumbers) (n : ℕ) → segments ≡ replicate n no_segment → AreTotals segments n 0 0
-totals_new segments n is = record {
+pub totals_new : {segments : List SegmentNumbers} (n : ℕ) → segments ≡ replicate n no_segment → AreTotals segments n 0 0
+totals_new n is = record {
   clean_ones = sym (ap clean_in is ∙ all_clean n);
   early_ones = sym (ap early_in is ∙ none_early n);
   taken_ones = sym (ap taken_in is ∙ none_taken n);
@@ -128,9 +128,9 @@ sum_zero f (n ∷ rest) past none zero = omega (arith, none, sum_by-cons f n res
 sum_zero f (n ∷ rest) past none (suc s) = sum_zero f rest past (omega (arith, none, sum_by-cons f n rest)) s
 
 -- no sector is counted as taken: none was
-pub untaken_of : (t : UsageTable) → FitsTable t → taken_in t.segments ≡ 0 → AreUntaken t
+pub untaken_of : {t : UsageTable} → FitsTable t → taken_in t.segments ≡ 0 → AreUntaken t
 unfolding taken_in
-untaken_of t fits none s =
+untaken_of {t} fits none s =
     let rest = sum_zero taken_of t.segments refl none s in
     let kept = (fits.each s).kept in
     omega (arith, rest, kept)
@@ -154,10 +154,10 @@ sum_moved f (a ∷ old) (b ∷ new) (suc s) size lt same =
     omega (arith, rest, first, sum_by-cons f a old, sum_by-cons f b new)
 
 -- A block that is noted in a segment of which nothing is kept is early.
-pub early_noted : (old new : UsageTable) (s : ℕ) (lives : Bool) → s < length old.segments → kept_of old s ≡ 0 → Notes old new s lives
+pub early_noted : {old new : UsageTable} {s : ℕ} (lives : Bool) → s < length old.segments → kept_of old s ≡ 0 → Notes old new s lives
     → early_in new.segments ≡ early_in old.segments + 1
 unfolding early_in
-early_noted old new s lives lt kept notes =
+early_noted {old} {new} {s} lives lt kept notes =
     let moved = sum_moved early_of old.segments new.segments s notes.size lt away in
     let before : early_of (get_or old.segments s no_segment) ≡ live_of old s + held_of old s =
     ap {B = ℕ} (λ (b : Bool). cond {A = ℕ} b (live_of old s + held_of old s) 0) (eq-eqb (kept_of old s) 0 kept) in
@@ -183,5 +183,5 @@ early_same old new size live held kept = sum_same early_of old.segments new.segm
     each : (i : ℕ) → early_of (get_or new.segments i no_segment) ≡ early_of (get_or old.segments i no_segment)
     each i = search (rules, live i, held i, kept i)
 
-pub early_taken : (old new : UsageTable) (s number : ℕ) → TakesSegment old new s number → early_in new.segments ≡ early_in old.segments
-early_taken old new s number takes = early_same old new takes.size takes.live takes.held takes.kept
+pub early_taken : {old new : UsageTable} {s number : ℕ} → TakesSegment old new s number → early_in new.segments ≡ early_in old.segments
+early_taken {old} {new} takes = early_same old new takes.size takes.live takes.held takes.kept

@@ -61,14 +61,13 @@ count_less p q (suc n) less =
     either false b h = omega arith
 
 -- so many distinct ones that didn't pass pass now
-pub count_gained : (vs : List ℕ) (p q : ℕ → Bool) (n : ℕ) → AreApart vs → AllByRecursion (λ s. s < n) vs
+pub count_gained : (vs : List ℕ) {p q : ℕ → Bool} (n : ℕ) → AreApart vs → AllByRecursion (λ s. s < n) vs
     → AllByRecursion (λ s. (p s ≡ false) × (q s ≡ true)) vs → ((s : ℕ) → s < n → p s ≡ true → q s ≡ true)
     → count_up p n + length vs ≤ count_up q n
-count_gained [] p q n apart low change less = let l = count_less p q n less in omega (arith, l)
-count_gained (v ∷ vs) p q n apart low change less =
+count_gained [] {p} {q} n apart low change less = let l = count_less p q n less in omega (arith, l)
+count_gained (v ∷ vs) {p} {q} n apart low change less =
     let more = one_more p v n low.0 change.0.0 in
-    let rest = count_gained vs (with_one p v) q n apart.1 low.1
-    (still vs (λ s is e. apart.0 (subst (IsIn vs) e is)) change.1)
+    let rest = count_gained vs {p = with_one p v} {q = q} n apart.1 low.1 (still vs (λ s is e. apart.0 (subst (IsIn vs) e is)) change.1)
     (λ s lt on. ⊎_elim
     (λ (here : s ≡ v). ap q here ∙ change.0.1)
     (λ (away : s ≡ v → ⊥). less s lt (sym (other_one p v s away) ∙ on))
@@ -86,7 +85,7 @@ pub emptied_gained : (t t' : UsageTable) → Releases t t' → (vs : List ℕ) �
     → clean_in t.segments + length vs ≤ clean_in t'.segments
 unfolding clean_in
 emptied_gained t t' release vs apart low emptied =
-    let c = count_gained vs (is_clean_in t.segments) (is_clean_in t'.segments) (length t.segments) apart low (each vs emptied) kept in
+    let c = count_gained vs (length t.segments) apart low (each vs emptied) kept in
     let size = ap (count_up (is_clean_in t'.segments)) release.size in
     omega (arith, c, size)
   where

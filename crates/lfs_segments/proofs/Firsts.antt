@@ -138,8 +138,8 @@ module _ (R : ℕ → ℕ → Type 0) where
 
 -- ---- the first ones of those that may be cleaned
 module _ (t : UsageTable) (R : ℕ → ℕ → Type 0) where
-  pub beginning_first : (xs ys : List ℕ) → AreFirst t R (xs ++ ys) → AreFirst t R xs
-  beginning_first xs ys first = record {
+  pub beginning_first : {xs : List ℕ} (ys : List ℕ) → AreFirst t R (xs ++ ys) → AreFirst t R xs
+  beginning_first {xs} ys first = record {
     ordered = pairs_left R xs ys first.ordered;
     others = λ v s is used out. ⊎_elim
         (λ (later : IsIn ys s). pairs_across R xs ys first.ordered v s is later)
@@ -147,8 +147,8 @@ module _ (t : UsageTable) (R : ℕ → ℕ → Type 0) where
         (in_or_out ys s);
   }
 
-  pub taken_first : (xs : List ℕ) (k : ℕ) → AreFirst t R xs → AreFirst t R (take k xs)
-  taken_first xs k first = beginning_first (take k xs) (drop k xs) (subst (AreFirst t R) (sym (take-append-drop k xs)) first)
+  pub taken_first : {xs : List ℕ} (k : ℕ) → AreFirst t R xs → AreFirst t R (take k xs)
+  taken_first {xs} k first = beginning_first (drop k xs) (subst (AreFirst t R) (sym (take-append-drop k xs)) first)
 
   pub taken_each : (xs : List ℕ) (k : ℕ) → AllByRecursion (MayBeVictim t) xs → AllByRecursion (MayBeVictim t) (take k xs)
   taken_each xs k each =

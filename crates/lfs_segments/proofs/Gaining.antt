@@ -39,7 +39,7 @@ pub record Tried (t : UsageTable) (meta : ℕ) (xs : List ℕ) (best count : ℕ
   pub low : best < wanted_gain t
 
 -- those of a list with one more: those of the list, and itself
-module _ (t : UsageTable) (meta : ℕ) (xs : List ℕ) (x best count : ℕ) (was : Tried t meta xs best count) where
+module _ (t : UsageTable) {meta : ℕ} (xs : List ℕ) (x : ℕ) {best count : ℕ} (was : Tried t meta xs best count) where
   same_gain : (k : ℕ) → k ≤ length xs → gain_of t meta (take k (xs ++ x ∷ [])) ≡ gain_of t meta (take k xs)
   same_gain k le = ap (gain_of t meta) (take-append-le k xs (x ∷ []) le)
 
@@ -75,84 +75,83 @@ module _ (t : UsageTable) (meta : ℕ) (xs : List ℕ) (x best count : ℕ) (was
   }
 
   -- with the numbers that a step has for them
-  pub tried_next_more : (best' count' : ℕ) → best' ≡ gain_of t meta (xs ++ x ∷ []) → count' ≡ length xs + 1 → best < best'
+  pub tried_next_more : {best' : ℕ} (count' : ℕ) → best' ≡ gain_of t meta (xs ++ x ∷ []) → count' ≡ length xs + 1 → best < best'
       → best' < wanted_gain t → Tried t meta (xs ++ x ∷ []) best' count'
-  tried_next_more best' count' gain longer more small =
+  tried_next_more {best'} count' gain longer more small =
       subst (λ (n : ℕ). Tried t meta (xs ++ x ∷ []) best' n) (sym longer)
       (subst (λ (n : ℕ). Tried t meta (xs ++ x ∷ []) n (length xs + 1)) (sym gain)
       (tried_more (omega (arith, gain, more)) (omega (arith, gain, small))))
 
-  pub tried_next_still : (best' count' gain : ℕ) → best' ≡ best → count' ≡ count → gain ≡ gain_of t meta (xs ++ x ∷ []) → gain ≤ best
+  pub tried_next_still : {best' count' gain : ℕ} → best' ≡ best → count' ≡ count → gain ≡ gain_of t meta (xs ++ x ∷ []) → gain ≤ best
       → Tried t meta (xs ++ x ∷ []) best' count'
-  tried_next_still best' count' gain same as_many is less =
+  tried_next_still {best'} same as_many is less =
       subst (λ (n : ℕ). Tried t meta (xs ++ x ∷ []) best' n) (sym as_many)
       (subst (λ (n : ℕ). Tried t meta (xs ++ x ∷ []) n count) (sym same) (tried_still (omega (arith, is, less))))
 
 -- what a list with one more gains
-pub gain_pushed : (t : UsageTable) (meta : ℕ) (xs : List ℕ) (x blocks load others gain : ℕ) → blocks ≡ sum_by (load_of t) xs
+pub gain_pushed : (t : UsageTable) (meta : ℕ) (xs : List ℕ) (x : ℕ) {blocks load others gain : ℕ} → blocks ≡ sum_by (load_of t) xs
     → load ≡ load_of t x → length xs ≡ others
     → gain ≡ others + 1 - (blocks + load + meta + 48 + 62) / 63 → gain ≡ gain_of t meta (xs ++ x ∷ [])
-gain_pushed t meta xs x blocks load others gain sum own long is =
+gain_pushed t meta xs x sum own long is =
     let p = sum_by_push (load_of t) xs x in
     let l = length_pushed xs x in
     omega (arith, sum, own, long, is, p, l)
 
 -- ---- victims
 -- what gains is a list of victims
-pub gains_some : (t : UsageTable) (meta most : ℕ) (xs : List ℕ) → length xs ≤ most → AreApart xs → AllByRecursion (MayBeVictim t) xs
+pub gains_some : {t : UsageTable} {meta most : ℕ} {xs : List ℕ} → length xs ≤ most → AreApart xs → AllByRecursion (MayBeVictim t) xs
     → 0 < gain_of t meta xs → AreVictims t meta most xs
-gains_some t meta most xs few apart each some = record { few = few; apart = apart; each = each; gain = omega (arith, some) }
+gains_some few apart each some = record { few = few; apart = apart; each = each; gain = omega (arith, some) }
 
 -- and such a list gains
-pub victims_gain : (t : UsageTable) (meta most : ℕ) (ws : List ℕ) → AreVictims t meta most ws → 0 < gain_of t meta ws
-victims_gain t meta most ws are = let g = are.gain in omega (arith, g)
+pub victims_gain : (t : UsageTable) {meta most : ℕ} {ws : List ℕ} → AreVictims t meta most ws → 0 < gain_of t meta ws
+victims_gain t are = let g = are.gain in omega (arith, g)
 
-module _ (t : UsageTable) (meta most : ℕ) (p : Preference) (xs : List ℕ) (first : AreFirst t (Precedes t p) xs)
+module _ {t : UsageTable} (meta most : ℕ) (p : Preference) {xs : List ℕ} (first : AreFirst t (Precedes t p) xs)
     (each : AllByRecursion (MayBeVictim t) xs) (apart : AreApart xs) where
   abbrev R : ℕ → ℕ → Type 0
   R = Precedes t p
 
   -- other first ones are a beginning of these
-  pub gain_there : (ws : List ℕ) → AreVictims t meta most ws → AreFirst t R ws → length ws ≤ length xs
+  pub gain_there : {ws : List ℕ} → AreVictims t meta most ws → AreFirst t R ws → length ws ≤ length xs
       → gain_of t meta ws ≡ gain_of t meta (take (length ws) xs)
-  gain_there ws are other few = ap (gain_of t meta) (same_beginning t R (is_order t p) xs ws first other each are.each few)
+  gain_there {ws} are other few = ap (gain_of t meta) (same_beginning t R (is_order t p) xs ws first other each are.each few)
 
   -- as many as there are or may be taken: no list of victims is longer
-  pub not_longer : (length xs ≡ most) ⊎ ((s : ℕ) → MayBeVictim t s → IsIn xs s) → (ws : List ℕ) → AreVictims t meta most ws
+  pub not_longer : (length xs ≡ most) ⊎ ((s : ℕ) → MayBeVictim t s → IsIn xs s) → {ws : List ℕ} → AreVictims t meta most ws
       → length ws ≤ length xs
-  not_longer ended ws are = ⊎_elim
+  not_longer ended {ws} are = ⊎_elim
       (λ (full : length xs ≡ most). let f = are.few in omega (arith, full, f))
       (λ (all : (s : ℕ) → MayBeVictim t s → IsIn xs s). fewer xs ws are.apart (λ y is. all y (all_in (MayBeVictim t) ws are.each y is)))
       ended
 
   -- The one that is chosen at the end gains most.
-  pub choice_at_end : (best count : ℕ) → Tried t meta xs best count → length xs ≤ most
+  pub choice_at_end : {best count : ℕ} → Tried t meta xs best count → length xs ≤ most
       → (length xs ≡ most) ⊎ ((s : ℕ) → MayBeVictim t s → IsIn xs s) → 0 < count → IsChoice t meta most R (take count xs)
-  choice_at_end best count tried few ended some =
+  choice_at_end {best} {count} tried few ended some =
       let gains = tried.gains in
       let low = tried.low in
       let inside = tried.inside in
       let long = length-take-le count xs inside in
       record {
-        victims = gains_some t meta most (take count xs) (omega (arith, long, inside, few)) (taken_apart t R xs count apart)
-            (taken_each t R xs count each)
+        victims = gains_some (omega (arith, long, inside, few)) (taken_apart t R xs count apart) (taken_each t R xs count each)
             (let z = tried.fewer 0 some in omega (arith, z, gains));
-        first = taken_first t R xs count first;
+        first = taken_first t R count first;
         best = λ ws are other.
-            let le = not_longer ended ws are in
-            let g = gain_there ws are other le in
+            let le = not_longer ended are in
+            let g = gain_there are other le in
             let a = tried.all (length ws) le in
             omega (arith, g, a, gains);
         fewest = λ ws are other short.
-            let g = gain_there ws are other (omega (arith, short, long, inside)) in
+            let g = gain_there are other (omega (arith, short, long, inside)) in
             let f = tried.fewer (length ws) (omega (arith, short, long)) in
             omega (arith, g, f, gains, low);
       }
 
   -- Where none gains, no first ones are victims.
-  pub exhausts : FitsTable t → (best count : ℕ) → Tried t meta xs best count → length xs ≤ most
+  pub exhausts : FitsTable t → {best count : ℕ} → Tried t meta xs best count → length xs ≤ most
       → (length xs ≡ most) ⊎ ((s : ℕ) → MayBeVictim t s → IsIn xs s) → count ≡ 0 → Exhausts t meta most p
-  exhausts table best count tried few ended none = record {
+  exhausts table tried few ended none = record {
     table = table;
     all = xs;
     first = first;
@@ -168,30 +167,31 @@ module _ (t : UsageTable) (meta most : ℕ) (p : Preference) (xs : List ℕ) (fi
   }
 
 -- The first one that gains as many as are wanted is the choice.
-pub choice_at_once : (t : UsageTable) (meta most : ℕ) (p : Preference) (xs : List ℕ) (x best count : ℕ) → Tried t meta xs best count
+pub choice_at_once : (t : UsageTable) {meta : ℕ} (most : ℕ) (p : Preference) (xs : List ℕ) (x : ℕ) {best count : ℕ}
+    → Tried t meta xs best count
     → AreFirst t (Precedes t p) (xs ++ x ∷ []) → AllByRecursion (MayBeVictim t) (xs ++ x ∷ []) → AreApart (xs ++ x ∷ [])
     → length xs < most → wanted_gain t ≤ gain_of t meta (xs ++ x ∷ []) → IsChoice t meta most (Precedes t p) (xs ++ x ∷ [])
-choice_at_once t meta most p xs x best count tried first each apart few enough =
+choice_at_once t {meta} most p xs x {best} tried first each apart few enough =
     let low = tried.low in
     let long = length_pushed xs x in
     record {
-      victims = gains_some t meta most (xs ++ x ∷ []) (omega (arith, few, long)) apart each (omega (arith, enough, low));
+      victims = gains_some (omega (arith, few, long)) apart each (omega (arith, enough, low));
       first = first;
       best = λ ws are other. omega (arith, enough);
       fewest = λ ws are other short.
           let le : length ws ≤ length xs = omega (arith, short, long) in
-          let g = gain_there t meta most p (xs ++ x ∷ []) first each apart ws are other (omega (arith, short)) in
+          let g = gain_there meta most p first each apart are other (omega (arith, short)) in
           let s = ap (gain_of t meta) (take-append-le (length ws) xs (x ∷ []) le) in
           let a = tried.all (length ws) le in
           omega (arith, g, s, a, low, enough);
     }
 
 -- So no first ones of an order of which no beginning gains are victims.
-pub no_choice : (t : UsageTable) (meta most : ℕ) (p : Preference) → Exhausts t meta most p → (ws : List ℕ) → AreVictims t meta most ws
+pub no_choice : {t : UsageTable} {meta most : ℕ} {p : Preference} → Exhausts t meta most p → (ws : List ℕ) → AreVictims t meta most ws
     → AreFirst t (Precedes t p) ws → ⊥
-no_choice t meta most p is ws are other =
-    let le = not_longer t meta most p is.all is.first is.each is.apart is.ended ws are in
-    let g = gain_there t meta most p is.all is.first is.each is.apart ws are other le in
+no_choice {t} {meta} {most} {p} is ws are other =
+    let le = not_longer meta most p is.first is.each is.apart is.ended are in
+    let g = gain_there meta most p is.first is.each is.apart are other le in
     let l = is.lacks (length ws) le in
-    let v = victims_gain t meta most ws are in
+    let v = victims_gain t are in
     omega (arith, g, l, v)

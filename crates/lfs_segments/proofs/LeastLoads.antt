@@ -44,9 +44,9 @@ greatest_in f [] some = absurd (omega (arith, some))
 greatest_in f (x ∷ xs) some = greatest f x xs
 
 -- a segment with fewer blocks than one that is chosen is chosen
-pub least_in : (t : UsageTable) (xs : List ℕ) → AreFirst t (ComesBefore t) xs → (v : ℕ) → IsIn xs v → (s : ℕ) → MayBeVictim t s
+pub least_in : (t : UsageTable) {xs : List ℕ} → AreFirst t (ComesBefore t) xs → (v : ℕ) → IsIn xs v → (s : ℕ) → MayBeVictim t s
     → load_of t s < load_of t v → IsIn xs s
-least_in t xs first v is s there less = ⊎_elim
+least_in t {xs} first v is s there less = ⊎_elim
     (λ (chosen : IsIn xs s). chosen)
     (λ (out : IsIn xs s → ⊥). absurd (⊎_elim
     (λ (fewer : load_of t v < load_of t s). omega (arith, fewer, less))
@@ -61,14 +61,14 @@ least_blocks t [] vs first apart each same = omega arith
 least_blocks t (x ∷ xs) vs first apart each same =
     let top = greatest (load_of t) x xs in
     least_sum (load_of t top.0) (load_of t) (x ∷ xs) vs apart same top.2
-    (λ y is less. least_in t (x ∷ xs) first top.0 top.1 y (all_in (MayBeVictim t) vs each y is) less)
+    (λ y is less. least_in t first top.0 top.1 y (all_in (MayBeVictim t) vs each y is) less)
 
 -- Where no beginning gains, there are no victims.
 pub no_victims : (t : UsageTable) (meta most : ℕ) → Exhausts t meta most preference.Load → (vs : List ℕ) → AreVictims t meta most vs → ⊥
 no_victims t meta most is vs are =
-    let le = not_longer t meta most preference.Load is.all is.first is.each is.apart is.ended vs are in
+    let le = not_longer meta most preference.Load is.first is.each is.apart is.ended are in
     let long = length-take-le (length vs) is.all le in
-    let least = least_blocks t (take (length vs) is.all) vs (taken_first t (ComesBefore t) is.all (length vs) is.first) are.apart are.each
+    let least = least_blocks t (take (length vs) is.all) vs (taken_first t (ComesBefore t) (length vs) is.first) are.apart are.each
     (sym long) in
     let lacks = is.lacks (length vs) le in
     let gain = are.gain in

@@ -41,14 +41,14 @@ settled_after n = ap (λ (m : SegmentNumbers). (m.used == (released n).used) && 
     same a b = ap (λ (x : Bool). x && (b == b)) (eq-eqb a a refl) ∙ eq-eqb b b refl
 
 -- ---- the list, as a segment has other numbers
-module _ (l : Unsettled) (segments : List SegmentNumbers) (s : ℕ) (x : SegmentNumbers) (lt : s < length segments)
+module _ {l : Unsettled} {segments : List SegmentNumbers} (s : ℕ) (x : SegmentNumbers) (lt : s < length segments)
     (lists : ListsUnsettled l segments) where
   within : (i : ℕ) → i < l.count → get_or l.segments i 0 < length (slice_set segments s x)
   within i low = let was = lists.inside i low in let size = length-set segments s x in omega (arith, was, size)
 
   -- of those that have other numbers than s nothing is new
   others : l.count < 64 → (i : ℕ) → (i ≡ s → ⊥) → is_settled (get_or (slice_set segments s x) i no_segment) ≡ false → IsListed l i
-  others room i away off = lists.all room i (ap is_settled (sym (set_other segments s x i away)) ∙ off)
+  others room i away off = lists.all room i (ap is_settled (sym (set_other segments x away)) ∙ off)
 
   listed_by : (l.count < 64 → is_settled x ≡ false → IsListed l s) → ListsUnsettled l (slice_set segments s x)
   listed_by own = record {
@@ -66,9 +66,9 @@ module _ (l : Unsettled) (segments : List SegmentNumbers) (s : ℕ) (x : Segment
   pub noted_settled : is_settled x ≡ true → ListsUnsettled l (slice_set segments s x)
   noted_settled on = listed_by (λ room off. let bad : true ≡ false = sym on ∙ off in absurd cc)
 
-  pub noted_before : (was : SegmentNumbers) → get_or segments s no_segment ≡ was → is_settled was ≡ false
+  pub noted_before : {was : SegmentNumbers} → get_or segments s no_segment ≡ was → is_settled was ≡ false
       → ListsUnsettled l (slice_set segments s x)
-  noted_before was is off = listed_by (λ room new. lists.all room s (ap is_settled is ∙ off))
+  noted_before is off = listed_by (λ room new. lists.all room s (ap is_settled is ∙ off))
 
   pub noted_full : 64 ≤ l.count → ListsUnsettled l (slice_set segments s x)
   noted_full full = listed_by (λ room new. absurd (omega (arith, full, room)))
@@ -103,24 +103,24 @@ module _ (l : Unsettled) (segments : List SegmentNumbers) (s : ℕ) (x : Segment
       old i away = ap (λ (xs : List ℕ). get_or xs i 0) items ∙ get_or-set_other l.segments l.count i s 0 away
 
 -- ---- an empty list, where the numbers of all segments stay
-pub lists_none : (l : Unsettled) (segments : List SegmentNumbers) → l.count ≡ 0 → length l.segments ≡ 64
+pub lists_none : {l : Unsettled} {segments : List SegmentNumbers} → l.count ≡ 0 → length l.segments ≡ 64
     → ((s : ℕ) → is_settled (get_or segments s no_segment) ≡ true) → ListsUnsettled l segments
-lists_none l segments none size settled = record {
+lists_none none size settled = record {
   size = size;
   few = omega (arith, none);
   inside = λ i low. absurd (omega (arith, low, none));
   all = λ room s off. let bad : true ≡ false = sym (settled s) ∙ off in absurd cc;
 }
 
-pub lists_new : (l : Unsettled) (segments : List SegmentNumbers) (n : ℕ) → l.count ≡ 0 → length l.segments ≡ 64
+pub lists_new : (l : Unsettled) {segments : List SegmentNumbers} (n : ℕ) → l.count ≡ 0 → length l.segments ≡ 64
     → segments ≡ replicate n no_segment → ListsUnsettled l segments
-lists_new l segments n none size is = lists_none l segments none size
+lists_new l {segments} n none size is = lists_none none size
     (λ s. ap (λ (xs : List SegmentNumbers). is_settled (get_or xs s no_segment)) is ∙ ap is_settled (no_segment_there n s))
 
-pub lists_released : (l : Unsettled) (old new : UsageTable) → l.count ≡ 0 → length l.segments ≡ 64 → Releases old new
+pub lists_released : (l : Unsettled) {old new : UsageTable} → l.count ≡ 0 → length l.segments ≡ 64 → Releases old new
     → ListsUnsettled l new.segments
-lists_released l old new none size done =
-    lists_none l new.segments none size (λ s. ap is_settled (done.each s) ∙ settled_after (get_or old.segments s no_segment))
+lists_released l {old} {new} none size done =
+    lists_none none size (λ s. ap is_settled (done.each s) ∙ settled_after (get_or old.segments s no_segment))
 
 -- ---- releasing the segments of a list, one after the other
 pub record ReleasesListed (old now : UsageTable) (l : Unsettled) (k : ℕ) : Type 0 where
@@ -133,10 +133,11 @@ pub record ReleasesListed (old now : UsageTable) (l : Unsettled) (k : ℕ) : Typ
       ⊎ (get_or now.segments s no_segment ≡ get_or old.segments s no_segment)
   pub clean : clean_in old.segments ≤ clean_in now.segments
 
-pub listed_goes_on : (old now new : UsageTable) (l : Unsettled) (k s : ℕ) → ReleasesListed old now l k → s ≡ get_or l.segments k 0 → s
+pub listed_goes_on : {old now : UsageTable} (new : UsageTable) {l : Unsettled} {k s : ℕ} → ReleasesListed old now l k
+    → s ≡ get_or l.segments k 0 → s
     < length now.segments → new.segments ≡ slice_set now.segments s (released (get_or now.segments s no_segment)) → new.blocks ≡ now.blocks
     → new.last ≡ now.last → ReleasesListed old new l (k + 1)
-listed_goes_on old now new l k s so is lt segments blocks last = record {
+listed_goes_on {old} {now} new {l} {k} {s} so is lt segments blocks last = record {
   size = ap length segments ∙ length-set now.segments s (released (get_or now.segments s no_segment)) ∙ so.size;
   blocks = blocks ∙ so.blocks;
   last = last ∙ so.last;
@@ -154,7 +155,7 @@ listed_goes_on old now new l k s so is lt segments blocks last = record {
   where
     other : (i : ℕ) → (i ≡ s → ⊥) → get_or new.segments i no_segment ≡ get_or now.segments i no_segment
     other i away = ap (λ (xs : List SegmentNumbers). get_or xs i no_segment) segments
-        ∙ set_other now.segments s (released (get_or now.segments s no_segment)) i away
+        ∙ set_other now.segments (released (get_or now.segments s no_segment)) away
 
     there : get_or new.segments s no_segment ≡ released (get_or now.segments s no_segment)
     there = ap (λ (xs : List SegmentNumbers). get_or xs s no_segment) segments
@@ -176,9 +177,9 @@ listed_goes_on old now new l k s so is lt segments blocks last = record {
         (λ (ne : i ≡ k → ⊥). omega (arith, low, ne))
         (cases_eq i k)
 
-pub listed_ends : (old now : UsageTable) (l : Unsettled) (k : ℕ) → ReleasesListed old now l k → l.count ≤ k → ListsUnsettled l old.segments
+pub listed_ends : {old now : UsageTable} {l : Unsettled} {k : ℕ} → ReleasesListed old now l k → l.count ≤ k → ListsUnsettled l old.segments
     → l.count < 64 → Releases old now
-listed_ends old now l k so le lists room = record {
+listed_ends {old} {now} so le lists room = record {
   each = λ s. by_settled s (is_settled (get_or old.segments s no_segment)) refl;
   size = so.size;
   blocks = so.blocks;

@@ -57,17 +57,16 @@ pub set_own : (segments : List SegmentNumbers) (s : ℕ) (x : SegmentNumbers) �
     → get_or (slice_set segments s x) s no_segment ≡ x
 set_own segments s x lt = get_or-set_same segments s x no_segment lt
 
-pub set_other : (segments : List SegmentNumbers) (s : ℕ) (x : SegmentNumbers) (i : ℕ) → (i ≡ s → ⊥)
+pub set_other : (segments : List SegmentNumbers) {s : ℕ} (x : SegmentNumbers) {i : ℕ} → (i ≡ s → ⊥)
     → get_or (slice_set segments s x) i no_segment ≡ get_or segments i no_segment
-set_other segments s x i ne = get_or-set_other segments s i x no_segment ne
+set_other segments {s} x {i} ne = get_or-set_other segments s i x no_segment ne
 
 -- what holds of each segment, where it holds of the new one
 pub set_each : (P : SegmentNumbers → Type 0) (segments : List SegmentNumbers) (s : ℕ) (x : SegmentNumbers) → s < length segments → P x
     → ((i : ℕ) → P (get_or segments i no_segment)) → (i : ℕ) → P (get_or (slice_set segments s x) i no_segment)
 set_each P segments s x lt own each i = ⊎_elim
     (λ (here : i ≡ s). subst P (sym (ap (λ (i : ℕ). get_or (slice_set segments s x) i no_segment) here ∙ set_own segments s x lt)) own)
-    (λ (away : i ≡ s → ⊥). subst P (sym (set_other segments s x i away)) (each i))
-    (cases_eq i s)
+    (λ (away : i ≡ s → ⊥). subst P (sym (set_other segments x away)) (each i)) (cases_eq i s)
 
 -- a clean segment less
 pub one_taken : (segments : List SegmentNumbers) (s : ℕ) (x : SegmentNumbers) → s < length segments
@@ -77,7 +76,7 @@ one_taken segments s x lt clean ne =
     let size = length-set segments s x in
     let there = set_own segments s x lt in
     count_one_more (is_clean_in (slice_set segments s x)) (is_clean_in segments) (length segments) s lt
-    (λ i away. ap (λ (n : SegmentNumbers). n.used == 0) (set_other segments s x i away))
+    (λ i away. ap (λ (n : SegmentNumbers). n.used == 0) (set_other segments x away))
     (ap (λ (n : SegmentNumbers). n.used == 0) there ∙ false_from_ne_true _ (λ h. ne (eqb-true x.used 0 h)))
     (eq-eqb _ 0 clean)
     ∙ ap (λ (n : ℕ). suc (count_up (is_clean_in (slice_set segments s x)) n)) (sym size)
@@ -91,8 +90,7 @@ still_clean segments s x lt same =
     ∙ count_up_same (is_clean_in (slice_set segments s x)) (is_clean_in segments) (length segments) (λ i low. ⊎_elim
     (λ (here : i ≡ s). ap (is_clean_in (slice_set segments s x)) here ∙ ap (λ (n : SegmentNumbers). n.used == 0) (set_own segments s x lt)
     ∙ sym same ∙ ap (is_clean_in segments) (sym here))
-    (λ (away : i ≡ s → ⊥). ap (λ (n : SegmentNumbers). n.used == 0) (set_other segments s x i away))
-    (cases_eq i s))
+    (λ (away : i ≡ s → ⊥). ap (λ (n : SegmentNumbers). n.used == 0) (set_other segments x away)) (cases_eq i s))
 
 -- all are clean at first
 pub no_segment_there : (n i : ℕ) → get_or (replicate n no_segment) i no_segment ≡ no_segment
@@ -118,19 +116,19 @@ all_clean n = ap (count_up (is_clean_in (replicate n no_segment))) (long n) ∙ 
 pub all_fit : (n : ℕ) (i : ℕ) → FitsSegment (get_or (replicate n no_segment) i no_segment)
 all_fit n i = subst FitsSegment (sym (no_segment_there n i)) (record { used = omega arith; fewer = omega arith; kept = omega arith })
 
-pub new_fits : (o : Option ℕ) (segments : List SegmentNumbers) (blocks : List PlaceInSegment) (n : ℕ) → n ≤ 1024
+pub new_fits : (o : Option ℕ) {segments : List SegmentNumbers} (blocks : List PlaceInSegment) (n : ℕ) → n ≤ 1024
     → segments ≡ replicate n no_segment → length blocks ≡ 16 → FitsTable (record { segments = segments; blocks = blocks; last = o })
-new_fits o segments blocks n few is whole = record {
+new_fits o blocks n few is whole = record {
   few = let l = ap length is ∙ long n in omega arith;
   blocks = whole;
   each = λ s. subst (λ (l : List SegmentNumbers). FitsSegment (get_or l s no_segment)) (sym is) (all_fit n s);
 }
 
 -- the table with a segment's numbers changed
-pub set_fits : (o : Option ℕ) (segments : List SegmentNumbers) (blocks : List PlaceInSegment) (s : ℕ) (x : SegmentNumbers)
+pub set_fits : (o : Option ℕ) (segments : List SegmentNumbers) (blocks : List PlaceInSegment) (s : ℕ) {x : SegmentNumbers}
     → FitsTable (record { segments = segments; blocks = blocks; last = o }) → s < length segments → FitsSegment x
     → FitsTable (record { segments = slice_set segments s x; blocks = blocks; last = o })
-set_fits o segments blocks s x fits lt own = record {
+set_fits o segments blocks s {x} fits lt own = record {
   few = let l = length-set segments s x in let f = fits.few in omega arith;
   blocks = fits.blocks;
   each = set_each FitsSegment segments s x lt own fits.each;
@@ -144,5 +142,5 @@ clean_change segments s x lt =
     let size = ap (count_up (is_clean_in (slice_set segments s x))) (length-set segments s x) in
     let there = ap (λ (n : SegmentNumbers). cond {A = ℕ} (n.used == 0) 1 0) (set_own segments s x lt) in
     let change = count_change (is_clean_in segments) (is_clean_in (slice_set segments s x)) (length segments) s lt
-    (λ i away. ap (λ (n : SegmentNumbers). n.used == 0) (sym (set_other segments s x i away))) in
+    (λ i away. ap (λ (n : SegmentNumbers). n.used == 0) (sym (set_other segments x away))) in
     omega (arith, size, there, change)

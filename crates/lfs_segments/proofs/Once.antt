@@ -9,7 +9,7 @@ use Rattle.lfs_segments.specs.Chunk.{Chunk, IsOpenChunk, StaysInPlace, summary_a
 use Rattle.lfs_segments.specs.Steps.{Begins, GoesOn, Notes, TakesSegment}
 use Rattle.lfs_segments.specs.Once.{WrittenSince, WrittenOnce, EachOnce, WritesNothing, WritesTo, first_behind, with_address}
 
-module _ (s : ℕ) (t t' : UsageTable) (c c' : Chunk) (written : List ℕ) (once : WrittenOnce s t c written) where
+module _ (s : ℕ) (t : UsageTable) {t' : UsageTable} (c : Chunk) {c' : Chunk} {written : List ℕ} (once : WrittenOnce s t c written) where
   -- nothing is written
   none_more : used_of t s ≤ used_of t' s
       → (c'.segment ≡ s → used_of t' s ≡ c'.start + suc (length c'.names) → IsIn written (summary_at c') → ⊥) → WrittenOnce s t' c' written
@@ -26,10 +26,10 @@ module _ (s : ℕ) (t t' : UsageTable) (c c' : Chunk) (written : List ℕ) (once
   away not same = none_more (omega (arith, same)) (λ here used is. not here)
 
   -- an address more, which is none of those before it
-  one_more : (a : ℕ) → used_of t s ≤ used_of t' s → 2 + 64 * s ≤ a → a < first_behind t' s → (IsIn written a → ⊥)
+  one_more : {a : ℕ} → used_of t s ≤ used_of t' s → 2 + 64 * s ≤ a → a < first_behind t' s → (IsIn written a → ⊥)
       → (c'.segment ≡ s → used_of t' s ≡ c'.start + suc (length c'.names) → IsIn (a ∷ written) (summary_at c') → ⊥)
       → WrittenOnce s t' c' (a ∷ written)
-  one_more a grows low high fresh summary =
+  one_more {a} grows low high fresh summary =
       let before = none_more grows (λ here used is. summary here used (inr is)) in
       record {
         apart = (fresh, once.apart);
@@ -71,9 +71,9 @@ module _ (s : ℕ) (t t' : UsageTable) (c c' : Chunk) (written : List ℕ) (once
       begins))
       (cases_eq c'.segment s)
 
-  placed_once : (lives : Bool) → IsOpenChunk c t → Notes t t' c.segment lives → StaysInPlace c c'
+  placed_once : {lives : Bool} → IsOpenChunk c t → Notes t t' c.segment lives → StaysInPlace c c'
       → WrittenOnce s t' c' (with_address s c (first_behind t c.segment) written)
-  placed_once lives opened notes stays =
+  placed_once opened notes stays =
       let own = notes.used.own in
       let behind = opened.used in
       let segment = stays.segment in
@@ -83,7 +83,7 @@ module _ (s : ℕ) (t t' : UsageTable) (c c' : Chunk) (written : List ℕ) (once
       (λ here.
       let first = ap (used_of t) here in
       let now = ap (used_of t') here in
-      one_more a (omega (arith, own, first, now)) (omega (arith, here)) (omega (arith, here, own, first, now))
+      one_more (omega (arith, own, first, now)) (omega (arith, here)) (omega (arith, here, own, first, now))
       (λ is. let i = once.inside a is in let below = i.1 in omega (arith, below, here, first))
       (λ again used is. ⊎_elim
       (λ (same : summary_at c' ≡ a). omega (arith, same, segment, start, behind))
@@ -101,7 +101,7 @@ module _ (s : ℕ) (t t' : UsageTable) (c c' : Chunk) (written : List ℕ) (once
       writes (summary_at c) stays.segment (λ not. same)
       (λ here.
       let first = ap (used_of t) here in
-      one_more (summary_at c) (omega (arith, same)) (omega (arith, here)) (omega (arith, here, behind, first, same))
+      one_more (omega (arith, same)) (omega (arith, here)) (omega (arith, here, behind, first, same))
       (once.summary here (omega (arith, behind, first)))
       (λ again used is. omega (arith, used, none, start, behind, first, some, same)))
 
@@ -110,14 +110,14 @@ each_once s _ _ _ (WrittenSince.taken t t' c number takes) =
     let own = takes.used.own in
     record { apart = tt; inside = λ a is. absurd is; some = omega (arith, own); summary = λ here used is. is }
 each_once s _ _ _ (WrittenSince.begun t t' c c' written number before begins start none) =
-    begun_once s t t' c c' written (each_once s t c written before) number begins start
+    begun_once s t c (each_once s t c written before) number begins start
 each_once s _ _ _ (WrittenSince.placed t t' c c' written name lives before opened notes stays names) =
-    placed_once s t t' c c' written (each_once s t c written before) lives opened notes stays
+    placed_once s t c (each_once s t c written before) opened notes stays
 each_once s _ _ _ (WrittenSince.sealed t c c' written before opened some stays ended) =
-    sealed_once s t t c c' written (each_once s t c written before) refl opened some stays ended
+    sealed_once s t c (each_once s t c written before) refl opened some stays ended
 each_once s _ _ _ (WrittenSince.changed t t' c written before same) =
     let once = each_once s t c written before in
-    none_more s t t' c c written once (omega (arith, same)) (λ here used. once.summary here (sym same ∙ used))
+    none_more s t c once (omega (arith, same)) (λ here used. once.summary here (sym same ∙ used))
 
 -- ---- the calls are such steps
 pub begun_step : (t t' : UsageTable) (c c' : Chunk) (number : ℕ) → Begins t t' c'.segment number → c'.start ≡ used_of t c'.segment

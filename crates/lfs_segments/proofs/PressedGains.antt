@@ -106,9 +106,9 @@ counted_used : (t : UsageTable) (s : ℕ) → s < length t.segments → 0 < one 
 counted_used t s low counts = let c = counted t s (only_where (is_counted t s) 1 counts) in (low, c.0, c.1)
 
 -- All segments that may be cleaned can't be so few.
-pub not_all : (t : UsageTable) (meta most : ℕ) (xs : List ℕ) → ((s : ℕ) → MayBeVictim t s → IsIn xs s) → IsPressed t meta
+pub not_all : (t : UsageTable) {meta most : ℕ} (xs : List ℕ) → ((s : ℕ) → MayBeVictim t s → IsIn xs s) → IsPressed t meta
     → most ≡ length t.segments / 8 + 1 → length xs < most → ⊥
-not_all t meta most xs all pressed is few =
+not_all t xs all pressed is few =
     let b = below_among (length t.segments) (one t) xs (λ y low counts. all y (counted_used t y low counts)) in
     let l = sum_less (one t) (λ (s : ℕ). 1) xs (one_most t) in
     let o = sum_ones xs in
@@ -162,9 +162,9 @@ no_room : (a top p meta blocks all : ℕ) → top ≤ 63 → blocks ≤ p + top 
 no_room a top p meta blocks all low each sum room lacks = omega (arith, low, each, sum, room, lacks)
 
 -- An eighth of the segments and one more, those with the least blocks, gain.
-pub gains_then : (t : UsageTable) (meta : ℕ) (xs : List ℕ) → FitsTable t → AreFirst t (ComesBefore t) xs → IsPressed t meta
+pub gains_then : (t : UsageTable) (meta : ℕ) {xs : List ℕ} → FitsTable t → AreFirst t (ComesBefore t) xs → IsPressed t meta
     → length xs ≡ length t.segments / 8 + 1 → 63 * (length xs - 1) < sum_by (load_of t) xs + meta + 48 → ⊥
-gains_then t meta xs fits first pressed long lacking_one =
+gains_then t meta {xs} fits first pressed long lacking_one =
     let greatest = greatest_in (load_of t) xs (omega (arith, long)) in
     let v = greatest.0 in
     let top = load_of t v in
@@ -174,7 +174,7 @@ gains_then t meta xs fits first pressed long lacking_one =
     let times = below_times top (one t) (load_of t) (lacks t top) (length t.segments) (λ s low. each_times t top s) in
     let among = below_among (length t.segments) (lacks t top) xs (λ y low counts.
     let l = lacking t top y low counts in
-    least_in t xs first v greatest.1 y l.0 l.1) in
+    least_in t first v greatest.1 y l.0 l.1) in
     let less = sum_less (lacks t top) (λ (s : ℕ). top - load_of t s) xs (lacks_less t top) in
     let filled = filled_up top (load_of t) xs greatest.2 in
     let u = in_use t in
@@ -191,20 +191,19 @@ gains_then t meta xs fits first pressed long lacking_one =
     (omega (arith, times, among, less, filled, product, six, own, o, all)) (omega (arith, room, e)) (omega (arith, lacking_one, long))
 
 -- So a volume that is pressed has victims.
-pub pressed_gains : (t : UsageTable) (meta most : ℕ) → Exhausts t meta most preference.Load → IsPressed t meta
+pub pressed_gains : {t : UsageTable} {meta most : ℕ} → Exhausts t meta most preference.Load → IsPressed t meta
     → most ≡ length t.segments / 8 + 1 → ⊥
-pressed_gains t meta most is pressed limit =
+pressed_gains {t} {meta} {most} is pressed limit =
     let few = is.few in
     ⊎_elim
     (λ (short : length is.all < most). ⊎_elim
     (λ (full : length is.all ≡ most). omega (arith, short, full))
-    (λ (all : (s : ℕ) → MayBeVictim t s → IsIn is.all s). not_all t meta most is.all all pressed limit short)
-    is.ended)
+    (λ (all : (s : ℕ) → MayBeVictim t s → IsIn is.all s). not_all t is.all all pressed limit short) is.ended)
     (λ (long : most ≤ length is.all).
     let same : length is.all ≡ length t.segments / 8 + 1 = omega (arith, few, long, limit) in
     ⊎_elim
     (λ (lacking_one : 63 * (length is.all - 1) < sum_by (load_of t) is.all + meta + 48).
-    gains_then t meta is.all is.table is.first pressed same lacking_one)
+    gains_then t meta is.table is.first pressed same lacking_one)
     (λ (gain : sum_by (load_of t) is.all + meta + 48 ≤ 63 * (length is.all - 1)).
     let l = is.lacks (length is.all) (omega arith) in
     let w = ap (gain_of t meta) (take_all (length is.all) is.all (omega arith)) in

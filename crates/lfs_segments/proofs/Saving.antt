@@ -18,9 +18,9 @@ use Rattle.lfs_segments.specs.Spelling.{AreSpelled}
 use Rattle.lfs_segments.proofs.Numbers.{set_own, set_other, no_segment_there}
 
 -- a block of the table is one that a checkpoint has
-pub spells_block : (t : UsageTable) (blocks : List (List ℕ)) (j : ℕ) → AreSpelled blocks t.segments → j < 16
+pub spells_block : (t : UsageTable) {blocks : List (List ℕ)} (j : ℕ) → AreSpelled blocks t.segments → j < 16
     → SpellsBlock t j (get_or blocks j [])
-spells_block t blocks j so low = record {
+spells_block t {blocks} j so low = record {
   long = so.long j low;
   used = λ i lt. (words i lt).used;
   live = λ i lt. (words i lt).live;
@@ -32,8 +32,8 @@ spells_block t blocks j so low = record {
         (use_words (get_or blocks j []) i)
 
 -- a copy of a list of numbers is that list
-pub copied : (R : ℕ → ℕ → Type 0) → ((a b : ℕ) → R a b → b ≡ a) → (xs ys : List ℕ) (n : ℕ) → length xs ≡ n → AllZipBelow R xs ys n → ys ≡ xs
-copied R same xs ys n long is = same_lists ys xs (is.long ∙ sym long) (λ k d lt. let l = is.long in same _ _ (is.at k d d (omega arith)))
+pub copied : (R : ℕ → ℕ → Type 0) → ((a b : ℕ) → R a b → b ≡ a) → (xs ys : List ℕ) {n : ℕ} → length xs ≡ n → AllZipBelow R xs ys n → ys ≡ xs
+copied R same xs ys long is = same_lists ys xs (is.long ∙ sym long) (λ k d lt. let l = is.long in same _ _ (is.at k d d (omega arith)))
 
 -- a block of zeros has nothing of any segment
 module _ (b : List ℕ) (is : b ≡ zeros 512) where
@@ -44,7 +44,7 @@ module _ (b : List ℕ) (is : b ≡ zeros 512) where
   zero_part at n fits =
       let l = long_zeros in
       let p = length-part at n b (omega arith) in
-      zeros_from_each (part at n b) n p (λ i lt. get_or-part at n b i (omega arith) ∙ each_of_zeros b 512 is (at + i) (omega arith))
+      zeros_from_each (part at n b) n p (λ i lt. get_or-part at n b i (omega arith) ∙ each_of_zeros 512 is (at + i) (omega arith))
 
   zero16 : (at : ℕ) → at + 2 ≤ 512 → 0 ≡ read16 at b
   unfolding le16 zeros
@@ -58,8 +58,8 @@ module _ (b : List ℕ) (is : b ≡ zeros 512) where
   zero_entry i lt = use_in b i lt
       ∙ sym (use_read (8 * i) b 0 0 0 (zero16 (8 * i) (omega arith)) (zero16 (8 * i + 2) (omega arith)) (zero32 (8 * i + 4) (omega arith)))
 
-  pub spelled_new : (blocks : List (List ℕ)) (n : ℕ) → blocks ≡ replicate 16 b → AreSpelled blocks (replicate n no_segment)
-  spelled_new blocks n all = record {
+  pub spelled_new : {blocks : List (List ℕ)} (n : ℕ) → blocks ≡ replicate 16 b → AreSpelled blocks (replicate n no_segment)
+  spelled_new {blocks} n all = record {
     count = ap length all ∙ length-replicate 16 b;
     long = λ j lt. ap length (block j lt) ∙ long_zeros;
     each = λ j i lj li. ap (λ (x : List ℕ). get_or (usage_of x) i no_use) (block j lj) ∙ zero_entry i li
@@ -70,7 +70,7 @@ module _ (b : List ℕ) (is : b ≡ zeros 512) where
       block j lt = ap (λ (bs : List (List ℕ)). get_or bs j []) all ∙ get_or-replicate 16 j b [] lt
 
 -- one segment has other numbers, and so has its entry
-module _ (blocks new : List (List ℕ)) (segments : List SegmentNumbers) (s : ℕ) (x : SegmentNumbers) (block : List ℕ) (low : s < 1024)
+module _ (blocks new : List (List ℕ)) {segments : List SegmentNumbers} (s : ℕ) (x : SegmentNumbers) (block : List ℕ) (low : s < 1024)
     (lt : s < length segments)
     (so : AreSpelled blocks segments) (is : new ≡ slice_set blocks (s / 64) block) (long : length block ≡ 512)
     (entries : usage_of block ≡ slice_set (usage_of (get_or blocks (s / 64) [])) (s % 64) (saved x)) where
@@ -108,7 +108,7 @@ module _ (blocks new : List (List ℕ)) (segments : List SegmentNumbers) (s : �
       ap (λ (k : ℕ). get_or (usage_of (get_or new k [])) i no_use) at ∙ ap (λ (b : List ℕ). get_or (usage_of b) i no_use) own_block
       ∙ ap (λ (k : ℕ). get_or (usage_of block) k no_use) place ∙ own_entry
       ∙ sym (ap saved (ap (λ (k : ℕ). get_or (slice_set segments s x) k no_segment) here ∙ set_own segments s x lt)))
-      (λ (away : 64 * j + i ≡ s → ⊥). stays j i lj li away ∙ so.each j i lj li ∙ sym (ap saved (set_other segments s x (64 * j + i) away)))
+      (λ (away : 64 * j + i ≡ s → ⊥). stays j i lj li away ∙ so.each j i lj li ∙ sym (ap saved (set_other segments x away)))
       (cases_eq (64 * j + i) s)
 
   long_block : (j : ℕ) → j < 16 → length (get_or new j []) ≡ 512

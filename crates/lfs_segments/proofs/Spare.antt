@@ -49,8 +49,8 @@ tested t s e =
       held = eqb-true n.held 0 third.1;
     }
 
-pub passes : (t : UsageTable) (s : ℕ) → IsEmptied t s → is_emptied (get_or t.segments s no_segment) ≡ true
-passes t s is =
+pub passes : (t : UsageTable) {s : ℕ} → IsEmptied t s → is_emptied (get_or t.segments s no_segment) ≡ true
+passes t {s} is =
     let n = get_or t.segments s no_segment in
     both_are (not (n.used == 0)) ((n.kept == n.used) && is_empty n) (on (n.used == 0) (none_if n.used is.used))
     (both_are (n.kept == n.used) (is_empty n) (eq-eqb n.kept n.used is.before)
@@ -67,11 +67,11 @@ count_less p q (suc n) less = let rest = count_less p q n less in let here = eit
     either false b h = omega arith
 
 -- those of two tests that never pass together
-count_apart : (p q r : ℕ → Bool) (n : ℕ) → ((s : ℕ) → p s ≡ true → r s ≡ true) → ((s : ℕ) → q s ≡ true → (p s ≡ false) × (r s ≡ true))
+count_apart : {p q r : ℕ → Bool} (n : ℕ) → ((s : ℕ) → p s ≡ true → r s ≡ true) → ((s : ℕ) → q s ≡ true → (p s ≡ false) × (r s ≡ true))
     → count_up p n + count_up q n ≤ count_up r n
-count_apart p q r zero one two = omega (arith, count_up_none p, count_up_none q, count_up_none r)
-count_apart p q r (suc n) one two =
-    let rest = count_apart p q r n one two in
+count_apart {p} {q} {r} zero one two = omega (arith, count_up_none p, count_up_none q, count_up_none r)
+count_apart {p} {q} {r} (suc n) one two =
+    let rest = count_apart n one two in
     let here = either (p n) (q n) (r n) (one n) (two n) in
     omega (arith, rest, here, count_up_more p n, count_up_more q n, count_up_more r n)
   where
@@ -84,12 +84,12 @@ count_apart p q r (suc n) one two =
 
 -- ---- of segments
 -- where what was emptied stays so, they are no fewer
-pub emptied_stay : (t t' : UsageTable) → length t'.segments ≡ length t.segments → ((s : ℕ) → IsEmptied t s → IsEmptied t' s)
+pub emptied_stay : {t t' : UsageTable} → length t'.segments ≡ length t.segments → ((s : ℕ) → IsEmptied t s → IsEmptied t' s)
     → emptied_in t.segments ≤ emptied_in t'.segments
 unfolding emptied_in
-emptied_stay t t' size stay =
+emptied_stay {t} {t'} size stay =
     let less = count_less (λ s. is_emptied (get_or t.segments s no_segment)) (λ s. is_emptied (get_or t'.segments s no_segment))
-    (length t.segments) (λ s e. passes t' s (stay s (tested t s e))) in
+    (length t.segments) (λ s e. passes t' (stay s (tested t s e))) in
     let same = ap (count_up (λ s. is_emptied (get_or t'.segments s no_segment))) size in
     omega (arith, less, same)
 
@@ -99,8 +99,7 @@ not_clean t s is = none_if (get_or t.segments s no_segment).used is.used
 -- in clean ones and in those that were emptied nothing lives
 pub spare_there : (t : UsageTable) → clean_in t.segments + emptied_in t.segments ≤ spare_in t.segments
 unfolding clean_in emptied_in spare_in
-spare_there t = count_apart (is_clean_in t.segments) (λ s. is_emptied (get_or t.segments s no_segment))
-    (λ s. is_spare (get_or t.segments s no_segment)) (length t.segments) clean emptied
+spare_there t = count_apart (length t.segments) clean emptied
   where
     either : (b : Bool) (u : ℕ) → u ≡ 0 → cond b 0 u ≡ 0
     either true u z = refl
@@ -118,11 +117,10 @@ spare_there t = count_apart (is_clean_in t.segments) (λ s. is_emptied (get_or t
         (not_clean t s is, eq-eqb (cond (n.live == 0) 0 n.used) 0 (cond-true (n.live == 0) 0 n.used (eq-eqb n.live 0 is.live)))
 
 -- as a checkpoint is acknowledged, those that were emptied are clean besides those that were
-pub emptied_given : (t t' : UsageTable) → Releases t t' → clean_in t.segments + emptied_in t.segments ≤ clean_in t'.segments
+pub emptied_given : {t t' : UsageTable} → Releases t t' → clean_in t.segments + emptied_in t.segments ≤ clean_in t'.segments
 unfolding clean_in emptied_in
-emptied_given t t' go =
-    let less = count_apart (is_clean_in t.segments) (λ s. is_emptied (get_or t.segments s no_segment)) (is_clean_in t'.segments)
-    (length t.segments) clean emptied in
+emptied_given {t} {t'} go =
+    let less = count_apart (length t.segments) clean emptied in
     let same = ap (count_up (is_clean_in t'.segments)) go.size in
     omega (arith, less, same)
   where

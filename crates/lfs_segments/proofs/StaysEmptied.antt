@@ -8,9 +8,9 @@ use Rattle.lfs_segments.specs.Emptied.{IsEmptied}
 
 -- ---- counts
 -- of a segment other than the one where a block comes the count is the same
-up_still : (b : Bool) (old new : ℕ → ℕ) (c s : ℕ) → (s ≡ c → ⊥) → CountsUp b old new c → new s ≡ old s
-up_still true old new c s ne up = up.others s ne
-up_still false old new c s ne up = up s
+up_still : (b : Bool) (old new : ℕ → ℕ) {c : ℕ} (s : ℕ) → (s ≡ c → ⊥) → CountsUp b old new c → new s ≡ old s
+up_still true old new s ne up = up.others s ne
+up_still false old new s ne up = up s
 
 -- of a segment where nothing is there is nothing to leave
 down_still : (b : Bool) (old new : ℕ → ℕ) (c s : ℕ) → old s ≡ 0 → CountsDown b old new c → new s ≡ 0
@@ -21,12 +21,11 @@ down_still true old new c s none down = ⊎_elim
 down_still false old new c s none down = down s ∙ none
 
 -- A chunk begins, a block is placed in it, a block leaves a segment, a usage block gets its place: what was emptied stays so.
-pub stays_emptied : (t t' : UsageTable) (s : ℕ) → IsEmptied t s
-    → ((c age : ℕ) → Begins t t' c age → IsEmptied t' s)
+pub stays_emptied : {t : UsageTable} (t' : UsageTable) {s : ℕ} → IsEmptied t s → ((c age : ℕ) → Begins t t' c age → IsEmptied t' s)
     × ((c : ℕ) (lives : Bool) → Notes t t' c lives → kept_of t c < used_of t c → IsEmptied t' s)
     × ((c : ℕ) (lives : Bool) → Lifts t t' c lives → IsEmptied t' s)
     × ((j at : ℕ) (stale : Bool) → PutsPlace t t' j at stale → IsEmptied t' s)
-stays_emptied t t' s is = (λ c age. ⊎_elim (taken c age) (gone_on c age), noted, lifted, put)
+stays_emptied {t} t' {s} is = (λ c age. ⊎_elim (taken c age) (gone_on c age), noted, lifted, put)
   where
     taken : (c age : ℕ) → TakesSegment t t' c age → IsEmptied t' s
     taken c age go =
@@ -55,8 +54,8 @@ stays_emptied t t' s is = (λ c age. ⊎_elim (taken c age) (gone_on c age), not
         record {
           used = subst (λ (n : ℕ). 0 < n) (sym (go.used.others s away)) is.used;
           before = go.kept s ∙ is.before ∙ sym (go.used.others s away);
-          live = up_still lives (live_of t) (live_of t') c s away go.live ∙ is.live;
-          held = up_still (not lives) (held_of t) (held_of t') c s away go.held ∙ is.held;
+          live = up_still lives (live_of t) (live_of t') s away go.live ∙ is.live;
+          held = up_still (not lives) (held_of t) (held_of t') s away go.held ∙ is.held;
         }
 
     lifted : (c : ℕ) (lives : Bool) → Lifts t t' c lives → IsEmptied t' s

@@ -15,7 +15,7 @@ module _ {X : Type 0} (f : SegmentNumbers → X) (segments : List SegmentNumbers
     (lt : s < length segments) where
   -- a number of the one that changes
   pub is_set : IsSet (λ i. f (get_or segments i no_segment)) (λ i. f (get_or (slice_set segments s x) i no_segment)) s (f x)
-  is_set = record { own = ap f (set_own segments s x lt); others = λ i ne. ap f (set_other segments s x i ne) }
+  is_set = record { own = ap f (set_own segments s x lt); others = λ i ne. ap f (set_other segments x ne) }
 
   -- and one that doesn't
   pub is_same : f x ≡ f (get_or segments s no_segment) → (i : ℕ)
@@ -23,20 +23,19 @@ module _ {X : Type 0} (f : SegmentNumbers → X) (segments : List SegmentNumbers
   is_same same i = ⊎_elim
       (λ (here : i ≡ s). ap (λ (i : ℕ). f (get_or (slice_set segments s x) i no_segment)) here ∙ ap f (set_own segments s x lt) ∙ same
       ∙ ap (λ (i : ℕ). f (get_or segments i no_segment)) (sym here))
-      (λ (away : i ≡ s → ⊥). ap f (set_other segments s x i away))
-      (cases_eq i s)
+      (λ (away : i ≡ s → ⊥). ap f (set_other segments x away)) (cases_eq i s)
 
 more : Bool → ℕ → ℕ
 more true n = suc n
 more false n = n
 
-set_to : {X : Type 0} (old new : ℕ → X) (i : ℕ) (x y : X) → x ≡ y → IsSet old new i x → IsSet old new i y
-set_to old new i x y same is = record { own = is.own ∙ same; others = is.others }
+set_to : {X : Type 0} {old new : ℕ → X} {i : ℕ} {x y : X} → x ≡ y → IsSet old new i x → IsSet old new i y
+set_to same is = record { own = is.own ∙ same; others = is.others }
 
 module _ (f : SegmentNumbers → ℕ) (segments : List SegmentNumbers) (s : ℕ) (x : SegmentNumbers) (lt : s < length segments) where
   counts_up : (b : Bool) → f x ≡ cond b 1 0 + f (get_or segments s no_segment)
       → CountsUp b (λ i. f (get_or segments i no_segment)) (λ i. f (get_or (slice_set segments s x) i no_segment)) s
-  counts_up true is = set_to _ _ s (f x) _ (omega arith) (is_set f segments s x lt)
+  counts_up true is = set_to (omega arith) (is_set f segments s x lt)
   counts_up false is = is_same f segments s x lt (omega arith)
 
   counts_down : (b : Bool) → cond b 1 0 + f x ≡ f (get_or segments s no_segment)
@@ -65,13 +64,13 @@ module _ (blocks : List PlaceInSegment) (j : ℕ) (x : PlaceInSegment) (lt : j <
       (λ (away : i ≡ j → ⊥). ap f (place_other i away))
       (cases_eq i j)
 
-made_stale : (o : Option ℕ) (segments more : List SegmentNumbers) (blocks : List PlaceInSegment) (j : ℕ) → j < length blocks
+made_stale : (o : Option ℕ) (segments more : List SegmentNumbers) (blocks : List PlaceInSegment) {j : ℕ} → j < length blocks
     → Stales (record { segments = segments; blocks = blocks; last = o }) (record {
       segments = more;
       blocks = slice_set blocks j (record { address = (get_or blocks j no_place).address; stale = true });
       last = o;
     }) j
-made_stale o segments more blocks j lt = record {
+made_stale o segments more blocks {j} lt = record {
   stale = place_set blocks j _ lt (λ b. b.stale);
   address = place_same blocks j _ lt (λ b. b.address) refl;
 }
@@ -91,12 +90,12 @@ pub notes : (o : Option ℕ) (segments : List SegmentNumbers) (blocks : List Pla
       last = o;
     }) s lives
 notes o segments blocks s x lives lt low some used live held age kept = record {
-  used = set_to _ _ s x.used _ used (is_set (λ n. n.used) segments s x lt);
+  used = set_to used (is_set (λ n. n.used) segments s x lt);
   live = counts_up (λ n. n.live) segments s x lt lives live;
   held = counts_up (λ n. n.held) segments s x lt (not lives) held;
   age = is_same (λ n. n.age) segments s x lt age;
   kept = is_same (λ n. n.kept) segments s x lt kept;
-  blocks = made_stale o segments (slice_set segments s x) blocks (s / 64) low;
+  blocks = made_stale o segments (slice_set segments s x) blocks low;
   last = refl;
   size = length-set segments s x;
   clean = still_clean segments s x lt (both_in_use _ x.used some (λ z. omega arith));
@@ -119,7 +118,7 @@ lifts o segments blocks s x lives lt low used live held age kept = record {
   held = counts_down (λ n. n.held) segments s x lt (not lives) held;
   age = is_same (λ n. n.age) segments s x lt age;
   kept = is_same (λ n. n.kept) segments s x lt kept;
-  blocks = made_stale o segments (slice_set segments s x) blocks (s / 64) low;
+  blocks = made_stale o segments (slice_set segments s x) blocks low;
   last = refl;
   size = length-set segments s x;
   clean = still_clean segments s x lt (ap (λ (u : ℕ). u == 0) (sym used));
@@ -170,12 +169,12 @@ goes_on o segments blocks s age x lt low some room fits used live held aged kept
   some = some;
   begun = let f = fits.fewer in omega arith;
   room = room;
-  used = set_to _ _ s x.used _ used (is_set (λ n. n.used) segments s x lt);
+  used = set_to used (is_set (λ n. n.used) segments s x lt);
   live = is_same (λ n. n.live) segments s x lt live;
   held = is_same (λ n. n.held) segments s x lt held;
-  age = set_to _ _ s x.age _ aged (is_set (λ n. n.age) segments s x lt);
+  age = set_to aged (is_set (λ n. n.age) segments s x lt);
   kept = is_same (λ n. n.kept) segments s x lt kept;
-  blocks = made_stale o segments (slice_set segments s x) blocks (s / 64) low;
+  blocks = made_stale o segments (slice_set segments s x) blocks low;
   last = refl;
   size = length-set segments s x;
   clean = still_clean segments s x lt (both_in_use _ x.used (λ z. let f = fits.fewer in omega arith) (λ z. omega arith));
@@ -195,30 +194,30 @@ puts o segments blocks j a stale lt = record {
 same_table : (t u : UsageTable) → u.segments ≡ t.segments → u.blocks ≡ t.blocks → u.last ≡ t.last → u ≡ t
 same_table t u segments blocks opens = λ i. record { segments = segments i; blocks = blocks i; last = opens i }
 
-pub notes_of : (old new : UsageTable) (s : ℕ) (x : SegmentNumbers) (lives : Bool) → FitsTable old → s < length old.segments
+pub notes_of : {old new : UsageTable} {s : ℕ} {x : SegmentNumbers} {lives : Bool} → FitsTable old → s < length old.segments
     → 0 < used_of old s → x.used ≡ suc (used_of old s) → x.live ≡ cond lives 1 0 + live_of old s
     → x.held ≡ cond (not lives) 1 0 + held_of old s
     → x.age ≡ age_of old s → x.kept ≡ kept_of old s → new ≡ changed old s x → Notes old new s lives
-notes_of old new s x lives fits lt some used live held age kept is =
+notes_of {old} {s} {x} {lives} fits lt some used live held age kept is =
     let few = fits.few in
     let whole = fits.blocks in
     subst (λ (t : UsageTable). Notes old t s lives) (sym is)
     (notes old.last old.segments old.blocks s x lives lt (omega arith) (λ z. omega arith) used live held age kept)
 
-pub lifts_of : (old new : UsageTable) (s : ℕ) (x : SegmentNumbers) (lives : Bool) → FitsTable old → s < length old.segments
+pub lifts_of : {old new : UsageTable} {s : ℕ} (x : SegmentNumbers) {lives : Bool} → FitsTable old → s < length old.segments
     → x.used ≡ used_of old s → cond lives 1 0 + x.live ≡ live_of old s → cond (not lives) 1 0 + x.held ≡ held_of old s
     → x.age ≡ age_of old s → x.kept ≡ kept_of old s → new ≡ changed old s x → Lifts old new s lives
-lifts_of old new s x lives fits lt used live held age kept is =
+lifts_of {old} {s} x {lives} fits lt used live held age kept is =
     let few = fits.few in
     let whole = fits.blocks in
     subst (λ (t : UsageTable). Lifts old t s lives) (sym is)
     (lifts old.last old.segments old.blocks s x lives lt (omega arith) used live held age kept)
 
-pub goes_on_of : (old new : UsageTable) (s age : ℕ) (x : SegmentNumbers) → FitsTable old → s < length old.segments
+pub goes_on_of : {old new : UsageTable} {s age : ℕ} {x : SegmentNumbers} → FitsTable old → s < length old.segments
     → 0 < live_of old s + held_of old s → used_of old s ≤ 62 → x.used ≡ suc (used_of old s) → x.live ≡ live_of old s
     → x.held ≡ held_of old s
     → x.age ≡ age → x.kept ≡ kept_of old s → new ≡ changed old s x → GoesOn old new s age
-goes_on_of old new s age x fits lt some room used live held aged kept is =
+goes_on_of {old} {s} {age} {x} fits lt some room used live held aged kept is =
     let few = fits.few in
     let whole = fits.blocks in
     subst (λ (t : UsageTable). GoesOn old t s age) (sym is)
@@ -238,20 +237,20 @@ pub takes_away : (o : Option ℕ) (segments : List SegmentNumbers) (blocks : Lis
     }) s count lives
 takes_away o segments blocks s count x lives lt low used live held age kept = record {
   used = is_same (λ n. n.used) segments s x lt used;
-  live = set_to _ _ s x.live _ live (is_set (λ n. n.live) segments s x lt);
-  held = set_to _ _ s x.held _ held (is_set (λ n. n.held) segments s x lt);
+  live = set_to live (is_set (λ n. n.live) segments s x lt);
+  held = set_to held (is_set (λ n. n.held) segments s x lt);
   age = is_same (λ n. n.age) segments s x lt age;
   kept = is_same (λ n. n.kept) segments s x lt kept;
-  blocks = made_stale o segments (slice_set segments s x) blocks (s / 64) low;
+  blocks = made_stale o segments (slice_set segments s x) blocks low;
   last = refl;
   size = length-set segments s x;
   clean = still_clean segments s x lt (ap (λ (u : ℕ). u == 0) (sym used));
 }
 
-pub takes_away_of : (old new : UsageTable) (s count : ℕ) (x : SegmentNumbers) (lives : Bool) → FitsTable old → s < length old.segments
+pub takes_away_of : {old new : UsageTable} {s count : ℕ} {x : SegmentNumbers} {lives : Bool} → FitsTable old → s < length old.segments
     → x.used ≡ used_of old s → x.live ≡ live_of old s - cond lives count 0 → x.held ≡ held_of old s - cond (not lives) count 0
     → x.age ≡ age_of old s → x.kept ≡ kept_of old s → new ≡ changed old s x → TakesAway old new s count lives
-takes_away_of old new s count x lives fits lt used live held age kept is =
+takes_away_of {old} {s} {count} {x} {lives} fits lt used live held age kept is =
     let few = fits.few in
     let whole = fits.blocks in
     subst (λ (t : UsageTable). TakesAway old t s count lives) (sym is)
@@ -270,29 +269,29 @@ pub hides : (o : Option ℕ) (segments : List SegmentNumbers) (blocks : List Pla
     }) s count
 hides o segments blocks s count x lt low used live held age kept = record {
   used = is_same (λ n. n.used) segments s x lt used;
-  live = set_to _ _ s x.live _ (omega (arith, live)) (is_set (λ n. n.live) segments s x lt);
-  held = set_to _ _ s x.held _ held (is_set (λ n. n.held) segments s x lt);
+  live = set_to (omega (arith, live)) (is_set (λ n. n.live) segments s x lt);
+  held = set_to held (is_set (λ n. n.held) segments s x lt);
   age = is_same (λ n. n.age) segments s x lt age;
   kept = is_same (λ n. n.kept) segments s x lt kept;
-  blocks = made_stale o segments (slice_set segments s x) blocks (s / 64) low;
+  blocks = made_stale o segments (slice_set segments s x) blocks low;
   last = refl;
   size = length-set segments s x;
   clean = still_clean segments s x lt (ap (λ (u : ℕ). u == 0) (sym used));
 }
 
-pub hides_of : (old new : UsageTable) (s count : ℕ) (x : SegmentNumbers) → FitsTable old → s < length old.segments
+pub hides_of : {old new : UsageTable} {s count : ℕ} (x : SegmentNumbers) → FitsTable old → s < length old.segments
     → x.used ≡ used_of old s → x.live + count ≡ live_of old s → x.held ≡ held_of old s + count
     → x.age ≡ age_of old s → x.kept ≡ kept_of old s → new ≡ changed old s x → HidesBlocks old new s count
-hides_of old new s count x fits lt used live held age kept is =
+hides_of {old} {s} {count} x fits lt used live held age kept is =
     let few = fits.few in
     let whole = fits.blocks in
     subst (λ (t : UsageTable). HidesBlocks old t s count) (sym is)
     (hides old.last old.segments old.blocks s count x lt (omega arith) used live held age kept)
 
-pub takes_of : (old new : UsageTable) (s age : ℕ) → FitsTable old → s < length old.segments → used_of old s ≡ 0
+pub takes_of : {old new : UsageTable} {s age : ℕ} → FitsTable old → s < length old.segments → used_of old s ≡ 0
     → new.segments ≡ slice_set old.segments s (record { used = 1; live = 0; held = 0; age = age; kept = 0 }) → new.blocks ≡ old.blocks
     → new.last ≡ Some s → TakesSegment old new s age
-takes_of old new s age fits lt clean segments blocks opens =
+takes_of {old} {new} {s} {age} fits lt clean segments blocks opens =
     subst (λ (t : UsageTable). TakesSegment old t s age) (sym (same_table (record {
       segments = slice_set old.segments s
           (record { used = 1; live = 0; held = 0; age = age; kept = 0 });
@@ -334,10 +333,10 @@ never_fewer now new s lt segments =
         at_most true = omega arith
         at_most false = omega arith
 
-pub release_goes_on : (old now new : UsageTable) (k : ℕ) → ReleasedTo old now k → k < length now.segments
+pub release_goes_on : {old now : UsageTable} (new : UsageTable) {k : ℕ} → ReleasedTo old now k → k < length now.segments
     → new.segments ≡ slice_set now.segments k (released (get_or now.segments k no_segment)) → new.blocks ≡ now.blocks
     → new.last ≡ now.last → ReleasedTo old new (k + 1)
-release_goes_on old now new k so lt segments blocks last = record {
+release_goes_on {old} {now} new {k} so lt segments blocks last = record {
   size = ap length segments ∙ length-set now.segments k (released (get_or now.segments k no_segment)) ∙ so.size;
   blocks = blocks ∙ so.blocks;
   last = last ∙ so.last;
@@ -346,9 +345,9 @@ release_goes_on old now new k so lt segments blocks last = record {
       ap (λ (s : ℕ). get_or (slice_set now.segments k (released (get_or now.segments k no_segment))) s no_segment) here
       ∙ set_own now.segments k (released (get_or now.segments k no_segment)) lt ∙ ap released (so.after k (omega arith))
       ∙ ap (λ (s : ℕ). released (get_or old.segments s no_segment)) (sym here))
-      (λ (away : s ≡ k → ⊥). set_other now.segments k (released (get_or now.segments k no_segment)) s away ∙ so.before s (omega arith))
+      (λ (away : s ≡ k → ⊥). set_other now.segments (released (get_or now.segments k no_segment)) away ∙ so.before s (omega arith))
       (cases_eq s k);
   after = λ s high. ap (λ (l : List SegmentNumbers). get_or l s no_segment) segments
-      ∙ set_other now.segments k (released (get_or now.segments k no_segment)) s (λ h. omega arith) ∙ so.after s (omega arith);
+      ∙ set_other now.segments {s = k} (released (get_or now.segments k no_segment)) {i = s} (λ h. omega arith) ∙ so.after s (omega arith);
   clean = let more = never_fewer now new k lt segments in let was = so.clean in omega (arith, more, was);
 }

@@ -48,7 +48,7 @@ module _ {D : Type 0} (state : D → DeviceState) where
   -- ---- a commit
   pub commits_none : (h : LogState D) → IsLawful (state h.device) → h.halted ≡ false → h.saved ≡ true → Commits state h h
   commits_none h lawful running all = record {
-    carries = carries_none (state h.device);
+    carries = carries_none;
     was_running = running;
     running = running;
     number = subst (λ (saved : Bool). h.number ≡ cond saved h.number (h.number + 1)) (sym all) refl;
@@ -58,13 +58,12 @@ module _ {D : Type 0} (state : D → DeviceState) where
     no_failure = refl;
     holds = λ k m0 m keeps is map. (k, subst (λ (x : LogMap). Holds state h k x m) (is.nothing_new all) is);
     left = λ k m0 m keeps is map.
-        subst (λ (x : LogMap). AllLeft (state h.device) (λ c. StandsOn k.segments c x)) (is.nothing_new all)
-        (acknowledged state h k m0 m is);
+        subst (λ (x : LogMap). AllLeft (state h.device) (λ c. StandsOn k.segments c x)) (is.nothing_new all) (acknowledged state is);
     moment = (keeps_none state h lawful running).moment;
   }
 
-  pub commits_log : (h h' : LogState D) → h.halted ≡ false → h.saved ≡ false → Saves state h h' → Commits state h h'
-  commits_log h h' was off s = record {
+  pub commits_log : {h h' : LogState D} → h.halted ≡ false → h.saved ≡ false → Saves state h h' → Commits state h h'
+  commits_log {h} {h'} was off s = record {
     carries = s.carries;
     was_running = was;
     running = s.running;
@@ -79,26 +78,26 @@ module _ {D : Type 0} (state : D → DeviceState) where
   }
 
   -- ---- room
-  pub readies_none : (h : LogState D) → IsLawful (state h.device) → h.halted ≡ false → Readies state h h
-  readies_none h lawful running = record {
-    room = makes_none state h lawful running;
+  pub readies_none : {h : LogState D} → IsLawful (state h.device) → h.halted ≡ false → Readies state h h
+  readies_none {h} lawful running = record {
+    room = makes_none state lawful running;
     spent = omega arith;
     able = λ k m0 m keeps may. (k, m0, may);
   }
 
-  pub readies_saves : (h h' : LogState D) → h.saved ≡ false → Saves state h h' → h'.totals ≡ h.totals → Readies state h h'
-  readies_saves h h' off s totals =
-      let ready = readied_saves state h h' off s totals in
+  pub readies_saves : {h h' : LogState D} → h.saved ≡ false → Saves state h h' → h'.totals ≡ h.totals → Readies state h h'
+  readies_saves {h} {h'} off s totals =
+      let ready = readied_saves state off s totals in
       let size = s.segments in
       let rose = s.number in
       let due : commits_due h ≡ 1 = ap (λ (all : Bool). cond {A = ℕ} all 0 1) off in
       let none : commits_due h' ≡ 0 = ap (λ (all : Bool). cond {A = ℕ} all 0 1) s.saved in
       record {
         room = record {
-          keeps = keeps_weaker state h h' _ (most_checkpoints h) ready.keeps (omega arith);
+          keeps = keeps_weaker state ready.keeps (omega arith);
           unsaved = λ never. absurd (let all = s.saved in cc);
           all = λ e. inr s.holds;
-          rest = λ e rest. rest_saves state h h' s;
+          rest = λ e rest. rest_saves state s;
         };
         spent = omega (arith, size, rose, due, none);
         able = ready.room;
@@ -111,8 +110,8 @@ module _ {D : Type 0} (state : D → DeviceState) where
       let over = one.holds k m0 m (after.kept_before keeps) is map in
       all over.checkpoint over.acknowledged m keeps over.holds map
 
-  keeps_numbered : (a b : LogState D) (x y : ℕ) → KeepsMap state a b x → b.number ≤ a.number + y → KeepsMap state a b y
-  keeps_numbered a b x y one few = record {
+  keeps_numbered : (a b : LogState D) (x : ℕ) {y : ℕ} → KeepsMap state a b x → b.number ≤ a.number + y → KeepsMap state a b y
+  keeps_numbered a b x one few = record {
     carries = one.carries;
     running = one.running;
     later = one.later;
@@ -125,8 +124,8 @@ module _ {D : Type 0} (state : D → DeviceState) where
     moment = one.moment;
   }
 
-  halts_numbered : (a b : LogState D) (x y : ℕ) → HaltsLater state a b x → b.number ≤ a.number + y → HaltsLater state a b y
-  halts_numbered a b x y one few = record {
+  halts_numbered : (a b : LogState D) (x : ℕ) {y : ℕ} → HaltsLater state a b x → b.number ≤ a.number + y → HaltsLater state a b y
+  halts_numbered a b x one few = record {
     carries = one.carries;
     halted = one.halted;
     later = one.later;
@@ -137,19 +136,18 @@ module _ {D : Type 0} (state : D → DeviceState) where
   }
 
   -- ---- behind a commit, or nothing
-  module _ (a b c : LogState D) (ready : Readies state a b) where
+  module _ {a b c : LogState D} (ready : Readies state a b) where
     pub room_then : MakesRoom state b c → MakesRoom state a c
     room_then two =
         let number = two.keeps.number in
         let spent = ready.spent in
         record {
-          keeps = keeps_numbered a c _ (most_checkpoints a) (keeps_then state a b c _ ready.room.keeps _ two.keeps)
-              (omega (arith, number, spent));
+          keeps = keeps_numbered a c _ (keeps_then state c ready.room.keeps two.keeps) (omega (arith, number, spent));
           unsaved = λ e.
               (let second = two.unsaved e in let first = ready.room.unsaved second.0 in (first.0, stays_then D a b c first.1 second.1));
           all = λ e. ⊎_elim
               (λ (was : b.saved ≡ true). ⊎_elim (λ (first : a.saved ≡ true). inl first)
-              (λ (all : Acknowledges state a b). inr (acknowledges_still state a b c _ all two.keeps)) (ready.room.all was))
+              (λ (all : Acknowledges state a b). inr (acknowledges_still state a c all two.keeps)) (ready.room.all was))
               (λ (all : Acknowledges state b c). inr (acknowledges_before a b c _ ready.room.keeps two.keeps.carries all))
               (two.all e);
           rest = λ e rest. two.rest e (λ was. ready.room.rest was rest);
@@ -159,7 +157,7 @@ module _ {D : Type 0} (state : D → DeviceState) where
     halts_after halts =
         let number = halts.number in
         let spent = ready.spent in
-        halts_numbered a c _ (most_checkpoints a) (halts_then state a b c _ ready.room.keeps _ halts) (omega (arith, number, spent))
+        halts_numbered a c _ (halts_then state c ready.room.keeps halts) (omega (arith, number, spent))
 
     pub lacks_after : LacksRoom state b c → LacksRoom state a c
     lacks_after lacks = record {
@@ -171,19 +169,19 @@ module _ {D : Type 0} (state : D → DeviceState) where
     pub fails_after : FailsRoom state b c → FailsRoom state a c
     fails_after fails = record {
       makes = room_then fails.makes;
-      fault = fault_then state a b c _ ready.room.keeps fails.makes.keeps.carries fails.fault;
+      fault = fault_then state c ready.room.keeps fails.makes.keeps.carries fails.fault;
     }
 
   -- a quarter of the segments is enough for a commit
-  pub cannot_lack : (h after : LogState D) → IsLawful (state after.device) → MakesRoom state h after → HasQuarter after
+  pub cannot_lack : {h after : LogState D} → IsLawful (state after.device) → MakesRoom state h after → HasQuarter after
       → after.clean < after.segments / 8 + 8 → MayNotMakeRoom state h after
-  cannot_lack h after lawful room quarter few k m0 m keeps may =
+  cannot_lack {after} lawful room quarter few k m0 m keeps may =
       let over = room.keeps.holds k m0 m keeps may.holds may.shown in
-      let least = (segment_count state after over.checkpoint over.acknowledged m lawful over.holds).least in
+      let least = (segment_count state lawful over.holds).least in
       omega (arith, quarter, few, least)
 
   -- ---- what room is to the log map
-  module _ (h h' : LogState D) (room : MakesRoom state h h') where
+  module _ {h h' : LogState D} (room : MakesRoom state h h') where
     pub saves_few : SavesFew h h'
     saves_few = record {
       number = room.keeps.later;
@@ -191,9 +189,10 @@ module _ {D : Type 0} (state : D → DeviceState) where
       ready = λ ready e. (let none = room.unsaved e in none.1.clean (ready none.0));
     }
 
-    pub room_holds : (k : CheckpointValue) (m0 m : LogMap) → (state h'.device).keeps_model → Holds state h k m0 m → IsLogMap (dropped m)
+    pub room_holds : (k : CheckpointValue) {m0 : LogMap} (m : LogMap) → (state h'.device).keeps_model → Holds state h k m0 m
+        → IsLogMap (dropped m)
         → HoldsNext state k.segments m0 m h' m
-    room_holds k m0 m keeps is map =
+    room_holds k {m0} m keeps is map =
         let over = room.keeps.holds k m0 m keeps is map in
         record {
           checkpoint = over.checkpoint;
@@ -210,27 +209,24 @@ module _ {D : Type 0} (state : D → DeviceState) where
     before = alters.looks.carries.kept_before
 
     -- a stop as it is staged leaves what is acknowledged
-    still_either : (segments : ℕ) (m0 m : LogMap) → HoldsNext state segments m0 m mid m
+    still_either : {segments : ℕ} (m0 m : LogMap) → HoldsNext state segments m0 m mid m
         → LeavesOnly (state mid.device) (state h'.device) (IsSaved state segments m0 m)
-    still_either segments m0 m over =
-        weaker (state mid.device) (state h'.device) (λ x. StandsOn over.checkpoint.segments x over.acknowledged)
-        (IsSaved state segments m0 m)
+    still_either {segments} m0 m over =
+        weaker (λ x. StandsOn over.checkpoint.segments x over.acknowledged) (IsSaved state segments m0 m)
         (λ x there.
         let stands : StandsOn segments x over.acknowledged = subst (λ (l : ℕ). StandsOn l x over.acknowledged) over.same there in ⊎_elim
         (λ (old : over.acknowledged ≡ m0). inl (subst (λ (l : LogMap). StandsOn segments x l) old stands))
         (λ (new : over.acknowledged ≡ dropped m). inr (subst (λ (l : LogMap). StandsOn segments x l) new stands))
-        over.either)
-        (looks_leave state mid (state h'.device) over.checkpoint over.acknowledged m lawful alters.looks over.holds)
+        over.either) (looks_leave state m lawful alters.looks over.holds)
 
     moments : LeavesSaved state h h'
     moments k m0 m keeps is map =
-        joined (state h.device) (state mid.device) (state h'.device) (IsSaved state k.segments m0 m) (IsSaved state k.segments m0 m)
-        (IsSaved state k.segments m0 m)
+        joined (IsSaved state k.segments m0 m) (IsSaved state k.segments m0 m) (IsSaved state k.segments m0 m)
         (room.keeps.moment k m0 m (before keeps) is map)
-        (still_either k.segments m0 m (room_holds h mid room k m0 m (before keeps) is map)) (λ x p. p) (λ x p. p)
+        (still_either m0 m (room_holds room k m (before keeps) is map)) (λ x p. p) (λ x p. p)
 
     carried : Carries (state h.device) (state h'.device)
-    carried = carries_then (state h.device) (state mid.device) (state h'.device) room.keeps.carries alters.looks.carries
+    carried = carries_then room.keeps.carries alters.looks.carries
 
     enough_after : HasClean mid → HasClean h'
     enough_after enough =
@@ -240,7 +236,7 @@ module _ {D : Type 0} (state : D → DeviceState) where
     saved_after : HasClean mid → SavesFew h h'
     saved_after enough =
         let same = alters.number in
-        let few = saves_few h mid room in
+        let few = saves_few room in
         let later = few.number in
         let most = few.few in
         record {
@@ -295,13 +291,13 @@ module _ {D : Type 0} (state : D → DeviceState) where
         omega (arith, more, before)
 
   -- no room is made
-  pub declines_room : (h h' : LogState D) (d : Draft) → h.halted ≡ false → MakesRoom state h h' → Declines state h h' d
-  declines_room h h' d running room = record {
+  pub declines_room : {h h' : LogState D} (d : Draft) → h.halted ≡ false → MakesRoom state h h' → Declines state h h' d
+  declines_room {h} {h'} d running room = record {
     carries = room.keeps.carries;
     halted = room.keeps.running ∙ sym running;
     segments = room.keeps.segments;
-    saves = saves_few h h' room;
-    holds = λ k m0 m keeps is fits map. room_holds h h' room k m0 m keeps is map;
+    saves = saves_few room;
+    holds = λ k m0 m keeps is fits map. room_holds room k m keeps is map;
     moment = room.keeps.moment;
   }
 
@@ -309,18 +305,18 @@ module _ {D : Type 0} (state : D → DeviceState) where
   room_fault h h' d failed k m0 m keeps is fits map = failed k m0 m keeps is map
 
   -- ---- a draft that memory has no room for, though what could be saved is saved
-  pub asks_much : (h h' : LogState D) (d : Draft) → MakesRoom state h h' → (h.saved ≡ true → IsAtRest h)
+  pub asks_much : {h h' : LogState D} (d : Draft) → MakesRoom state h h' → (h.saved ≡ true → IsAtRest h)
       → (h'.saved ≡ false → h'.waiting + asked_by d ≤ MOST_UNSAVED) → MOST_UNSAVED < h'.waiting + asked_by d → MOST_UNSAVED < asked_by d
-  asks_much h h' d makes rest room much = by_flag h'.saved refl
+  asks_much {h'} d makes rest room much = by_flag h'.saved refl
     where
       by_flag : (flag : Bool) → h'.saved ≡ flag → MOST_UNSAVED < asked_by d
       by_flag true e = let none = (makes.rest e rest).nothing.blocks in omega (arith, none, much)
       by_flag false e = let le = room e in absurd (omega (arith, le, much))
 
 -- what holds of any error holds of this one
-pub where_err : {T E : Type 0} (r : Result T E) (P : Type 0) (e : E) → r ≡ Err e → OnErr r P → P
-where_err (Ok x) P e is p = absurd (cc)
-where_err (Err f) P e is p = p
+pub where_err : {T E : Type 0} (r : Result T E) (P : Type 0) {e : E} → r ≡ Err e → OnErr r P → P
+where_err (Ok x) P is p = absurd (cc)
+where_err (Err f) P is p = p
 
 -- what holds anyhow holds of a success
 pub where_ok : {T E : Type 0} (r : Result T E) (P : Type 0) → P → OnOk r P

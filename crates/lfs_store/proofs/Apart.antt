@@ -42,25 +42,26 @@ file_apart x n ne = record {
 
 -- ---- drafts without a header or a block
 
-pub edits_are : (x y : Loss) (hs hs' : List HeaderEdit) (bs bs' : List BlockEdit) (m : LogMap) → x ≡ y → hs ≡ hs' → bs ≡ bs'
+pub edits_are : {x y : Loss} {hs : List HeaderEdit} (hs' : List HeaderEdit) {bs bs' : List BlockEdit} (m : LogMap) → x ≡ y → hs ≡ hs'
+    → bs ≡ bs'
     → after_edits x hs bs m ≡ after_edits y hs' bs' m
-edits_are x y hs hs' bs bs' m loss headers blocks =
+edits_are {y} {hs} hs' {bs} m loss headers blocks =
     ap (λ (l : Loss). after_edits l hs bs m) loss ∙ ap (λ (es : List HeaderEdit). after_edits y es bs m) headers
     ∙ ap (λ (es : List BlockEdit). after_edits y hs' es m) blocks
 
 pub no_change : (c : Changes) (m : LogMap) → IsNoChange c → staged c m ≡ m
-no_change c m none = edits_are c.loss Nothing c.headers.items [] c.blocks.items [] m none.loss none.headers none.blocks
+no_change c m none = edits_are [] m none.loss none.headers none.blocks
 
 -- what is lost alone
 fits_loss : (x : Loss) (m : LogMap) → FitsLoss m x → FitEdits m x [] []
 fits_loss x m fits = record { fits_loss = fits; headers_apart = tt; blocks_apart = tt; fit_headers = tt; fit_blocks = tt; within = tt }
 
-pub fits_lost : (c : Changes) (x : Loss) (m : LogMap) → c.loss ≡ x → c.headers.items ≡ [] → c.blocks.items ≡ [] → FitsLoss m x
+pub fits_lost : (c : Changes) {x : Loss} (m : LogMap) → c.loss ≡ x → c.headers.items ≡ [] → c.blocks.items ≡ [] → FitsLoss m x
     → FitsBatch m c
-fits_lost c x m loss headers blocks fits =
+fits_lost c {x} m loss headers blocks fits =
     subst (λ (l : Loss). FitEdits m l c.headers.items c.blocks.items) (sym loss)
     (subst (λ (hs : List HeaderEdit). FitEdits m x hs c.blocks.items) (sym headers)
     (subst (λ (bs : List BlockEdit). FitEdits m x [] bs) (sym blocks) (fits_loss x m fits)))
 
 pub draft_empty : (c : Changes) (m : LogMap) → IsNoChange c → (staged c m ≡ m) × FitsBatch m c
-draft_empty c m none = (no_change c m none, fits_lost c Nothing m none.loss none.headers none.blocks tt)
+draft_empty c m none = (no_change c m none, fits_lost c m none.loss none.headers none.blocks tt)

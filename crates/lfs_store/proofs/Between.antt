@@ -23,33 +23,35 @@ use Rattle.lfs_files.proofs.FilesCompose.{still_apart, writes_behind}
 use Rattle.lfs_store.proofs.Recountings.{recounted, same_high}
 use Rattle.lfs_store.proofs.StoreSeen.{seen_read}
 
-pub removed_file : {S D : Type 0} (s' : FilesState S D) (m m' : LogMap) (n : ℕ) → HasRemoved s' m m' n → HasChanged s' m m' n 0 16624
-removed_file s' m m' n gone = record {
+pub removed_file : {S D : Type 0} {s' : FilesState S D} (m : LogMap) {m' : LogMap} {n : ℕ} → HasRemoved s' m m' n
+    → HasChanged s' m m' n 0 16624
+removed_file m gone = record {
   map = gone.map;
   has = gone.has;
   only = record { headers = gone.file.headers; blocks = λ k i ne. gone.file.blocks k i ne; version = gone.file.version };
   around = λ i lt out. ⊎_elim (λ (low : i < 0). absurd (omega (arith, low))) (λ (high : 16624 ≤ i). absurd (omega (arith, lt, high))) out;
 }
 
-pub written_file : {S D : Type 0} (s' : FilesState S D) (m m' : LogMap) (n : ℕ) (h h' : Header) (at : ℕ) (w : List ℕ) (to : ℕ)
+pub written_file : {S D : Type 0} {s' : FilesState S D} (m : LogMap) {m' : LogMap} {n : ℕ} {h h' : Header} {at : ℕ} {w : List ℕ} {to : ℕ}
     → to ≡ div_ceil (at + length w) 512 → HasWritten s' m m' n h h' at w → HasChanged s' m m' n (at / 512) to
-written_file s' m m' n h h' at w to end is = record {
+written_file m {at} end is = record {
   map = is.map;
   has = is.has;
   only = is.file.only;
   around = λ i lt out. is.around i (subst (λ (e : ℕ). (i < at / 512) ⊎ (e ≤ i)) end out);
 }
 
-pub sized_file : {S D : Type 0} (s' : FilesState S D) (m m' : LogMap) (n : ℕ) (h h' : Header) (len : ℕ) → HasSized s' m m' n h h' len
+pub sized_file : {S D : Type 0} {s' : FilesState S D} (m : LogMap) {m' : LogMap} {n : ℕ} {h h' : Header} {len : ℕ}
+    → HasSized s' m m' n h h' len
     → HasChanged s' m m' n (len / 512) 16624
-sized_file s' m m' n h h' len is = record {
+sized_file m {len} is = record {
   map = is.map;
   has = is.has;
   only = is.file.only;
   around = λ i lt out. ⊎_elim (λ (low : i < len / 512). is.file.below i low) (λ (high : 16624 ≤ i). absurd (omega (arith, lt, high))) out;
 }
 
-module _ {D : Type 0} (state : D → DeviceState) (a b c d : Store D) (first : ReadsStore state a b) (last : OnlyCounts state c d) where
+module _ {D : Type 0} {state : D → DeviceState} {a b c d : Store D} (first : ReadsStore state a b) (last : OnlyCounts state c d) where
   abbrev A : FilesState StagedLog Draft
   A = files_of state a
 
@@ -69,8 +71,8 @@ module _ {D : Type 0} (state : D → DeviceState) (a b c d : Store D) (first : R
   after : files.Reads C (state_of state d.log d.draft c.drafted)
   after = seen_read state c (record d { drafted = c.drafted }) record { log = last.reads; draft = last.draft; drafted = refl }
 
-  pub removes_between : (n : ℕ) → Removes B C n → Removes A E n
-  removes_between n is = record {
+  pub removes_between : {n : ℕ} → Removes B C n → Removes A E n
+  removes_between is = record {
     headers = after.headers ∙ is.headers;
     blocks = after.blocks ∙ is.blocks;
     apart = λ k ne. let apart = is.apart k ne in
@@ -80,9 +82,9 @@ module _ {D : Type 0} (state : D → DeviceState) (a b c d : Store D) (first : R
         record { map = gone.map; has = after.has m gone.map gone.has; file = gone.file; keeps = gone.keeps };
   }
 
-  pub writes_between : (n : ℕ) (head : Header) (at : ℕ) (w : List ℕ) → Writes B C n head at w → Writes A E n head at w
-  writes_between n head at w writes =
-      let is = writes_behind A B C n head at w before writes in
+  pub writes_between : {n : ℕ} {head : Header} {at : ℕ} {w : List ℕ} → Writes B C n head at w → Writes A E n head at w
+  writes_between {n} {head} {at} {w} writes =
+      let is = writes_behind A B n before writes in
       record {
         lost = λ x. after.lost x ∙ is.lost x;
         headers = let more = is.headers in let same = after.headers in omega (arith, more, same);
@@ -92,15 +94,15 @@ module _ {D : Type 0} (state : D → DeviceState) (a b c d : Store D) (first : R
             record { map = now.map; has = after.has m now.map now.has; file = now.file; around = now.around };
       }
 
-  pub asked_between : (w : List ℕ) (most : ℕ) → (IsLoneWrite B w → C.asked ≤ most) → IsLoneWrite A w → E.asked ≤ most
-  asked_between w most asked lone =
+  pub asked_between : {w : List ℕ} (most : ℕ) → (IsLoneWrite B w → C.asked ≤ most) → IsLoneWrite A w → E.asked ≤ most
+  asked_between most asked lone =
       let headers = lone.headers in
       let same = before.headers in
       subst (λ (k : ℕ). k ≤ most) (sym after.asked)
       (asked record { headers = omega (arith, headers, same); blocks = before.blocks ∙ lone.blocks; few = lone.few })
 
-  pub sets_between : (n : ℕ) (head : Header) (len : ℕ) → SetsLen B C n head len → SetsLen A E n head len
-  sets_between n head len is = record {
+  pub sets_between : {n : ℕ} {head : Header} {len : ℕ} → SetsLen B C n head len → SetsLen A E n head len
+  sets_between is = record {
     cut = λ less x. after.lost x ∙ is.cut less x;
     kept = λ more x. after.lost x ∙ is.kept more x;
     headers = let few = is.headers in let same = after.headers in omega (arith, few, same);
@@ -110,14 +112,14 @@ module _ {D : Type 0} (state : D → DeviceState) (a b c d : Store D) (first : R
         record { map = now.map; has = after.has m now.map now.has; file = now.file };
   }
 
-  pub shrinks_between : (n : ℕ) (head : Header) (len : ℕ) → Shrinks B C n head len → Shrinks A E n head len
-  shrinks_between n head len is = record {
+  pub shrinks_between : {n : ℕ} {head : Header} {len : ℕ} → Shrinks B C n head len → Shrinks A E n head len
+  shrinks_between {n} is = record {
     lost = λ x. after.lost x ∙ is.lost x ∙ before.lost x;
     headers = let more = is.headers in let was = before.headers in let same = after.headers in omega (arith, more, was, same);
     blocks = let more = is.blocks in let was = before.blocks in let same = after.blocks in omega (arith, more, was, same);
     fits = λ m m' has fits takes. after.fits m (is.fits m m' (before.has m m' has) (before.fits m fits) record {
       there = takes.there;
-      apart = still_apart A B n before takes.apart;
+      apart = still_apart before takes.apart;
       within = takes.within;
       header = takes.header;
     });
@@ -126,11 +128,11 @@ module _ {D : Type 0} (state : D → DeviceState) (a b c d : Store D) (first : R
   }
 
   -- ---- its totals
-  pub counts_between : (n from to : ℕ) (found : Measure) → 1 ≤ n → n ≤ 4095 → from ≤ to → to ≤ 16624
+  pub counts_between : {n from to : ℕ} {found : Measure} → 1 ≤ n → n ≤ 4095 → from ≤ to → to ≤ 16624
       → Measures state a.log b.log a.draft.changes n from to found → RedraftsUncounted state b c
       → Remeasures state c.log d.log c.draft.changes n from to found c.drafted d.drafted
       → ((m m' : LogMap) → (state c.log.device).keeps_model → B.has m m' → HasChanged C m m' n from to) → files.Counts A E
-  counts_between n from to found some few order low measured next again changes m x y keeps has has' whole whole' are =
+  counts_between {n} {from} {to} {found} some few order low measured next again changes m x y keeps has has' whole whole' are =
       let keeps_c = last.reads.looks.carries.kept_before keeps in
       let keeps_b = next.reads.looks.carries.kept_before keeps_c in
       let change = changes m x keeps_c (before.has m x has) in
@@ -138,9 +140,8 @@ module _ {D : Type 0} (state : D → DeviceState) (a b c d : Store D) (first : R
       let same : change.map ≡ y = (after.has m change.map now).draft ∙ sym has'.draft in
       let kept : IsLogMap change.map = subst IsLogMap (sym same) whole' in
       let was : AreTotals x c.drafted = subst (λ (t : BlockTotals). AreTotals x t) (sym (next.drafted ∙ first.drafted)) are in
-      subst (λ (z : LogMap). AreTotals z d.drafted) same
-      (recounted x change.map n from to c.drafted d.drafted found again.after change.only some few order low
-      (λ i out. ⊎_elim (λ (lt : i < 16624). change.around i lt out) (λ (high : 16624 ≤ i). same_high x change.map n i whole kept high)
+      subst (λ (z : LogMap). AreTotals z d.drafted) same (recounted x n change.only some few order low
+      (λ i out. ⊎_elim (λ (lt : i < 16624). change.around i lt out) (λ (high : 16624 ≤ i). same_high x n i whole kept high)
       (cases_lt i 16624))
       (subst (λ (z : LogMap). HasMeasure z n from to found.data_blocks found.meta_blocks) (sym has.draft)
       (measured has.checkpoint has.acknowledged m keeps_b has.holds (subst IsLogMap has.draft whole)))

@@ -38,31 +38,31 @@ use Rattle.lfs_store.proofs.Writings.{block_read, block_put, header_put, still_h
 
 -- ---- what such drafts make of a log map
 
-only_cut : (c : Changes) (n len : ℕ) (m : LogMap) → DraftsCut c n len → staged c m ≡ cut_from n (div_ceil len 512) m
-only_cut c n len m is =
-    edits_are c.loss (Blocks is.lost.cut) c.headers.items [] c.blocks.items [] m is.lost.loss is.headers is.blocks
-    ∙ ap₂ (λ (l first : ℕ). cut_from l first m) is.lost.number is.lost.start
+only_cut : (c : Changes) {n len : ℕ} (m : LogMap) → DraftsCut c n len → staged c m ≡ cut_from n (div_ceil len 512) m
+only_cut c m is =
+    edits_are [] m is.lost.loss is.headers is.blocks ∙ ap₂ (λ (l first : ℕ). cut_from l first m) is.lost.number is.lost.start
 
-pub drafts_cut : (old new : Changes) (n len : ℕ) (cut : Cut) → IsNoChange old → new.headers ≡ old.headers → new.blocks ≡ old.blocks
+pub drafts_cut : {old new : Changes} {n len : ℕ} (cut : Cut) → IsNoChange old → new.headers ≡ old.headers → new.blocks ≡ old.blocks
     → new.loss ≡ Blocks cut → cut.number ≡ n → cut.first ≡ div_ceil len 512 → DraftsCut new n len
-drafts_cut old new n len cut none headers blocks loss number first = record {
+drafts_cut cut none headers blocks loss number first = record {
   lost = record { cut = cut; loss = loss; number = number; start = first };
   headers = ap (λ v. v.items) headers ∙ none.headers;
   blocks = ap (λ v. v.items) blocks ∙ none.blocks;
 }
 
-far_cut : (c : Changes) (n len first : ℕ) (m : LogMap) → DraftsCut c n len → div_ceil len 512 ≡ first → CutSoFar m (staged c m) n first
-far_cut c n len first m is at =
+far_cut : (c : Changes) (n : ℕ) {len : ℕ} (first : ℕ) (m : LogMap) → DraftsCut c n len → div_ceil len 512 ≡ first
+    → CutSoFar m (staged c m) n first
+far_cut c n {len} first m is at =
     subst (λ (l : ℕ). CutSoFar m (staged c m) n l) at
-    (subst (λ (a : LogMap). CutSoFar m a n (div_ceil len 512)) (sym (only_cut c n len m is)) (cut_begins m n (div_ceil len 512)))
+    (subst (λ (a : LogMap). CutSoFar m a n (div_ceil len 512)) (sym (only_cut c m is)) (cut_begins m n (div_ceil len 512)))
 
 -- ---- they fit
 
-cut_header : (c : Changes) (n len : ℕ) (m : LogMap) → DraftsCut c n len → (staged c m).header n ≡ m.header n
-cut_header c n len m is = ap (λ (a : LogMap). a.header n) (only_cut c n len m is)
+cut_header : {c : Changes} {n len : ℕ} (m : LogMap) → DraftsCut c n len → (staged c m).header n ≡ m.header n
+cut_header {c} {n} {len} m is = ap (λ (a : LogMap). a.header n) (only_cut c m is)
 
-cut_fits : (c : Changes) (n len : ℕ) (m : LogMap) → DraftsCut c n len → FitsBatch m c
-cut_fits c n len m is = fits_lost c (Blocks is.lost.cut) m is.lost.loss is.headers is.blocks tt
+cut_fits : (c : Changes) {n len : ℕ} (m : LogMap) → DraftsCut c n len → FitsBatch m c
+cut_fits c m is = fits_lost c m is.lost.loss is.headers is.blocks tt
 
 -- the leaf above the last block, which stays in part, stays
 leaf_stays : (x n len : ℕ) → 0 < len % 512 → is_past x (div_ceil len 512) (parent (Data n (len / 512))) ≡ false
@@ -77,7 +77,7 @@ leaf_stays x n len odd =
 
 cut_takes : (c : Changes) (n len : ℕ) (m : LogMap) → 0 < len % 512 → DraftsCut c n len → HasInode m n → TakesBlock c m n (len / 512)
 cut_takes c n len m odd is there = record {
-  there = (there.0, cut_header c n len m is ∙ there.1);
+  there = (there.0, cut_header m is ∙ there.1);
   apart = ap (λ (x : Loss). is_lost x (parent (Data n (len / 512)))) is.lost.loss ∙ ap (λ (first : ℕ).
       is_past is.lost.cut.number first (parent (Data n (len / 512)))) is.lost.start ∙ leaf_stays is.lost.cut.number n len odd;
   within = λ none. (let never : None ≡ Some there.0 = sym none ∙ there.1 in absurd (cc));
@@ -85,10 +85,10 @@ cut_takes c n len m odd is there = record {
 
 -- ---- a header that says so
 
-pub sized : (m a b : LogMap) (n : ℕ) (head : Header) (len : ℕ) → len < head.size → CutBlocks m a n len
+pub sized : (m : LogMap) {a b : LogMap} (n : ℕ) (head : Header) {len : ℕ} → len < head.size → CutBlocks m a n len
     → b ≡ with_header a n (Some (as_header (resized head len))) → SizesFile m b n head (resized head len) len
-sized m a b n head len less cut is =
-    let with_it = header_put a b n (resized head len) is in
+sized m {a} {b} n head {len} less cut is =
+    let with_it = header_put a n (resized head len) is in
     let done = cut_blocks_heads m a b n len (Some (as_header (resized head len))) cut with_it in
     record {
       shorter = λ lt. cut_is_done m b n len (as_header head) (as_header (resized head len)) done refl;
@@ -102,43 +102,43 @@ sized m a b n head len less cut is =
 module _ {D : Type 0} (state : D → DeviceState) where
   -- ---- the blocks of a file end at a length
 
-  pub cuts_even : (h h' : LogState D) (c : Changes) (n len : ℕ) → len % 512 ≡ 0 → DraftsCut c n len → CutsDraft state h h' c n len
-  cuts_even h h' c n len even is = record {
+  pub cuts_even : {h h' : LogState D} {c : Changes} {n len : ℕ} → len % 512 ≡ 0 → DraftsCut c n len → CutsDraft state h h' c n len
+  cuts_even {c} {n} {len} even is = record {
     loss = is.lost;
     headers = is.headers;
     blocks = let none = ap length is.blocks in omega (arith, none);
-    header = λ m. cut_header c n len m is;
-    fits = λ m there. cut_fits c n len m is;
-    file = λ k m0 m keeps holds. cut_between m (staged c m) n len even (far_cut c n len (len / 512) m is (omega (arith, even)));
+    header = λ m. cut_header m is;
+    fits = λ m there. cut_fits c m is;
+    file = λ k m0 m keeps holds. cut_between m (staged c m) n len even (far_cut c n (len / 512) m is (omega (arith, even)));
   }
 
-  pub cuts_none : (h h' : LogState D) (c : Changes) (n len : ℕ) (out : List ℕ) (found : Bool) → found ≡ false → 0 < len % 512
+  pub cuts_none : (h h' : LogState D) {c : Changes} {n len : ℕ} (out : List ℕ) (found : Bool) → found ≡ false → 0 < len % 512
       → DraftsCut c n len → ReadsBlock state h h' c n (len / 512) out found
       → CutsDraft state h h' c n len
-  cuts_none h h' c n len out found off odd is answer = record {
+  cuts_none h h' {c} {n} {len} out found off odd is answer = record {
     loss = is.lost;
     headers = is.headers;
     blocks = let none = ap length is.blocks in omega (arith, none);
-    header = λ m. cut_header c n len m is;
-    fits = λ m there. cut_fits c n len m is;
-    file = λ k m0 m keeps holds. cut_none m (staged c m) n len odd (far_cut c n len (len / 512 + 1) m is (omega (arith, odd)))
+    header = λ m. cut_header m is;
+    fits = λ m there. cut_fits c m is;
+    file = λ k m0 m keeps holds. cut_none m (staged c m) n len odd (far_cut c n (len / 512 + 1) m is (omega (arith, odd)))
         (subst (λ (stored : Bool). BlockAnswer (staged c m) n (len / 512) out stored) off (answer k m0 m keeps holds));
   }
 
-  pub cuts_inside : (h h' : LogState D) (c c' : Changes) (n len : ℕ) (old new : List ℕ) (found : Bool) → 0 < len % 512 → DraftsCut c n len
+  pub cuts_inside : {h h' : LogState D} {c c' : Changes} {n len : ℕ} {old new : List ℕ} (found : Bool) → 0 < len % 512 → DraftsCut c n len
       → length old ≡ 512 → length new ≡ 512 → (IsFalse found → old ≡ zeros 512)
       → ReadsBlock state h h' c n (len / 512) old found → CutsTail (len % 512) old new → PutsBlock c c' n (len / 512) new
       → CutsDraft state h h' c' n len
-  cuts_inside h h' c c' n len old new found odd is long stays blank answer cuts puts = record {
+  cuts_inside {c} {c'} {n} {len} {old} {new} found odd is long stays blank answer cuts puts = record {
     loss = record { cut = is.lost.cut; loss = puts.loss ∙ is.lost.loss; number = is.lost.number; start = is.lost.start };
     headers = ap (λ v. v.items) puts.headers ∙ is.headers;
     blocks = let none = ap length is.blocks in let some = puts.few in omega (arith, none, some);
-    header = λ m. ap (λ (a : LogMap). a.header n) (puts.map m) ∙ cut_header c n len m is;
-    fits = λ m there. puts.fits m (cut_fits c n len m is) (cut_takes c n len m odd is there);
+    header = λ m. ap (λ (a : LogMap). a.header n) (puts.map m) ∙ cut_header m is;
+    fits = λ m there. puts.fits m (cut_fits c m is) (cut_takes c n len m odd is there);
     file = λ k m0 m keeps holds.
-        cut_inside m (staged c m) (staged c' m) n len old new odd (far_cut c n len (len / 512 + 1) m is (omega (arith, odd)))
-        (block_read (staged c m) n (len / 512) old found long blank (answer k m0 m keeps holds))
-        cuts stays (block_put (staged c m) (staged c' m) n (len / 512) (stored new) (puts.map m));
+        cut_inside m (staged c m) (staged c' m) n len old new odd (far_cut c n (len / 512 + 1) m is (omega (arith, odd)))
+        (block_read (staged c m) n (len / 512) found long blank (answer k m0 m keeps holds))
+        cuts stays (block_put (staged c m) n (len / 512) (stored new) (puts.map m));
   }
 
   -- ---- and its header says so
@@ -167,9 +167,8 @@ module _ {D : Type 0} (state : D → DeviceState) where
           fits));
       file = λ m m' keeps has. record {
         map = staged c.draft.changes m;
-        has = still_has state a c m m' (subst (Reads state a.log) (sym log) reads) has;
-        file = sized m' (staged b.draft.changes m) (staged c.draft.changes m) n head len less
-            (subst (λ (x : LogMap). CutBlocks x (staged b.draft.changes m) n len) (sym (was m m' has))
+        has = still_has state a c (subst (Reads state a.log) (sym log) reads) has;
+        file = sized m' n head less (subst (λ (x : LogMap). CutBlocks x (staged b.draft.changes m) n len) (sym (was m m' has))
             (is.file has.checkpoint has.acknowledged m (subst (λ (h : LogState D). (state h.device).keeps_model) log keeps) has.holds))
             (puts.map m);
       };
@@ -187,11 +186,11 @@ module _ {D : Type 0} (state : D → DeviceState) where
           (ap (λ (x : LogMap). x.header n) (sym has.draft) ∙ there) refl (ap (λ (x : Loss). is_lost x (Inode n)) none.loss) fits);
       file = λ m m' keeps has. record {
         map = staged c.draft.changes m;
-        has = still_has state a c m m' reads has;
+        has = still_has state a c reads has;
         file =
             file m m'
             (subst (λ (x : LogMap). IsWithHeader x n (Some (as_header (resized head len))) (staged c.draft.changes m)) (sym has.draft)
-            (header_put (staged a.draft.changes m) (staged c.draft.changes m) n (resized head len) (puts.map m)));
+            (header_put (staged a.draft.changes m) n (resized head len) (puts.map m)));
       };
     }
       where
@@ -205,6 +204,6 @@ module _ {D : Type 0} (state : D → DeviceState) where
               (with_it.block n);
           below = λ i lt. with_it.block n i;
           only = record { headers = with_it.others; blocks = λ k i ne. with_it.block k i; version = with_it.version };
-          whole = λ whole. same_whole m' (staged c.draft.changes m) n (with_it.block n) whole;
+          whole = λ whole. same_whole (staged c.draft.changes m) (with_it.block n) whole;
           header = with_it.own;
         }

@@ -111,9 +111,9 @@ module _ (es : List BlockEdit) (n i p : ℕ) (is : LastBlock es n i p) where
   edit_there e own = ap (λ (fs : List BlockEdit). get_or fs 0 e) (sym is.there ∙ drop_more es p e is.inside) ∙ own
 
 -- ---- the search for it, from the end on
-pub found_block : (es : List BlockEdit) (n i p : ℕ) (e : BlockEdit) → 0 < p → p ≤ length es → NoBlock n i (drop p es)
+pub found_block : {es : List BlockEdit} {n i : ℕ} (p : ℕ) {e : BlockEdit} → 0 < p → p ≤ length es → NoBlock n i (drop p es)
     → e ≡ get_or es (p - 1) e → IsBlock n i e → LastBlock es n i (p - 1)
-found_block es n i p e some le none own is =
+found_block {es} {n} {i} p {e} some le none own is =
     let step : p ≡ p - 1 + 1 = omega (arith, some) in
     let inside : p - 1 < length es = omega (arith, some, le) in
     record {
@@ -125,9 +125,9 @@ found_block es n i p e some le none own is =
     }
 
 -- ---- what a draft says
-pub says_block : (c : Changes) (n i p : ℕ) (e : BlockEdit) → LastBlock c.blocks.items n i p → e ≡ get_or c.blocks.items p e
+pub says_block : (c : Changes) {n i p : ℕ} {e : BlockEdit} → LastBlock c.blocks.items n i p → e ≡ get_or c.blocks.items p e
     → DraftsBlock c n i e.bytes
-says_block c n i p e is own m =
+says_block c {n} {i} {p} {e} is own m =
     last_says c.blocks.items n i p is (after_headers c.headers.items (lost c.loss m))
     ∙ ap (λ (f : BlockEdit). stored f.bytes) (edit_there c.blocks.items n i p is e (sym own))
 

@@ -44,10 +44,10 @@ headers_apart m n n' h h' ne = same_headers m _ _
     apart false false x never = refl
 
 own_header : (m : LogMap) (n : ℕ) (h : Option entry.Header) → (with_header m n h).header n ≡ h
-own_header m n h = (is_with_header m n h).own
+own_header m n h = (is_with_header m n {h = h}).own
 
 other_header : (m : LogMap) (n k : ℕ) (h : Option entry.Header) → k ≢ n → (with_header m n h).header k ≡ m.header k
-other_header m n k h ne = (is_with_header m n h).others k ne
+other_header m n k h ne = (is_with_header m n {h = h}).others k ne
 
 -- ---- lists of headers
 pub after_more : (es fs : List HeaderEdit) (m : LogMap) → after_headers (es ++ fs) m ≡ after_headers fs (after_headers es m)
@@ -78,7 +78,7 @@ header_kept [] m n = refl
 header_kept (e ∷ bs) m n = header_kept bs (after_block e m) n
 
 -- ---- the last edit of a header
-module _ (es : List HeaderEdit) (n p : ℕ) (is : LastHeader es n p) where
+module _ {es : List HeaderEdit} {n p : ℕ} (is : LastHeader es n p) where
   abbrev before : LogMap → LogMap
   before m = after_headers (take p es) m
 
@@ -116,9 +116,9 @@ module _ (es : List HeaderEdit) (n p : ℕ) (is : LastHeader es n p) where
   edit_there e own = ap (λ (fs : List HeaderEdit). get_or fs 0 e) (sym is.there ∙ drop_more es p e is.inside) ∙ own
 
 -- ---- the search for it, from the end on
-header_found : (es : List HeaderEdit) (n p : ℕ) (e : HeaderEdit) → p < length es → NoHeader n (drop (p + 1) es) → get_or es p e ≡ e
+header_found : (es : List HeaderEdit) (n : ℕ) {p : ℕ} (e : HeaderEdit) → p < length es → NoHeader n (drop (p + 1) es) → get_or es p e ≡ e
     → e.number ≡ n → LastHeader es n p
-header_found es n p e inside none own is = record {
+header_found es n {p} e inside none own is = record {
   edit = e;
   number = is;
   inside = inside;
@@ -126,20 +126,19 @@ header_found es n p e inside none own is = record {
   last = none;
 }
 
-pub found_header : (es : List HeaderEdit) (n p : ℕ) (e : HeaderEdit) → 0 < p → p ≤ length es → NoHeader n (drop p es)
+pub found_header : {es : List HeaderEdit} {n : ℕ} (p : ℕ) {e : HeaderEdit} → 0 < p → p ≤ length es → NoHeader n (drop p es)
     → e ≡ get_or es (p - 1) e → (get_or es (p - 1) e).number ≡ n → LastHeader es n (p - 1)
-found_header es n p e some le none own is =
+found_header {es} {n} p {e} some le none own is =
     let step : p ≡ p - 1 + 1 = omega (arith, some) in
-    header_found es n (p - 1) e (omega (arith, some, le)) (subst (λ (k : ℕ). NoHeader n (drop k es)) step none) (sym own)
+    header_found es n e (omega (arith, some, le)) (subst (λ (k : ℕ). NoHeader n (drop k es)) step none) (sym own)
     (ap (λ (f : HeaderEdit). f.number) own ∙ is)
 
 -- ---- what a draft says
-pub says_header : (c : Changes) (n p : ℕ) (e : HeaderEdit) → LastHeader c.headers.items n p → e ≡ get_or c.headers.items p e
+pub says_header : (c : Changes) {n p : ℕ} {e : HeaderEdit} → LastHeader c.headers.items n p → e ≡ get_or c.headers.items p e
     → DraftsHeader c n (Some e.header)
-says_header c n p e is own m =
-    header_kept c.blocks.items (after_headers c.headers.items (lost c.loss m)) n
-    ∙ last_says c.headers.items n p is (lost c.loss m)
-    ∙ ap (λ (f : HeaderEdit). Some (as_header f.header)) (edit_there c.headers.items n p is e (sym own))
+says_header c {n} {p} {e} is own m =
+    header_kept c.blocks.items (after_headers c.headers.items (lost c.loss m)) n ∙ last_says is (lost c.loss m)
+    ∙ ap (λ (f : HeaderEdit). Some (as_header f.header)) (edit_there is e (sym own))
 
 pub says_no_header : (c : Changes) (n : ℕ) → NoHeader n c.headers.items → DraftsHeader c n None
 says_no_header c n none = (

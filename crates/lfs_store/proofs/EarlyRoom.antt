@@ -17,16 +17,16 @@ use Rattle.lfs_store.specs.Accepting.{HasClean, Readies}
 use Rattle.lfs_store.proofs.Acceptings.{due_as, room_then}
 
 -- what the next commit asks for is clean still, where anything was written
-early_clean : (D : Type 0) (state : D → DeviceState) (h h' : LogState D) → WritesEarly state h h' → (h' ≡ h) ⊎ HasClean h'
-early_clean D state h h' w = ⊎_elim
+early_clean : (D : Type 0) {state : D → DeviceState} (h h' : LogState D) → WritesEarly state h h' → (h' ≡ h) ⊎ HasClean h'
+early_clean D h h' w = ⊎_elim
     (λ (same : h' ≡ h). inl same)
     (λ kept. inr (subst (λ (n : ℕ). n / 8 + 8 ≤ h'.clean) (sym w.segments) kept))
     w.reserve
 
 module _ {D : Type 0} (state : D → DeviceState) where
-  pub early_none : (h : LogState D) → IsLawful (state h.device) → h.halted ≡ false → WritesEarly state h h
-  early_none h lawful running = record {
-    carries = carries_none (state h.device);
+  pub early_none : {h : LogState D} → IsLawful (state h.device) → h.halted ≡ false → WritesEarly state h h
+  early_none {h} lawful running = record {
+    carries = carries_none;
     running = running;
     number = refl;
     upgraded = refl;
@@ -44,10 +44,10 @@ module _ {D : Type 0} (state : D → DeviceState) where
     no_failure = refl;
     holds = λ k m0 m keeps is. is;
     moment = λ k m0 m keeps is.
-        started (state h.device) (λ (c : Content). StandsOn k.segments c m0) lawful (acknowledged state h k m0 m is);
+        started (λ (c : Content). StandsOn k.segments c m0) lawful (acknowledged state is);
   }
 
-  module _ (h h' : LogState D) (w : WritesEarly state h h') (totals : h'.totals ≡ h.totals) where
+  module _ {h h' : LogState D} (w : WritesEarly state h h') (totals : h'.totals ≡ h.totals) where
     keeps_early : KeepsMap state h h' 0
     keeps_early =
         let same = w.number in
@@ -62,17 +62,17 @@ module _ {D : Type 0} (state : D → DeviceState) where
           rest = w.rest;
           holds = λ k m0 m keeps is map.
               record { checkpoint = k; acknowledged = m0; either = inl refl; same = refl; holds = w.holds k m0 m keeps is };
-          moment = λ k m0 m keeps is map. weaker (state h.device) (state h'.device) (λ (c : Content). StandsOn k.segments c m0)
+          moment = λ k m0 m keeps is map. weaker (λ (c : Content). StandsOn k.segments c m0)
               (IsSaved state k.segments m0 m) (λ x p. inl p) (w.moment k m0 m keeps is);
         }
 
     clean_stays : HasClean h → HasClean h'
     clean_stays enough = ⊎_elim (λ (same : h' ≡ h). subst (λ (x : LogState D). HasClean x) (sym same) enough) (λ (kept : HasClean h'). kept)
-        (early_clean D state h h' w)
+        (early_clean D h h' w)
 
     room_early : MakesRoom state h h'
     room_early = record {
-      keeps = keeps_weaker state h h' 0 (most_checkpoints h) keeps_early (omega arith);
+      keeps = keeps_weaker state keeps_early (omega arith);
       unsaved = λ e. (sym w.saved ∙ e, record { number = w.number; fewer = w.fewer; clean = clean_stays });
       all = λ e. inl (sym w.saved ∙ e);
       rest = λ e rest. w.rest (rest (sym w.saved ∙ e));
@@ -103,26 +103,26 @@ module _ {D : Type 0} (state : D → DeviceState) where
         }
 
   -- ---- and a commit behind them
-  pub readies_then : (a b c : LogState D) → Readies state a b → Readies state b c → Readies state a c
-  readies_then a b c one two =
+  pub readies_then : {a b c : LogState D} → Readies state a b → Readies state b c → Readies state a c
+  readies_then {a} {b} {c} one two =
       let first = one.spent in
       let second = two.spent in
       record {
-        room = room_then state a b c one two.room;
+        room = room_then state one two.room;
         spent = omega (arith, first, second);
         able = λ k m0 m keeps may.
             (let next = one.able k m0 m (two.room.keeps.carries.kept_before keeps) may in two.able next.0 next.1 m keeps next.2);
       }
 
   -- segments are cleaned behind it: where that was done after a commit, no second one comes
-  pub told_cleaned : (a b c : LogState D) → (b ≡ a) ⊎ (HasClean b ⊎ ((b.saved ≡ true) × AreAllSaved b))
+  pub told_cleaned : {a b : LogState D} (c : LogState D) → (b ≡ a) ⊎ (HasClean b ⊎ ((b.saved ≡ true) × AreAllSaved b))
       → b.clean < b.segments / 8 + 8
       → length (state b.device).told ≤ length (state a.device).told + commit_orders
       → length (state c.device).told ≤ length (state b.device).told + room_orders b.segments
       → (b.saved ≡ true → length (state c.device).told ≤ length (state b.device).told + passes_orders b.segments)
       → b.segments ≡ a.segments
       → length (state c.device).told ≤ length (state a.device).told + room_orders a.segments
-  told_cleaned a b c once few first rest passes same = ⊎_elim
+  told_cleaned {a} {b} c once few first rest passes same = ⊎_elim
       (λ (is : b ≡ a). subst (λ (x : LogState D).
       length (state c.device).told ≤ length (state x.device).told + room_orders x.segments) is rest)
       (λ (more : HasClean b ⊎ ((b.saved ≡ true) × AreAllSaved b)). ⊎_elim

@@ -38,18 +38,18 @@ abbrev store_error : StoreFault → Result Unit StoreFault
 store_error fault = Err fault
 
 -- a commit that fails leaves what isn't saved so
-pub still_unsaved : (D : Type 0) (h h' : LogState D) (X : Type 0) (fault : LogFault) → h.saved ≡ false
+pub still_unsaved : (D : Type 0) {h h' : LogState D} (X : Type 0) (fault : LogFault) → h.saved ≡ false
     → (log_error fault ≡ log_error Full → (h' ≡ h) × X) → (log_error fault ≡ log_error Device → ⊥)
     → (log_error fault ≡ log_error Halted → h'.saved ≡ false) → h'.saved ≡ h.saved
-still_unsaved D h h' X Full off full device halted = ap (λ (x : LogState D). x.saved) (full refl).0
-still_unsaved D h h' X Device off full device halted = absurd (device refl)
-still_unsaved D h h' X Halted off full device halted = halted refl ∙ sym off
+still_unsaved D X Full off full device halted = ap (λ (x : LogState D). x.saved) (full refl).0
+still_unsaved D X Device off full device halted = absurd (device refl)
+still_unsaved D X Halted off full device halted = halted refl ∙ sym off
 
-pub keeps_none : {D : Type 0} (a : Store D) → KeepsDraft a a
-keeps_none a = record { draft = refl; totals = refl; drafted = refl }
+pub keeps_none : {D : Type 0} {a : Store D} → KeepsDraft a a
+keeps_none = record { draft = refl; totals = refl; drafted = refl }
 
-no_more : (x y most : ℕ) → x ≡ y → y ≤ most → x ≤ most
-no_more x y most same le = rw same le
+no_more : {x y : ℕ} (most : ℕ) → x ≡ y → y ≤ most → x ≤ most
+no_more most same le = rw same le
 
 keeps_then : {D : Type 0} (a b c : Store D) → KeepsDraft a b → KeepsDraft b c → KeepsDraft a c
 keeps_then a b c one two = record {
@@ -60,9 +60,9 @@ keeps_then a b c one two = record {
 
 module _ {D : Type 0} (state : D → DeviceState) where
   -- ---- a commit of a log that is halted, and of one that is saved
-  pub committed_halted : (a : Store D) → a.log.halted ≡ true → Committed state a a (Err Halted)
-  committed_halted a is = record {
-    keeps = keeps_none a;
+  pub committed_halted : {a : Store D} → a.log.halted ≡ true → Committed state a a (Err Halted)
+  committed_halted {a} is = record {
+    keeps = keeps_none;
     done = tt;
     ready = tt;
     saved = tt;
@@ -78,12 +78,12 @@ module _ {D : Type 0} (state : D → DeviceState) where
     tells = omega arith;
   }
 
-  pub committed_saved : (a : Store D) → IsLawful (state a.log.device) → a.log.halted ≡ false → a.log.saved ≡ true
+  pub committed_saved : {a : Store D} → IsLawful (state a.log.device) → a.log.halted ≡ false → a.log.saved ≡ true
       → Committed state a a (Ok tt)
-  committed_saved a lawful running all = record {
-    keeps = keeps_none a;
+  committed_saved {a} lawful running all = record {
+    keeps = keeps_none;
     done = commits_none state a.log lawful running all;
-    ready = readies_none state a.log lawful running;
+    ready = readies_none state lawful running;
     saved = all;
     saves = λ never. absurd (cc);
     same = tt;
@@ -98,17 +98,17 @@ module _ {D : Type 0} (state : D → DeviceState) where
   }
 
   -- ---- room
-  pub made_none : (a : Store D) → IsLawful (state a.log.device) → a.log.halted ≡ false → RoomMade state a a (Ok tt)
-  made_none a lawful running = record {
-    keeps = keeps_none a;
-    done = makes_none state a.log lawful running;
+  pub made_none : {a : Store D} → IsLawful (state a.log.device) → a.log.halted ≡ false → RoomMade state a a (Ok tt)
+  made_none {a} lawful running = record {
+    keeps = keeps_none;
+    done = makes_none state lawful running;
     full = λ e. absurd (cc);
     device = λ e. absurd (cc);
     halted = λ e. absurd (cc);
   }
 
-  pub made_ready : (a b : Store D) → KeepsDraft a b → Readies state a.log b.log → RoomMade state a b (Ok tt)
-  made_ready a b keeps ready = record {
+  pub made_ready : {a b : Store D} → KeepsDraft a b → Readies state a.log b.log → RoomMade state a b (Ok tt)
+  made_ready keeps ready = record {
     keeps = keeps;
     done = ready.room;
     full = λ e. absurd (cc);
@@ -117,41 +117,41 @@ module _ {D : Type 0} (state : D → DeviceState) where
   }
 
   -- a commit that failed
-  pub made_uncommitted : (a b : Store D) (fault : LogFault) → IsLawful (state a.log.device) → a.log.halted ≡ false
+  pub made_uncommitted : (a b : Store D) {fault : LogFault} → IsLawful (state a.log.device) → a.log.halted ≡ false
       → Committed state a b (Err fault) → RoomMade state a b (Err fault)
-  made_uncommitted a b fault lawful running commit = record {
+  made_uncommitted a b lawful running commit = record {
     keeps = commit.keeps;
     done = tt;
-    full = λ e. lacks_commit state a.log b.log lawful running (commit.full e).0 (commit.full e).1 (commit.unsaved e);
+    full = λ e. lacks_commit state lawful running (commit.full e).0 (commit.full e).1 (commit.unsaved e);
     device = λ e. absurd (commit.other e);
-    halted = λ e ne. halts_first state a.log b.log (commit.halted e ne);
+    halted = λ e ne. halts_first state {a = a.log} {b = b.log} (commit.halted e ne);
   }
 
   -- room that is made behind steps that leave the log ready
-  pub made_then : (a b c : Store D) (r : Result Unit LogFault) → KeepsDraft a b → Readies state a.log b.log → RoomMade state b c r
+  pub made_then : {a b c : Store D} {r : Result Unit LogFault} → KeepsDraft a b → Readies state a.log b.log → RoomMade state b c r
       → RoomMade state a c r
-  made_then a b c r keeps ready made =
+  made_then {a} {b} {c} {r} keeps ready made =
       let running = ready.room.keeps.running in
       record {
         keeps = keeps_then a b c keeps made.keeps;
-        done = ok_then r _ _ (room_then state a.log b.log c.log ready) made.done;
-        full = λ e. lacks_after state a.log b.log c.log ready (made.full e);
-        device = λ e. fails_after state a.log b.log c.log ready (made.device e);
-        halted = λ e ne. halts_after state a.log b.log c.log ready (made.halted e (λ (t : b.log.halted ≡ true). absurd (cc)));
+        done = ok_then r _ _ (room_then state {c = c.log} ready) made.done;
+        full = λ e. lacks_after state ready (made.full e);
+        device = λ e. fails_after state ready (made.device e);
+        halted = λ e ne. halts_after state ready (made.halted e (λ (t : b.log.halted ≡ true). absurd (cc)));
       }
 
   -- a commit behind them
-  pub made_committed : (a b : Store D) (r : Result Unit LogFault) → IsLawful (state a.log.device) → a.log.halted ≡ false
+  pub made_committed : {a b : Store D} (r : Result Unit LogFault) → IsLawful (state a.log.device) → a.log.halted ≡ false
       → Committed state a b r → RoomMade state a b r
-  made_committed a b (Ok x) lawful running commit = made_ready a b commit.keeps commit.ready
-  made_committed a b (Err fault) lawful running commit = made_uncommitted a b fault lawful running commit
+  made_committed {a} {b} (Ok x) lawful running commit = made_ready commit.keeps commit.ready
+  made_committed {a} {b} (Err fault) lawful running commit = made_uncommitted a b lawful running commit
 
   -- ---- the cleaner makes room
-  pub cleaned : (a : Store D) (h : LogState D) (r : Result Unit LogFault) → h.totals ≡ a.log.totals → OnOk r (MakesRoom state a.log h)
+  pub cleaned : {a : Store D} {h : LogState D} {r : Result Unit LogFault} → h.totals ≡ a.log.totals → OnOk r (MakesRoom state a.log h)
       → (IsErrOf r Full → LacksRoom state a.log h) → (IsErrOf r Device → FailsRoom state a.log h)
       → (IsErrOf r Halted → a.log.halted ≢ true → HaltsLater state a.log h (most_checkpoints a.log))
       → (a.log.halted ≡ true → (h ≡ a.log) × IsErrOf r Halted) → (HasQuarter a.log → h ≡ a.log) → Cleaned state a (record a { log = h }) r
-  cleaned a h r totals done full device halted still quiet = record {
+  cleaned totals done full device halted still quiet = record {
     room = record {
       keeps = record { draft = refl; totals = totals; drafted = refl };
       done = done;
@@ -164,8 +164,8 @@ module _ {D : Type 0} (state : D → DeviceState) where
   }
 
   -- ---- a draft of a halted log
-  pub accepted_halted : (a : Store D) → a.log.halted ≡ true → Accepted state a a.log (Err (Log Halted))
-  accepted_halted a is = record {
+  pub accepted_halted : {a : Store D} → a.log.halted ≡ true → Accepted state a a.log (Err (Log Halted))
+  accepted_halted is = record {
     counted = tt;
     kept = refl;
     done = tt;
@@ -188,24 +188,23 @@ module _ {D : Type 0} (state : D → DeviceState) where
   as_log fault other e = let same : fault ≡ other = cc in ap log_error same
 
   -- ---- what holds however a draft ends, behind what readied the log
-  module _ (a b : Store D) (running : a.log.halted ≡ false)
-      (quiet : HasRoomFor a.log a.draft → HasClean a.log → b.log ≡ a.log)
+  module _ {a b : Store D} (running : a.log.halted ≡ false) (quiet : HasRoomFor a.log a.draft → HasClean a.log → b.log ≡ a.log)
       (told : length (state b.log.device).told
       ≤ length (state a.log.device).told + room_orders a.log.segments)
       (one_commit : HasCleanForTwo a.log → length (state b.log.device).told ≤ length (state a.log.device).told + commit_orders) where
     -- no room was made
-    pub accepted_unready : (fault : LogFault) → RoomMade state a b (Err fault) → (log_error fault ≡ log_error Full → IsFull b.log)
+    pub accepted_unready : {fault : LogFault} → RoomMade state a b (Err fault) → (log_error fault ≡ log_error Full → IsFull b.log)
         → Accepted state a b.log (Err (Log fault))
-    accepted_unready fault made lacks = record {
+    accepted_unready {fault} made lacks = record {
       counted = tt;
       kept = made.keeps.totals;
       done = tt;
-      full = λ e. declines_room state a.log b.log a.draft running (made.full (as_log fault Full e)).makes;
+      full = λ e. declines_room state a.draft running (made.full (as_log fault Full e)).makes;
       lacks = λ e. lacks (as_log fault Full e);
       never = λ e. (made.full (as_log fault Full e)).never;
       memory = λ e. absurd (cc);
       fits = λ e. absurd (cc);
-      device = λ e. declines_room state a.log b.log a.draft running (made.device (as_log fault Device e)).makes;
+      device = λ e. declines_room state a.draft running (made.device (as_log fault Device e)).makes;
       failed = λ e. room_fault state a.log b.log a.draft (made.device (as_log fault Device e)).fault;
       halted = λ e. made.halted (as_log fault Halted e);
       still = λ t. absurd (cc);
@@ -214,7 +213,7 @@ module _ {D : Type 0} (state : D → DeviceState) where
       one_commit = one_commit;
     }
 
-    module _ (h : LogState D) (lawful : IsLawful (state b.log.device)) (made : RoomMade state a b (Ok tt)) (enough : HasClean b.log) where
+    module _ {h : LogState D} (lawful : IsLawful (state b.log.device)) (made : RoomMade state a b (Ok tt)) (enough : HasClean b.log) where
       -- it is staged
       pub accepted_staged : IsStaged state b.log h b.draft.changes → h.totals ≡ b.drafted → Accepted state a h (Ok tt)
       accepted_staged s totals = record {
@@ -232,17 +231,17 @@ module _ {D : Type 0} (state : D → DeviceState) where
         halted = λ e. absurd (cc);
         still = λ t. absurd (cc);
         quiet = λ room clean. s.alters.number ∙ ap (λ (x : LogState D). x.number) (quiet room clean);
-        told = no_more _ _ _ (ap length s.alters.looks.told) told;
-        one_commit = λ two. no_more _ _ _ (ap length s.alters.looks.told) (one_commit two);
+        told = no_more _ (ap length s.alters.looks.told) told;
+        one_commit = λ two. no_more _ (ap length s.alters.looks.told) (one_commit two);
       }
 
       -- it is refused
-      pub accepted_refused : (fault : StoreFault) → IsRefused state b.log h b.draft.changes → h.totals ≡ b.log.totals
+      pub accepted_refused : {fault : StoreFault} → IsRefused state b.log h b.draft.changes → h.totals ≡ b.log.totals
           → (fault ≡ Log Full → ⊥) → (fault ≡ Log Halted → ⊥)
           → (fault ≡ NoMemory → (a.log.saved ≡ true → IsAtRest a.log) → MOST_UNSAVED < asked_by b.draft)
           → (fault ≡ Log Device → IsStageFault state b.log h b.draft.changes)
           → Accepted state a h (Err fault)
-      accepted_refused fault r totals some running' asks failed =
+      accepted_refused r totals some running' asks failed =
           let declined : Declines state a.log h a.draft = subst (Declines state a.log h) made.keeps.draft
           (declines state a.log b.log h b.draft lawful running made.done r.alters enough r) in
           record {
@@ -260,6 +259,6 @@ module _ {D : Type 0} (state : D → DeviceState) where
             halted = λ e. absurd (running' (cc));
             still = λ t. absurd (cc);
             quiet = λ room clean. r.alters.number ∙ ap (λ (x : LogState D). x.number) (quiet room clean);
-            told = no_more _ _ _ (ap length r.alters.looks.told) told;
-            one_commit = λ two. no_more _ _ _ (ap length r.alters.looks.told) (one_commit two);
+            told = no_more _ (ap length r.alters.looks.told) told;
+            one_commit = λ two. no_more _ (ap length r.alters.looks.told) (one_commit two);
           }

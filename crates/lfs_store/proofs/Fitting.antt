@@ -66,10 +66,10 @@ fit_more : (es : List HeaderEdit) (e : HeaderEdit) (m : LogMap) → AreHeadersFi
     → FitsHeader e.header.kind e.header.form e.header.links e.header.size → Renames (after_headers es m) e → AreHeadersFit m (es ++ e ∷ [])
 fit_more es e m fit header name = fit_join es (e ∷ []) m fit (record { header = header; name = name }, tt)
 
-fit_set : (es : List HeaderEdit) (p : ℕ) (e : HeaderEdit) (m : LogMap) → LastHeader es e.number p → AreHeadersFit m es
+fit_set : {es : List HeaderEdit} (p : ℕ) (e : HeaderEdit) (m : LogMap) → LastHeader es e.number p → AreHeadersFit m es
     → FitsHeader e.header.kind e.header.form e.header.links e.header.size → Renames (after_headers es m) e
     → AreHeadersFit m (set es p e)
-fit_set es p e m is fit header name =
+fit_set {es} p e m is fit header name =
     subst (AreHeadersFit m) (sym placed)
     (fit_join (take p es) (e ∷ drop (p + 1) es) m parts.0 (record { header = header; name = own_name }, behind))
   where
@@ -80,20 +80,20 @@ fit_set es p e m is fit header name =
     before = after_headers (take p es) m
 
     parts : AreHeadersFit m (take p es) × AreHeadersFit (after_headers (take p es) m) (is.edit ∷ drop (p + 1) es)
-    parts = fit_split (take p es) (is.edit ∷ drop (p + 1) es) m (subst (AreHeadersFit m) (split es e.number p is) fit)
+    parts = fit_split (take p es) (is.edit ∷ drop (p + 1) es) m (subst (AreHeadersFit m) (split is) fit)
 
     own_name : Renames (after_headers (take p es) m) e
     own_name has =
         let old = parts.1.0.name (has.0, ap (after_headers (take p es) m).header is.number ∙ has.1) in
-        let says = last_says es e.number p is m in
+        let says = last_says is m in
         name (as_header is.edit.header, says) ∙ ap is_unlinked says ∙ old
         ∙ ap (λ (k : ℕ). is_nameless (after_headers (take p es) m) k) is.number
 
     agree : AgreeBut e.number (after_header is.edit (after_headers (take p es) m)) (after_header e (after_headers (take p es) m))
     agree k ne =
         let w = after_headers (take p es) m in
-        (is_with_header w e.number (Some (as_header e.header))).others k ne
-        ∙ sym ((is_with_header w is.edit.number (Some (as_header is.edit.header))).others k (λ same. ne (same ∙ is.number)))
+        (is_with_header w e.number {h = Some (as_header e.header)}).others k ne
+        ∙ sym ((is_with_header w is.edit.number {h = Some (as_header is.edit.header)}).others k (λ same. ne (same ∙ is.number)))
 
     behind : AreHeadersFit (after_header e (after_headers (take p es) m)) (drop (p + 1) es)
     behind = fit_through (drop (p + 1) es) _ _ e.number is.last agree parts.1.1
@@ -101,9 +101,8 @@ fit_set es p e m is fit header name =
 -- ---- files that are there stay there
 there_still : (m : LogMap) (n k : ℕ) (h : entry.Header) → HasInode m k → HasInode (with_header m n (Some h)) k
 there_still m n k h has = ⊎_elim
-    (λ (own : k ≡ n). (h, ap (λ (x : ℕ). (with_header m n (Some h)).header x) own ∙ (is_with_header m n (Some h)).own))
-    (λ (ne : k ≡ n → ⊥). (has.0, (is_with_header m n (Some h)).others k ne ∙ has.1))
-    (cases_eq k n)
+    (λ (own : k ≡ n). (h, ap (λ (x : ℕ). (with_header m n (Some h)).header x) own ∙ (is_with_header m n {h = Some h}).own))
+    (λ (ne : k ≡ n → ⊥). (has.0, (is_with_header m n {h = Some h}).others k ne ∙ has.1)) (cases_eq k n)
 
 blocks_still : (bs : List BlockEdit) (m : LogMap) (n : ℕ) (h : entry.Header) → AreBlocksFit m bs
     → AreBlocksFit (with_header m n (Some h)) bs
@@ -139,8 +138,7 @@ module _ (old new : Changes) (m : LogMap) (e : HeaderEdit) (loss : new.loss ≡ 
   pub fits_set : (p : ℕ) → LastHeader old.headers.items e.number p → new.headers.items ≡ set old.headers.items p e → FitsBatch m new
   fits_set p is placed =
       with_headers
-      (subst (AreHeadersFit (lost old.loss m)) (sym placed)
-      (fit_set old.headers.items p e (lost old.loss m) is fit.fit_headers takes.header renames))
+      (subst (AreHeadersFit (lost old.loss m)) (sym placed) (fit_set p e (lost old.loss m) is fit.fit_headers takes.header renames))
       (subst (AllByRecursion (λ (e : HeaderEdit). is_lost old.loss (Inode e.number) ≡ false)) (sym placed)
       (all_set _ old.headers.items p e fit.headers_apart takes.apart))
 
@@ -194,7 +192,7 @@ module _ (old new : Changes) (e : HeaderEdit) (loss : new.loss ≡ old.loss) (bl
   }
     where
       follows : Follows
-      follows m = ap (λ (es : List HeaderEdit). after_headers es m) placed ∙ edit_replaced old.headers.items e.number p is e m refl
+      follows m = ap (λ (es : List HeaderEdit). after_headers es m) placed ∙ edit_replaced is e m refl
 
   put_more : new.headers.items ≡ old.headers.items ++ e ∷ [] → PutsHeader old new e.number e.header
   put_more placed = record {
@@ -208,10 +206,10 @@ module _ (old new : Changes) (e : HeaderEdit) (loss : new.loss ≡ old.loss) (bl
       follows : Follows
       follows m = ap (λ (es : List HeaderEdit). after_headers es m) placed ∙ after_more old.headers.items (e ∷ []) m
 
-pub header_replaced : (old new : Changes) (n p : ℕ) (e : HeaderEdit) → LastHeader old.headers.items n p → e.number ≡ n
+pub header_replaced : {old : Changes} (new : Changes) {n p : ℕ} (e : HeaderEdit) → LastHeader old.headers.items n p → e.number ≡ n
     → new.headers.items ≡ set old.headers.items p e → new.blocks ≡ old.blocks → new.loss ≡ old.loss
     → PutsHeader old new n e.header
-header_replaced old new n p e is own placed blocks loss =
+header_replaced {old} new {p} e is own placed blocks loss =
     subst (λ (k : ℕ). PutsHeader old new k e.header) own
     (put_set old new e loss blocks p (subst (λ (k : ℕ). LastHeader old.headers.items k p) (sym own) is) placed)
 
@@ -252,10 +250,10 @@ module _ (old new : Changes) (e : BlockEdit) (loss : new.loss ≡ old.loss) (hea
       follows : FollowsBlock
       follows m = ap (λ (es : List BlockEdit). after_blocks es m) placed ∙ drafted.after_more old.blocks.items (e ∷ []) m
 
-pub block_replaced : (old new : Changes) (n i p : ℕ) (e : BlockEdit) → LastBlock old.blocks.items n i p → IsBlock n i e
+pub block_replaced : {old : Changes} (new : Changes) {n i p : ℕ} (e : BlockEdit) → LastBlock old.blocks.items n i p → IsBlock n i e
     → new.blocks.items ≡ set old.blocks.items p e → new.headers ≡ old.headers → new.loss ≡ old.loss
     → PutsBlock old new n i e.bytes
-block_replaced old new n i p e is own placed headers loss =
+block_replaced {old} new {n} {i} {p} e is own placed headers loss =
     subst (λ (l : ℕ). PutsBlock old new n l e.bytes) own.1
     (subst (λ (k : ℕ). PutsBlock old new k e.index e.bytes) own.0
     (put_block_set old new e loss headers p

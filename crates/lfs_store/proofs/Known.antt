@@ -38,9 +38,9 @@ grown_asks a b h k few none headers blocks =
 -- ---- its volume
 
 -- where all that is staged is as it was, the log was no more than read
-pub reads_staged : {D : Type 0} (state : D → DeviceState) (h h' : LogState D) → Looks (state h.device) (state h'.device)
+pub reads_staged : {D : Type 0} {state : D → DeviceState} {h h' : LogState D} → Looks (state h.device) (state h'.device)
     → staged_of h' ≡ staged_of h → Reads state h h'
-reads_staged state h h' looks same = record {
+reads_staged looks same = record {
   looks = looks;
   halted = ap (λ (s : StagedLog). s.halted) same;
   number = ap (λ (s : StagedLog). s.number) same;

@@ -29,7 +29,7 @@ none_stored m n i is none = by (m.block n i) refl
 -- ---- a file is made
 
 pub changed_header : (m : LogMap) (n : ℕ) (h : Option entry.Header) → IsChangedAt m n (with_header m n h)
-changed_header m n h = record { headers = λ k ne. (is_with_header m n h).others k ne; blocks = λ k i ne. refl; version = refl }
+changed_header m n h = record { headers = λ k ne. (is_with_header m n {h = h}).others k ne; blocks = λ k i ne. refl; version = refl }
 
 made_object : (m : LogMap) (n : ℕ) (h : entry.Header) → IsLogMap m → m.header n ≡ None → 1 ≤ n → h.size ≤ 8511488
     → IsForm m.version h.kind h.form → IsObject (with_header m n (Some h)) n h
@@ -51,7 +51,7 @@ made_object m n h is none some few form = record {
 pub made_map : (m : LogMap) (n : ℕ) (h : entry.Header) → IsLogMap m → m.header n ≡ None → 1 ≤ n → h.size ≤ 8511488
     → IsForm m.version h.kind h.form → IsLogMap (with_header m n (Some h))
 made_map m n h is none some few form = object_kept m (with_header m n (Some h)) n h is (changed_header m n (Some h))
-    (is_with_header m n (Some h)).own (made_object m n h is none some few form)
+    (is_with_header m n {h = Some h}).own (made_object m n h is none some few form)
 
 -- ---- its links
 
@@ -63,47 +63,44 @@ module _ (m : LogMap) (n : ℕ) (h : entry.Header) (links : ℕ) (is : IsLogMap 
   abbrev over : LogMap
   over = with_header m n (Some now)
 
-  own : (k : ℕ) → k ≡ n → over.header k ≡ Some now
-  own k here = ap over.header here ∙ (is_with_header m n (Some now)).own
+  own : {k : ℕ} → k ≡ n → over.header k ≡ Some now
+  own here = ap over.header here ∙ (is_with_header m n {h = Some now}).own
 
   -- what is there has the kind and the size that it had
   was_there : (k : ℕ) (g : entry.Header) → over.header k ≡ Some g
       → (f : entry.Header) × (m.header k ≡ Some f) × (g.kind ≡ f.kind) × (g.size ≡ f.size)
   was_there k g at = ⊎_elim
       (λ (here : k ≡ n).
-      let both : Some now ≡ Some g = sym (own k here) ∙ at in
+      let both : Some now ≡ Some g = sym (own here) ∙ at in
       let same : now ≡ g = cc in
       (h, ap m.header here ∙ there, ap (λ (x : entry.Header). x.kind) (sym same), ap (λ (x : entry.Header). x.size) (sym same)))
-      (λ (ne : k ≡ n → ⊥). (g, sym ((is_with_header m n (Some now)).others k ne) ∙ at, refl, refl))
-      (cases_eq k n)
+      (λ (ne : k ≡ n → ⊥). (g, sym ((is_with_header m n {h = Some now}).others k ne) ∙ at, refl, refl)) (cases_eq k n)
 
-  now_there : (k : ℕ) (f : entry.Header) → m.header k ≡ Some f → (g : entry.Header) × (over.header k ≡ Some g)
+  now_there : (k : ℕ) {f : entry.Header} → m.header k ≡ Some f → (g : entry.Header) × (over.header k ≡ Some g)
       × (g.kind ≡ f.kind) × (g.size ≡ f.size)
-  now_there k f at = ⊎_elim
+  now_there k {f} at = ⊎_elim
       (λ (here : k ≡ n).
       let both : Some h ≡ Some f = sym there ∙ sym (ap m.header here) ∙ at in
       let same : h ≡ f = cc in
-      (now, own k here, ap (λ (x : entry.Header). x.kind) same, ap (λ (x : entry.Header). x.size) same))
-      (λ (ne : k ≡ n → ⊥). (f, (is_with_header m n (Some now)).others k ne ∙ at, refl, refl))
-      (cases_eq k n)
+      (now, own here, ap (λ (x : entry.Header). x.kind) same, ap (λ (x : entry.Header). x.size) same))
+      (λ (ne : k ≡ n → ⊥). (f, (is_with_header m n {h = Some now}).others k ne ∙ at, refl, refl)) (cases_eq k n)
 
   pub relinked_map : IsLogMap over
   relinked_map = record {
     none = λ g at. (let was = was_there 0 g at in is.none was.0 was.1);
-    root = (let root = is.root in let now = now_there 1 root.0 root.1 in (now.0, now.1, now.2 ∙ root.2));
+    root = (let root = is.root in let now = now_there 1 root.1 in (now.0, now.1, now.2 ∙ root.2));
     within = λ k i has. (
         let was = is.within k i has in
-        let now = now_there k was.0 was.1 in
+        let now = now_there k was.1 in
         let same = now.3 in
         let low = was.2 in
         (now.0, now.1, omega (arith, same, low)));
     forms = λ k g at. ⊎_elim
         (λ (here : k ≡ n).
-        let both : Some now ≡ Some g = sym (own k here) ∙ at in
+        let both : Some now ≡ Some g = sym (own here) ∙ at in
         let same : now ≡ g = cc in
         subst (λ (x : entry.Header). IsForm m.version x.kind x.form) same (is.forms n h there))
-        (λ (ne : k ≡ n → ⊥). is.forms k g (sym ((is_with_header m n (Some now)).others k ne) ∙ at))
-        (cases_eq k n);
+        (λ (ne : k ≡ n → ⊥). is.forms k g (sym ((is_with_header m n {h = Some now}).others k ne) ∙ at)) (cases_eq k n);
     small = is.small;
     nonzero = is.nonzero;
     past = λ k i o g at le. (let was = was_there k g at in let same = was.3 in is.past k i o was.0 was.1 (omega (arith, same, le)));

@@ -31,15 +31,15 @@ use Rattle.lfs_store.proofs.Pointers.{double_is, leaves_same}
 
 -- ---- a draft
 
-test_same : (a b : List ℕ) → a ≡ b → nat_lt 0 (length a) ≡ nat_lt 0 (length b)
-test_same a b same = ap (λ (x : List ℕ). nat_lt 0 (length x)) same
+test_same : {a b : List ℕ} → a ≡ b → nat_lt 0 (length a) ≡ nat_lt 0 (length b)
+test_same same = ap (λ (x : List ℕ). nat_lt 0 (length x)) same
 
 -- bytes in a draft, of which it is known whether they are zeros
 pub says_test : (m : LogMap) (n i : ℕ) (bytes : List ℕ) (blank : Bool) → length bytes ≡ 512 → (IsTrue blank ↔ bytes ≡ zeros 512)
     → m.block n i ≡ stored bytes → is_stored m n i ≡ not blank
-says_test m n i bytes true long test is = test_same (m.block n i) [] (is ∙ stored_none bytes 512 (test.0 refl))
+says_test m n i bytes true long test is = test_same (is ∙ stored_none bytes 512 (test.0 refl))
 says_test m n i bytes false long test is =
-    let same = ap (λ (x : List ℕ). length x) (is ∙ stored_some bytes 512 long (λ e. let bad : false ≡ true = test.1 e in absurd (cc))) in
+    let same = ap (λ (x : List ℕ). length x) (is ∙ stored_some bytes long (λ e. let bad : false ≡ true = test.1 e in absurd (cc))) in
     lt-ltb 0 (length (m.block n i)) (omega (arith, same, long))
 
 -- ---- calls that only read, and count what passes a test
@@ -56,15 +56,15 @@ module _ {D : Type 0} (state : D → DeviceState) (p : LogMap → ℕ → Bool) 
     pub far : (k : CheckpointValue) (m0 m : LogMap) → (state h'.device).keeps_model → Holds state h k m0 m
         → passing (p (staged c m)) from (index - from) ≡ count
 
-  pub counted_none : (h : LogState D) (c : Changes) (from : ℕ) → CountedUpTo h h c from from 0
-  counted_none h c from = record {
+  pub counted_none : {h : LogState D} {c : Changes} {from : ℕ} → CountedUpTo h h c from from 0
+  counted_none {h} {c} {from} = record {
     reads = reads_none state h;
     few = omega arith;
     far = λ k m0 m keeps is.
         (let none : from - from ≡ 0 = omega arith in ap (passing (p (staged c m)) from) none ∙ passing_none (p (staged c m)) from);
   }
 
-  module _ (h a b : LogState D) (c : Changes) (from index count : ℕ) (lawful : IsLawful (state h.device))
+  module _ {h a b : LogState D} {c : Changes} {from index count : ℕ} (lawful : IsLawful (state h.device))
       (was : CountedUpTo h a c from index count) (reads : Reads state a b) where
     more : (m : LogMap)
         → passing (p (staged c m)) from (index + 1 - from) ≡ passing (p (staged c m)) from (index - from) + one_if (p (staged c m) index)
@@ -76,11 +76,11 @@ module _ {D : Type 0} (state : D → DeviceState) (p : LogMap → ℕ → Bool) 
     pub counted_more : (found : Bool) (next : ℕ) → next ≡ count + bool_byte found → Tells a b c index found
         → CountedUpTo h b c from (index + 1) next
     counted_more found next is_next tells = record {
-      reads = reads_more state h a b lawful was.reads reads;
+      reads = reads_more state lawful was.reads reads;
       few = let few = was.few in let one = at_most found in omega (arith, few, is_next, one);
       far = λ k m0 m keeps is.
           let before = was.far k m0 m (reads.looks.carries.kept_before keeps) is in
-          let own = ap one_if (tells k m0 m keeps (held_still state h a k m0 m was.reads is)) in
+          let own = ap one_if (tells k m0 m keeps (held_still state was.reads is)) in
           omega (arith, before, own, more m, is_next, byte found);
     }
       where
@@ -93,7 +93,7 @@ module _ {D : Type 0} (state : D → DeviceState) (p : LogMap → ℕ → Bool) 
         at_most false = omega arith
 
 -- ---- blocks and leaves
-module _ {D : Type 0} (state : D → DeviceState) (h h' : LogState D) (c : Changes) (n from to index count : ℕ) (end : index ≡ to) where
+module _ {D : Type 0} {state : D → DeviceState} {h h' : LogState D} {c : Changes} (n : ℕ) {from to index count : ℕ} (end : index ≡ to) where
   pub counts_stored : CountedUpTo state (λ m. is_stored m n) h h' c from index count → CountsStored state h h' c n from to count
   unfolding stored_in
   counts_stored was k m0 m keeps is = ap (λ (e : ℕ). passing (is_stored (staged c m) n) from (e - from)) (sym end) ∙ was.far k m0 m keeps is
@@ -106,7 +106,7 @@ module _ {D : Type 0} (state : D → DeviceState) (h h' : LogState D) (c : Chang
 module _ {D : Type 0} (state : D → DeviceState) (h h' : LogState D) (c : Changes) (n : ℕ) where
   pub log_stored : {E : Type 0} (i : ℕ) (r : Result Bool E) → ((m : LogMap) → (staged c m).block n i ≡ m.block n i)
       → IfOk r (held.TellsBlock state h h' n i) → IfOk r (TellsStored state h h' c n i)
-  log_stored i (Ok found) left tells = λ k m0 m keeps is. test_same ((staged c m).block n i) (m.block n i) (left m) ∙ tells k m0 m keeps is
+  log_stored i (Ok found) left tells = λ k m0 m keeps is. test_same (left m) ∙ tells k m0 m keeps is
   log_stored i (Err e) left tells = tt
 
 -- ---- a leaf of pointers
@@ -117,17 +117,17 @@ pub record SearchedUpTo {D : Type 0} (state : D → DeviceState) (n : ℕ) (h h'
   pub none : (k : CheckpointValue) (m0 m : LogMap) → (state h'.device).keeps_model → Holds state h k m0 m → (i : ℕ) → from ≤ i → i < index
       → is_stored (staged c m) n i ≡ false
 
-module _ {D : Type 0} (state : D → DeviceState) (n : ℕ) where
-  pub searched_none : (h : LogState D) (c : Changes) (from : ℕ) → SearchedUpTo state n h h c from from
-  searched_none h c from = record { reads = reads_none state h; none = λ k m0 m keeps is i le lt. absurd (omega (arith, le, lt)) }
+module _ {D : Type 0} {state : D → DeviceState} {n : ℕ} where
+  pub searched_none : {h : LogState D} {c : Changes} {from : ℕ} → SearchedUpTo state n h h c from from
+  searched_none {h} = record { reads = reads_none state h; none = λ k m0 m keeps is i le lt. absurd (omega (arith, le, lt)) }
 
-  module _ (h a b : LogState D) (c : Changes) (from index : ℕ) (lawful : IsLawful (state h.device))
+  module _ {h a b : LogState D} {c : Changes} {from index : ℕ} (lawful : IsLawful (state h.device))
       (was : SearchedUpTo state n h a c from index) (reads : Reads state a b) where
     pub searched_more : TellsStored state a b c n index false → SearchedUpTo state n h b c from (index + 1)
     searched_more tells = record {
-      reads = reads_more state h a b lawful was.reads reads;
+      reads = reads_more state lawful was.reads reads;
       none = λ k m0 m keeps is i le lt. ⊎_elim
-          (λ (here : i ≡ index). ap (is_stored (staged c m) n) here ∙ tells k m0 m keeps (held_still state h a k m0 m was.reads is))
+          (λ (here : i ≡ index). ap (is_stored (staged c m) n) here ∙ tells k m0 m keeps (held_still state was.reads is))
           (λ (ne : i ≡ index → ⊥). was.none k m0 m (reads.looks.carries.kept_before keeps) is i le (omega (arith, lt, ne)))
           (cases_eq i index);
     }
@@ -135,15 +135,15 @@ module _ {D : Type 0} (state : D → DeviceState) (n : ℕ) where
     pub leaf_found : (q : ℕ) → from ≡ 112 + 128 * q → from ≤ index → index < from + 128 → TellsStored state a b c n index true
         → TellsLeaf state h b c n q true
     leaf_found q at le lt tells k m0 m keeps is =
-        let on = tells k m0 m keeps (held_still state h a k m0 m was.reads is) in
+        let on = tells k m0 m keeps (held_still state was.reads is) in
         let place : index ≡ 112 + 128 * q + (index - from) = omega (arith, at, le) in
         let has = ltb-true 0 (length ((staged c m).block n index)) on in
         ((leaf_tests (staged c m) n).0 q).1 (index - from, omega (arith, le, lt), subst (HasData (staged c m) n) place has)
 
   -- none of all does
-  pub leaf_empty : (h h' : LogState D) (c : Changes) (from index q : ℕ) → from ≡ 112 + 128 * q → from + 128 ≤ index
+  pub leaf_empty : {h h' : LogState D} {c : Changes} {from index : ℕ} (q : ℕ) → from ≡ 112 + 128 * q → from + 128 ≤ index
       → SearchedUpTo state n h h' c from index → TellsLeaf state h h' c n q false
-  leaf_empty h h' c from index q at far was k m0 m keeps is = false_from_ne_true (has_leaf (staged c m) n q) (λ on.
+  leaf_empty {c} q at far was k m0 m keeps is = false_from_ne_true (has_leaf (staged c m) n q) (λ on.
       let has = ((leaf_tests (staged c m) n).0 q).0 on in
       let low = has.1 in
       let off = was.none k m0 m keeps is (112 + 128 * q + has.0) (omega (arith, at)) (omega (arith, at, low, far)) in
@@ -189,7 +189,7 @@ module _ {D : Type 0} (state : D → DeviceState) (h h' : LogState D) (c : Chang
   unfolding stored_in
   log_count from to (Ok count) left tells = λ k m0 m keeps is.
       passing_same (is_stored (staged c m) n) (is_stored m n) from (to - from)
-      (λ i le lt. test_same ((staged c m).block n i) (m.block n i) (left i (le, omega (arith, lt)) m)) ∙ tells k m0 m keeps is
+      (λ i le lt. test_same (left i (le, omega (arith, lt)) m)) ∙ tells k m0 m keeps is
   log_count from to (Err e) left tells = tt
 
   pub log_double : {E : Type 0} (size : ℕ) (r : Result Bool E) → LeavesBlocks c n 240 16624 → IfOk r (held.TellsDouble state h h' n)

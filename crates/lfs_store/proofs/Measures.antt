@@ -29,14 +29,14 @@ use Rattle.lfs_store.proofs.Summing.{stored_split}
 -- ---- the end of a file
 
 -- no block is stored that isn't there
-pub nothing_stored : (m : LogMap) (n : ℕ) → IsLogMap m → m.header n ≡ None → (i : ℕ) → is_stored m n i ≡ false
-nothing_stored m n is none i = false_from_ne_true (is_stored m n i) (λ on.
+pub nothing_stored : {m : LogMap} (n : ℕ) → IsLogMap m → m.header n ≡ None → (i : ℕ) → is_stored m n i ≡ false
+nothing_stored {m} n is none i = false_from_ne_true (is_stored m n i) (λ on.
     let within = is.within n i (ltb-true 0 (length (m.block n i)) on) in
     let bad : None ≡ Some within.0 = sym none ∙ within.1 in
     absurd (cc))
 
-pub ends_by : (m : LogMap) (n : ℕ) (h : Header) → IsLogMap m → m.header n ≡ Some (as_header h) → EndsBy m n h.size
-ends_by m n h is at i past = false_from_ne_true (is_stored m n i) (λ on.
+pub ends_by : {m : LogMap} (n : ℕ) (h : Header) → IsLogMap m → m.header n ≡ Some (as_header h) → EndsBy m n h.size
+ends_by {m} n h is at i past = false_from_ne_true (is_stored m n i) (λ on.
     let within = is.within n i (ltb-true 0 (length (m.block n i)) on) in
     let same : within.0 ≡ as_header h = (let both : Some within.0 ≡ Some (as_header h) = sym within.1 ∙ at in cc) in
     let low : 512 * i < h.size = subst (λ (g : entry.Header). 512 * i < g.size) same within.2 in
@@ -68,25 +68,25 @@ module _ {D : Type 0} (state : D → DeviceState) (c : Changes) (n : ℕ) where
   absent h h' from to answer k m0 m keeps is map =
       let none = answer k m0 m keeps is in
       record {
-        stored = sym (stored_nothing (staged c m) n from to (λ i le lt. nothing_stored (staged c m) n map none i));
+        stored = sym (stored_nothing (staged c m) n from to (λ i le lt. nothing_stored n map none i));
         above = (
-            let beside = beside_none (staged c m) n (nothing_stored (staged c m) n map none) from to in
+            let beside = beside_none (staged c m) n (nothing_stored n map none) from to in
             let gone : meta_of_file (staged c m) n ≡ 0 =
             ap (λ (o : Option entry.Header). elim o [ None ↦ 0 | Some h ↦ 1 + pointers (stored_blocks (staged c m) n) ]) none in
             omega (arith, beside, gone));
       }
 
   -- the double root: a leaf below it is stored, or none was found
-  pub double_told : (h a b : LogState D) (size leaf : ℕ) → Reads state h a → 1 ≤ leaf → leaf ≤ 128
+  pub double_told : {h a : LogState D} (b : LogState D) (size leaf : ℕ) → Reads state h a → 1 ≤ leaf → leaf ≤ 128
       → Tells state (λ m. has_leaf m n) a b c leaf true → TellsDouble state h b c n size true
-  double_told h a b size leaf one some few tells k m0 m keeps is ends =
-      sym (double_found (staged c m) n leaf some few (tells k m0 m keeps (held_still state h a k m0 m one is)))
+  double_told {h} {a} b size leaf one some few tells k m0 m keeps is ends =
+      sym (double_found (staged c m) n leaf some few (tells k m0 m keeps (held_still state one is)))
 
-  pub double_missed : (h b : LogState D) (size end index : ℕ) → (size ≤ 512 * (112 + 128 * end)) ⊎ (129 ≤ end) → end ≤ 129
+  pub double_missed : {h b : LogState D} (size end : ℕ) {index : ℕ} → (size ≤ 512 * (112 + 128 * end)) ⊎ (129 ≤ end) → end ≤ 129
       → index ≡ max end 1
       → CountedUpTo state (λ m. has_leaf m n) h b c 1 index 0 → TellsDouble state h b c n size false
-  double_missed h b size end index past few last was k m0 m keeps is ends =
-      sym (double_none (staged c m) n size end ends past (counts_leaves state h b c n 1 (max end 1) index 0 last was k m0 m keeps is) few)
+  double_missed {h} {b} size end {index} past few last was k m0 m keeps is ends =
+      sym (double_none (staged c m) n size end ends past (counts_leaves n last was k m0 m keeps is) few)
 
   -- the leaves at some indices, and the double root: looked for, or above a leaf behind the first
   module _ (h a : LogState D) (size from to first end count : ℕ) (range : IsLeafRange size from to first end) (order : from ≤ to)
@@ -100,11 +100,11 @@ module _ {D : Type 0} (state : D → DeviceState) (c : Changes) (n : ℕ) where
         let all = beside_split m n from to order low in
         omega (arith, counted, same, here, all)
 
-    pub counts_pointers : (b : LogState D) (found : Bool) → Reads state h a → Reads state a b → TellsDouble state a b c n size found
+    pub counts_pointers : {b : LogState D} (found : Bool) → Reads state h a → Reads state a b → TellsDouble state a b c n size found
         → CountsPointers state h b c n size from to (count + bool_byte found)
-    counts_pointers b found one two double k m0 m keeps is ends =
+    counts_pointers {b} found one two double k m0 m keeps is ends =
         let all = within (staged c m) ends (leaves k m0 m (two.looks.carries.kept_before keeps) is) in
-        let root = double k m0 m keeps (held_still state h a k m0 m one is) ends in
+        let root = double k m0 m keeps (held_still state one is) ends in
         let up = pointers_all (staged c m) n in
         omega (arith, all, root, up, byte found)
       where
@@ -120,19 +120,19 @@ module _ {D : Type 0} (state : D → DeviceState) (c : Changes) (n : ℕ) where
         let up = pointers_all (staged c m) n in
         omega (arith, all, root, up)
 
-  pub measured : (h a b d : LogState D) (head : Header) (blocks from to count above : ℕ) → Reads state h a → Reads state a b
+  pub measured : {h a b d : LogState D} (head : Header) (blocks from to count above : ℕ) → Reads state h a → Reads state a b
       → Reads state b d
       → head.size ≤ 512 * blocks → from ≤ to
       → ReadsHeader state h a c n (Some head) → CountsStored state a b c n (min from (min blocks to)) (min blocks to) count
       → CountsPointers state b d c n head.size from to above
       → Measures state h d c n from to (record { data_blocks = count; meta_blocks = 1 + above })
-  measured h a b d head blocks from to count above one two three covers order answer counted below k m0 m keeps is map =
+  measured {h} {a} {b} head blocks from to count above one two three covers order answer counted below k m0 m keeps is map =
       let keeps_b = three.looks.carries.kept_before keeps in
       let keeps_a = two.looks.carries.kept_before keeps_b in
       let at = answer k m0 m keeps_a is in
-      let held_a = held_still state h a k m0 m one is in
-      let held_b = held_still state a b k m0 m two held_a in
-      let ends = ends_by (staged c m) n head map at in
+      let held_a = held_still state one is in
+      let held_b = held_still state two held_a in
+      let ends = ends_by n head map at in
       let up = below k m0 m keeps held_b ends in
       let is_there : meta_of_file (staged c m) n ≡ 1 + pointers (stored_blocks (staged c m) n) =
       ap (λ (o : Option entry.Header). elim o [ None ↦ 0 | Some h ↦ 1 + pointers (stored_blocks (staged c m) n) ]) at in

@@ -11,9 +11,10 @@ use Rattle.lfs_store.specs.Pieces.{CutBegins, CutHeads, CutBlocksHeads, CutBetwe
 use Rattle.lfs_store.proofs.PiecesStored.{stored_reads, stored_whole, other_block, block_apart, changed_twice, same_whole}
 
 -- A file whose blocks are each the same or none is whole.
-fewer_whole : (m m' : LogMap) (n first : ℕ) → ((i : ℕ) → i < first → m'.block n i ≡ m.block n i) → ((i : ℕ) → first ≤ i → m'.block n i ≡ [])
+fewer_whole : (m : LogMap) {m' : LogMap} (n first : ℕ) → ((i : ℕ) → i < first → m'.block n i ≡ m.block n i)
+    → ((i : ℕ) → first ≤ i → m'.block n i ≡ [])
     → AreStoredWhole m n → AreStoredWhole m' n
-fewer_whole m m' n first below gone was = record {
+fewer_whole m {m'} n first below gone was = record {
   long = λ i has. ap length (same i has) ∙ was.long i (subst (λ (b : List ℕ). 0 < length b) (same i has) has);
   nonzero = λ i has.
       let one = was.nonzero i (subst (λ (b : List ℕ). 0 < length b) (same i has) has) in
@@ -36,7 +37,7 @@ cut_begins m n first = record {
         (false_from_ne_true _ (λ on. ne (eqb-true k n (and_parts (k == n) (nat_le first i) on).0)));
     version = refl;
   };
-  whole = fewer_whole m (cut_from n first m) n first below gone;
+  whole = fewer_whole m n first below gone;
 }
   where
     below : (i : ℕ) → i < first → cond (n == n && nat_le first i) [] (m.block n i) ≡ m.block n i
@@ -51,9 +52,9 @@ pub cut_heads : CutHeads
 cut_heads m m' m'' n first h far with_it = record {
   below = λ i lt. with_it.block n i ∙ far.below i lt;
   gone = λ i le. with_it.block n i ∙ far.gone i le;
-  only = changed_twice m m' m'' n far.only
+  only = changed_twice far.only
       record { headers = with_it.others; blocks = λ k i ne. with_it.block k i; version = with_it.version };
-  whole = λ was. same_whole m' m'' n (with_it.block n) (far.whole was);
+  whole = λ was. same_whole m'' (with_it.block n) (far.whole was);
 }
 
 pub cut_blocks_heads : CutBlocksHeads
@@ -62,9 +63,9 @@ cut_blocks_heads m m' m'' n len h is with_it = record {
   last = λ k lt. ap (λ (b : List ℕ). slice_index b k) (with_it.block n (len / 512)) ∙ is.last k lt;
   zeros = λ k le. ap (λ (b : List ℕ). slice_index b k) (with_it.block n (len / 512)) ∙ is.zeros k le;
   gone = λ i le. with_it.block n i ∙ is.gone i le;
-  only = changed_twice m m' m'' n is.only
+  only = changed_twice is.only
       record { headers = with_it.others; blocks = λ k i ne. with_it.block k i; version = with_it.version };
-  whole = λ was. same_whole m' m'' n (with_it.block n) (is.whole was);
+  whole = λ was. same_whole m'' (with_it.block n) (is.whole was);
 }
 
 pub cut_between : CutBetween
@@ -93,12 +94,12 @@ cut_inside m m' m'' n len old new odd far holds cuts long with_it = record {
   last = λ k lt. own k ∙ cuts.before k lt ∙ holds.bytes k ∙ ap (λ (b : List ℕ). slice_index b k) (far.below (len / 512) (omega arith));
   zeros = λ k le. own k ∙ cuts.zeros k le;
   gone = λ i le. other i (λ is. absurd (omega arith)) ∙ far.gone i (omega arith);
-  only = changed_twice m m' m'' n far.only (block_apart m' m'' n (len / 512) (stored new) with_it);
+  only = changed_twice far.only (block_apart with_it);
   whole = λ was. block_whole m' m'' n (len / 512) (stored new) with_it (far.whole was) (stored_whole new long);
 }
   where
     other : (i : ℕ) → (i ≡ len / 512 → ⊥) → m''.block n i ≡ m'.block n i
-    other = other_block m' m'' n (len / 512) (stored new) with_it
+    other = other_block with_it
 
     own : (k : ℕ) → slice_index (m''.block n (len / 512)) k ≡ slice_index new k
     own k = ap (λ (b : List ℕ). slice_index b k) with_it.own ∙ stored_reads new k

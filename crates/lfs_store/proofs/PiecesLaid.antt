@@ -33,9 +33,9 @@ module _ (a k : ℕ) (xs ys : List ℕ) (room : a + k ≤ length xs) where
       ∙ ap (λ (p : ℕ). get_or xs p 0) (sym at)
 
 -- a part that was written with w is w laid over
-pub written_overlays : (a k : ℕ) (xs ys w : List ℕ) → a + k ≤ length xs → ys ≡ w → length w ≡ k
+pub written_overlays : (a : ℕ) {k : ℕ} (xs ys : List ℕ) {w : List ℕ} → a + k ≤ length xs → ys ≡ w → length w ≡ k
     → Overlays a w (slice_index xs) (slice_index (put_mid a k xs ys))
-written_overlays a k xs ys w room same long = record {
+written_overlays a {k} xs ys room same long = record {
   before = written_before a k xs ys room;
   inside = λ j lt. written_inside a k xs ys room (ap length same ∙ long) j (omega arith) ∙ ap (λ (zs : List ℕ). get_or zs j 0) same;
   behind = λ i le. written_behind a k xs ys room (ap length same ∙ long) i (omega arith);
@@ -69,18 +69,19 @@ copied_piece at w index skip len place fits =
     take_same (skip + len - skip) (512 - place_in_block at index) (drop skip w) (omega arith)
     ∙ ap (λ (k : ℕ). take (512 - place_in_block at index) (drop k w)) place
 
-pub copied_overlays : (block new w : List ℕ) (at index skip start stop : ℕ) → length block ≡ 512 → start ≡ place_in_block at index
+pub copied_overlays : {block : List ℕ} (new : List ℕ) {w : List ℕ} {at index : ℕ} (skip start stop : ℕ) → length block ≡ 512
+    → start ≡ place_in_block at index
     → stop ≡ place_in_block (at + length w) index
     → start < stop → skip ≡ 512 * index - at → new ≡ take (skip + (stop - start) - skip) (drop skip w)
     → BlockOverlays at w index block (put_mid start (stop - start) block new)
-copied_overlays block new w at index skip start stop long from to some place copied =
+copied_overlays {block} new {w} {at} {index} skip start stop long from to some place copied =
     let is : new ≡ piece at w index = copied ∙ copied_piece at w index skip (stop - start) place (omega arith) in
     let l : length (piece at w index) ≡ stop - start = length_piece at w index ∙ (omega arith) in
     record {
       fits = piece_fits at w index;
       laid =
           subst (λ (s : ℕ). Overlays s (piece at w index) (slice_index block) (slice_index (put_mid start (stop - start) block new))) from
-          (written_overlays start (stop - start) block new (piece at w index) (omega arith) is l);
+          (written_overlays start block new (omega arith) is l);
     }
 
 -- a block that was filled with zeros from a place on

@@ -42,7 +42,7 @@ stored_whole bytes long some = ⊎_elim
     (cases_Bool (is_blank bytes))
 
 -- ---- log maps with another block, and with another header
-module _ (m m' : LogMap) (n i : ℕ) (bytes : List ℕ) (with_it : IsWithBlock m n i bytes m') where
+module _ {m m' : LogMap} {n i : ℕ} {bytes : List ℕ} (with_it : IsWithBlock m n i bytes m') where
   pub other_block : (l : ℕ) → (l ≡ i → ⊥) → m'.block n l ≡ m.block n l
   other_block l ne = with_it.others n l (λ h. ne (place h))
     where
@@ -56,19 +56,19 @@ module _ (m m' : LogMap) (n i : ℕ) (bytes : List ℕ) (with_it : IsWithBlock m
       file : (k l : ℕ) → Data k l ≡ Data n i → k ≡ n
       file k l h = cc
 
-pub changed_twice : (m m' m'' : LogMap) (n : ℕ) → IsChangedAt m n m' → IsChangedAt m' n m'' → IsChangedAt m n m''
-changed_twice m m' m'' n first next = record {
+pub changed_twice : {m m' m'' : LogMap} {n : ℕ} → IsChangedAt m n m' → IsChangedAt m' n m'' → IsChangedAt m n m''
+changed_twice first next = record {
   headers = λ k ne. next.headers k ne ∙ first.headers k ne;
   blocks = λ k i ne. next.blocks k i ne ∙ first.blocks k i ne;
   version = next.version ∙ first.version;
 }
 
-pub changed_none : (m : LogMap) (n : ℕ) → IsChangedAt m n m
-changed_none m n = record { headers = λ k ne. refl; blocks = λ k i ne. refl; version = refl }
+pub changed_none : {m : LogMap} {n : ℕ} → IsChangedAt m n m
+changed_none = record { headers = λ k ne. refl; blocks = λ k i ne. refl; version = refl }
 
 -- A file whose blocks are the same is whole.
-pub same_whole : (m m' : LogMap) (n : ℕ) → ((i : ℕ) → m'.block n i ≡ m.block n i) → AreStoredWhole m n → AreStoredWhole m' n
-same_whole m m' n same was = record {
+pub same_whole : {m : LogMap} (m' : LogMap) {n : ℕ} → ((i : ℕ) → m'.block n i ≡ m.block n i) → AreStoredWhole m n → AreStoredWhole m' n
+same_whole m' same was = record {
   long = λ i has. ap length (same i) ∙ was.long i (subst (λ (b : List ℕ). 0 < length b) (same i) has);
   nonzero = λ i has.
       let one = was.nonzero i (subst (λ (b : List ℕ). 0 < length b) (same i) has) in

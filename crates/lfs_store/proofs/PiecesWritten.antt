@@ -19,12 +19,12 @@ write_begins m n at w = record {
   inside = λ j lt below. absurd (omega arith);
   behind = λ p le. refl;
   rest = λ i le. refl;
-  only = changed_none m n;
+  only = changed_none;
   whole = λ was. was;
 }
 
 -- One block with the bytes that lie in it laid over is the file with them laid over.
-module _ (m' m'' : LogMap) (n at index : ℕ) (w old new : List ℕ) (over : BlockOverlays at w index old new)
+module _ (m' m'' : LogMap) (n at : ℕ) {index : ℕ} (w old new : List ℕ) (over : BlockOverlays at w index old new)
     (with_it : IsWithBlock m' n index (stored new) m'') where
   -- it had these bytes
   over_old : HoldsBlock m' n index old → Overlays (512 * index + place_in_block at index) (piece at w index) (byte_in m' n) (byte_in m'' n)
@@ -50,7 +50,7 @@ module _ (m' m'' : LogMap) (n at index : ℕ) (w old new : List ℕ) (over : Blo
       (λ i k few behind. apart i k (λ is. absurd (omega (arith, is, few, behind, low, high, l))))
     where
       apart : (i k : ℕ) → (i ≡ index → ⊥) → slice_index (m''.block n i) k ≡ slice_index (m'.block n i) k
-      apart i k ne = ap (λ (b : List ℕ). slice_index b k) (other_block m' m'' n index (stored new) with_it i ne)
+      apart i k ne = ap (λ (b : List ℕ). slice_index b k) (other_block with_it i ne)
 
 module _ (m m' m'' : LogMap) (n at index : ℕ) (w old new : List ℕ) (far : WriteSoFar m m' n at w index)
     (beneath : IsBeneath m' n index at w old) (over : BlockOverlays at w index old new)
@@ -62,8 +62,8 @@ module _ (m m' m'' : LogMap) (n at index : ℕ) (w old new : List ℕ) (far : Wr
   some = piece at w index
 
   step : Overlays (512 * index + place) some (byte_in m' n) (byte_in m'' n)
-  step = ⊎_elim (λ holds. over_old m' m'' n at index w old new over with_it holds)
-      (λ covers. over_any m' m'' n at index w old new over with_it covers) beneath
+  step = ⊎_elim (λ holds. over_old m' m'' n at w old new over with_it holds)
+      (λ covers. over_any m' m'' n at w old new over with_it covers) beneath
 
   go_before : (p : ℕ) → p < at → byte_in m'' n p ≡ byte_in m n p
   go_before p lt =
@@ -104,8 +104,8 @@ module _ (m m' m'' : LogMap) (n at index : ℕ) (w old new : List ℕ) (far : Wr
     before = go_before;
     inside = go_inside;
     behind = go_behind;
-    rest = λ i le. other_block m' m'' n index (stored new) with_it i (λ is. absurd (omega arith)) ∙ far.rest i (omega arith);
-    only = changed_twice m m' m'' n far.only (block_apart m' m'' n index (stored new) with_it);
+    rest = λ i le. other_block with_it i (λ is. absurd (omega arith)) ∙ far.rest i (omega arith);
+    only = changed_twice far.only (block_apart with_it);
     whole = λ was. block_whole m' m'' n index (stored new) with_it (far.whole was) (stored_whole new long);
   }
 
@@ -119,9 +119,9 @@ write_heads m m' m'' n at index w h far with_it = record {
   inside = λ j lt below. same (at + j) ∙ far.inside j lt below;
   behind = λ p le. same p ∙ far.behind p le;
   rest = λ i le. with_it.block n i ∙ far.rest i le;
-  only = changed_twice m m' m'' n far.only
+  only = changed_twice far.only
       record { headers = with_it.others; blocks = λ k i ne. with_it.block k i; version = with_it.version };
-  whole = λ was. same_whole m' m'' n (with_it.block n) (far.whole was);
+  whole = λ was. same_whole m'' (with_it.block n) (far.whole was);
 }
   where
     same : (p : ℕ) → byte_in m'' n p ≡ byte_in m' n p

@@ -132,9 +132,10 @@ unfolding leaves_in
 leaves_same m m' n a b same = passing_same (has_leaf m' n) (has_leaf m n) a (b - a) (λ q le lt. same q le (omega (arith, le, lt)))
 
 -- as many leaves as the blocks of a size need, or all
-pub leaves_cover : (size blocks leaves end : ℕ) → blocks ≡ div_ceil size 512 → leaves ≡ div_ceil (blocks - 112) 128 → end ≡ min leaves 129
+pub leaves_cover : (size : ℕ) {blocks leaves end : ℕ} → blocks ≡ div_ceil size 512 → leaves ≡ div_ceil (blocks - 112) 128
+    → end ≡ min leaves 129
     → (size ≤ 512 * (112 + 128 * end)) ⊎ (129 ≤ end)
-leaves_cover size blocks leaves end up down few = ⊎_elim
+leaves_cover size {end} up down few = ⊎_elim
     (λ (less : end < 129). inl (omega (arith, up, down, few, less)))
     (λ (all : 129 ≤ end). inr all)
     (cases_lt end 129)

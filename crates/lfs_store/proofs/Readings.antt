@@ -26,7 +26,7 @@ says_after_loss c n (Some (Some h)) left loses = λ m. left.1 m ∙ loses m
 pub says_stored : (m : LogMap) (n i : ℕ) (bytes : List ℕ) (blank : Bool) → length bytes ≡ 512 → (IsTrue blank ↔ bytes ≡ zeros 512)
     → m.block n i ≡ stored bytes → BlockAnswer m n i bytes (not blank)
 says_stored m n i bytes true long test is = is ∙ stored_none bytes 512 (test.0 refl)
-says_stored m n i bytes false long test is = is ∙ stored_some bytes 512 long (λ e. let bad : false ≡ true = test.1 e in absurd (cc))
+says_stored m n i bytes false long test is = is ∙ stored_some bytes long (λ e. let bad : false ≡ true = test.1 e in absurd (cc))
 
 -- ---- what the log answers
 same_header : (m m' : LogMap) (n : ℕ) (found : Option Header) → m'.header n ≡ m.header n → HeaderAnswer m n found → HeaderAnswer m' n found

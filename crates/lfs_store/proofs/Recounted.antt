@@ -52,13 +52,13 @@ no_measure m n from to none gone = record {
 }
 
 -- ---- a file is made
-pub made_counts : (a b : LogMap) (n : ℕ) (head : Header) (old new : BlockTotals) → 1 ≤ n → n ≤ 4095 → with_header a n (Some head) ≡ b
+pub made_counts : (a b : LogMap) (n : ℕ) (head : Header) {old : BlockTotals} (new : BlockTotals) → 1 ≤ n → n ≤ 4095
+    → with_header a n (Some head) ≡ b
     → IsLogMap a → a.header n ≡ None
     → Recounts old new (record { data_blocks = 0; meta_blocks = 0 }) (record { data_blocks = 0; meta_blocks = 1 })
     → AreTotals a old → AreTotals b new
-made_counts a b n head old new some few is map gone recounts are = subst (λ (x : LogMap). AreTotals x new) is
-    (recounted a over n 0 0 old new (record { data_blocks = 0; meta_blocks = 0 })
-    (record { data_blocks = 0; meta_blocks = 1 }) (changed_header a n (Some head)) some few (omega arith) (omega arith)
+made_counts a b n head {old} new some few is map gone recounts are = subst (λ (x : LogMap). AreTotals x new) is (recounted a n
+    (changed_header a n (Some head)) some few (omega arith) (omega arith)
     (λ i out. refl) (no_measure a n 0 0 none gone)
     (record {
       stored = sym (stored_nothing over n 0 0 (λ i le lt. none i));
@@ -69,12 +69,12 @@ made_counts a b n head old new some few is map gone recounts are = subst (λ (x 
     over = with_header a n (Some head)
 
     none : (i : ℕ) → is_stored a n i ≡ false
-    none = nothing_stored a n map gone
+    none = nothing_stored n map gone
 
     above : 1 ≡ meta_of_file over n
     above =
         ap (λ (k : ℕ). 1 + k) (sym (inode_alone over n none))
-        ∙ ap (λ (o : Option Header). meta_by o (pointers (stored_blocks over n))) (sym (is_with_header a n (Some head)).own)
+        ∙ ap (λ (o : Option Header). meta_by o (pointers (stored_blocks over n))) (sym (is_with_header a n {h = Some head}).own)
 
 -- ---- a file has other links
 
@@ -82,16 +82,17 @@ same_list : (m : LogMap) (n : ℕ) (h : Option Header) (end : ℕ) → stored_be
 unfolding stored_below
 same_list m n h end = refl
 
-pub relinked_totals : (m : LogMap) (n : ℕ) (h h' : Header) (t : BlockTotals) → 1 ≤ n → n ≤ 4095 → m.header n ≡ Some h → AreTotals m t
+pub relinked_totals : (m : LogMap) (n : ℕ) {h : Header} (h' : Header) (t : BlockTotals) → 1 ≤ n → n ≤ 4095 → m.header n ≡ Some h
+    → AreTotals m t
     → AreTotals (with_header m n (Some h')) t
-relinked_totals m n h h' t some few there are =
+relinked_totals m n h' t some few there are =
     let law = totals_of_change m (with_header m n (Some h')) n 0 0 (changed_header m n (Some h')) some few (omega arith) (omega arith)
     (λ i out. refl) in
     let none = stored_nothing m n 0 0 (λ i le lt. absurd (omega (arith, lt))) in
     let none' = stored_nothing (with_header m n (Some h')) n 0 0 (λ i le lt. absurd (omega (arith, lt))) in
     let was = ap (λ (o : Option Header). meta_by o (pointers (stored_blocks m n))) there in
     let now =
-    ap (λ (o : Option Header). meta_by o (pointers (stored_blocks (with_header m n (Some h')) n))) (is_with_header m n (Some h')).own in
+    ap (λ (o : Option Header). meta_by o (pointers (stored_blocks (with_header m n (Some h')) n))) (is_with_header m n {h = Some h'}).own in
     let same = ap (λ (is : List ℕ). 1 + pointers is) (same_list m n (Some h') 16624) in
     record {
       stored = are.stored ∙ blocks (data_in m) (data_in (with_header m n (Some h'))) _ _ law.0 none none';
@@ -105,21 +106,20 @@ relinked_totals m n h h' t some few there are =
     others : (a b x y : ℕ) → b + x ≡ a + y → x ≡ y → a ≡ b
     others a b x y e same = omega (arith, e, same)
 
-module _ {D : Type 0} (state : D → DeviceState) where
+module _ {D : Type 0} {state : D → DeviceState} where
   -- ---- a file goes at once
-  pub gone_counts : (h a h' : LogState D) (c : Changes) (n : ℕ) (before : Measure) (old new : BlockTotals) → 1 ≤ n → n ≤ 4095 → IsNoChange c
+  pub gone_counts : {h a h' : LogState D} {c : Changes} (n : ℕ) {before : Measure} {old new : BlockTotals} → 1 ≤ n → n ≤ 4095 → IsNoChange c
       → Reads state h a → Measures state h a c n 0 16624 before → Alters state a h' 0 false
       → Recounts old new before (record { data_blocks = 0; meta_blocks = 0 }) → CountsGone state h h' n old new
-  gone_counts h a h' c n before old new some few none first measured alters recounts k m0 m keeps is map map' are =
+  gone_counts {c} n {before} {old} {new} some few none first measured alters recounts k m0 m keeps is map map' are =
       let same = no_change c m none in
       let was = measured k m0 m (alters.looks.carries.kept_before keeps) is (subst IsLogMap (sym same) map) in
       let gone = (is_without m n).header in
-      recounted m (without_file n m) n 0 16624 old new before (record { data_blocks = 0; meta_blocks = 0 }) (without_changed m n) some few
-      (omega arith) (omega arith)
+      recounted m n (without_changed m n) some few (omega arith) (omega arith)
       (λ i out.
-      ⊎_elim (λ (lt : i < 0). absurd (omega (arith, lt))) (λ (high : 16624 ≤ i). same_high m (without_file n m) n i map map' high) out)
+      ⊎_elim (λ (lt : i < 0). absurd (omega (arith, lt))) (λ (high : 16624 ≤ i). same_high m n i map map' high) out)
       (subst (λ (x : LogMap). HasMeasure x n 0 16624 before.data_blocks before.meta_blocks) same was)
-      (no_measure (without_file n m) n 0 16624 (nothing_stored (without_file n m) n map' gone) gone) recounts are
+      (no_measure (without_file n m) n 0 16624 (nothing_stored n map' gone) gone) recounts are
 
   -- a log that was only read
   pub alters_read : (h a : LogState D) → Reads state h a → Alters state h a 0 false
@@ -136,7 +136,7 @@ module _ {D : Type 0} (state : D → DeviceState) where
 
   alters_more : (h a h' : LogState D) → IsLawful (state h.device) → Reads state h a → Alters state a h' 0 false → Alters state h h' 0 false
   alters_more h a h' lawful reads alters = record {
-    looks = looks_then (state h.device) (state a.device) (state h'.device) lawful reads.looks alters.looks;
+    looks = looks_then lawful reads.looks alters.looks;
     number = alters.number ∙ reads.number;
     version = alters.version ∙ reads.version;
     upgraded = alters.upgraded ∙ reads.upgraded;
@@ -146,33 +146,33 @@ module _ {D : Type 0} (state : D → DeviceState) where
     few = let same = reads.waiting in let few = alters.few in omega (arith, same, few);
   }
 
-  untaken_read : (h a : LogState D) → Reads state h a → AreUntaken h.usage → AreUntaken a.usage
-  untaken_read h a reads = subst AreUntaken (sym reads.usage)
+  untaken_read : {h a : LogState D} → Reads state h a → AreUntaken h.usage → AreUntaken a.usage
+  untaken_read reads = subst AreUntaken (sym reads.usage)
 
-  pub kept_read : (h a : LogState D) → Reads state h a → IsKept state h a
-  kept_read h a reads = record {
+  pub kept_read : {h a : LogState D} → Reads state h a → IsKept state h a
+  kept_read {h} {a} reads = record {
     alters = alters_read h a reads;
     saved = reads.saved;
-    untaken = untaken_read h a reads;
-    holds = λ k m0 m keeps is. held_still state h a k m0 m reads is;
+    untaken = untaken_read reads;
+    holds = λ k m0 m keeps is. held_still state reads is;
   }
 
-  pub kept_more : (h a h' : LogState D) → IsLawful (state h.device) → Reads state h a → IsKept state a h' → IsKept state h h'
-  kept_more h a h' lawful reads kept =
+  pub kept_more : {h a h' : LogState D} → IsLawful (state h.device) → Reads state h a → IsKept state a h' → IsKept state h h'
+  kept_more {h} {a} {h'} lawful reads kept =
       record {
         alters = alters_more h a h' lawful reads kept.alters;
         saved = kept.saved ∙ reads.saved;
-        untaken = λ before. kept.untaken (untaken_read h a reads before);
-        holds = λ k m0 m keeps is. kept.holds k m0 m keeps (held_still state h a k m0 m reads is);
+        untaken = λ before. kept.untaken (untaken_read reads before);
+        holds = λ k m0 m keeps is. kept.holds k m0 m keeps (held_still state reads is);
       }
 
-  pub removed_more : (h a h' : LogState D) (n : ℕ) → IsLawful (state h.device) → Reads state h a → IsRemoved state a h' n
+  pub removed_more : {h a h' : LogState D} {n : ℕ} → IsLawful (state h.device) → Reads state h a → IsRemoved state a h' n
       → IsRemoved state h h' n
-  removed_more h a h' n lawful reads gone =
+  removed_more {h} {a} {h'} lawful reads gone =
       record {
         alters = alters_more h a h' lawful reads gone.alters;
         unsaved = λ off. gone.unsaved (reads.saved ∙ off);
-        nameless = λ k m0 m keeps is off. gone.nameless k m0 m keeps (held_still state h a k m0 m reads is) off ∙ reads.saved;
-        untaken = λ before. gone.untaken (untaken_read h a reads before);
-        holds = λ k m0 m keeps is. gone.holds k m0 m keeps (held_still state h a k m0 m reads is);
+        nameless = λ k m0 m keeps is off. gone.nameless k m0 m keeps (held_still state reads is) off ∙ reads.saved;
+        untaken = λ before. gone.untaken (untaken_read reads before);
+        holds = λ k m0 m keeps is. gone.holds k m0 m keeps (held_still state reads is);
       }

@@ -68,28 +68,28 @@ meta_low m = let most = sum_most (meta_of_file m) 4095 (λ n. meta_few (m.header
 
 -- ---- one file changes
 
-replaced : (old before after new all was now total : ℕ) → Replaces old before after new → old ≡ total → before ≡ was → after ≡ now
+replaced : {old before after new all was now total : ℕ} → Replaces old before after new → old ≡ total → before ≡ was → after ≡ now
     → all + was ≡ total + now → all < 2 ^ 32 → new ≡ all
-replaced old before after new all was now total replaces a b c law low =
+replaced replaces a b c law low =
     let is = replaces (omega (arith, a, b, c, law)) (omega (arith, a, b, c, law, low)) in
     omega (arith, is, a, b, c, law)
 
-pub recounted : (m m' : LogMap) (n from to : ℕ) (old new : BlockTotals) (before after : Measure) → IsChangedAt m n m' → 1 ≤ n → n ≤ 4095
+pub recounted : (m : LogMap) {m' : LogMap} (n : ℕ) {from to : ℕ} {old new : BlockTotals} {before after : Measure} → IsChangedAt m n m'
+    → 1 ≤ n → n ≤ 4095
     → from ≤ to → to ≤ 16624
     → ((i : ℕ) → (i < from) ⊎ (to ≤ i) → m'.block n i ≡ m.block n i)
     → HasMeasure m n from to before.data_blocks before.meta_blocks → HasMeasure m' n from to after.data_blocks after.meta_blocks
     → Recounts old new before after → AreTotals m old → AreTotals m' new
-recounted m m' n from to old new before after changed some few order low same was now recounts are =
+recounted m {m'} n {from} {to} {old} {new} {before} {after} changed some few order low same was now recounts are =
     let law = totals_of_change m m' n from to changed some few order low same in
     let beside = beside_same m m' n from to same in
     let first = was.above in
     let last = now.above in
     let all = law.1 in
     record {
-      stored = replaced old.data_blocks before.data_blocks after.data_blocks new.data_blocks (data_in m') (stored_in m n from to)
-          (stored_in m' n from to) (data_in m) recounts.stored are.stored was.stored now.stored law.0 (data_low m');
-      above = replaced old.meta_blocks before.meta_blocks after.meta_blocks new.meta_blocks (meta_in m') before.meta_blocks
-          after.meta_blocks (meta_in m) recounts.above are.above refl refl (omega (arith, first, last, beside, all)) (meta_low m');
+      stored = replaced recounts.stored are.stored was.stored now.stored law.0 (data_low m');
+      above = replaced {before = before.meta_blocks} {after = after.meta_blocks} {was = before.meta_blocks}
+          {now = after.meta_blocks} recounts.above are.above refl refl (omega (arith, first, last, beside, all)) (meta_low m');
     }
 
 -- a log map has no block from 16624 on
@@ -100,5 +100,5 @@ none_high m n i is high = by (m.block n i) refl
     by [] e = refl
     by (x ∷ b) e = let long = ap length e in let low = is.small n i (omega (arith, long)) in absurd (omega (arith, low, high))
 
-pub same_high : (m m' : LogMap) (n i : ℕ) → IsLogMap m → IsLogMap m' → 16624 ≤ i → m'.block n i ≡ m.block n i
-same_high m m' n i is is' high = none_high m' n i is' high ∙ sym (none_high m n i is high)
+pub same_high : (m : LogMap) {m' : LogMap} (n i : ℕ) → IsLogMap m → IsLogMap m' → 16624 ≤ i → m'.block n i ≡ m.block n i
+same_high m {m'} n i is is' high = none_high m' n i is' high ∙ sym (none_high m n i is high)

@@ -19,8 +19,8 @@ none_behind n i zero es none = none
 none_behind n i (suc p) [] none = none
 none_behind n i (suc p) (e ∷ es) none = none_behind n i p es none.1
 
-pub placed_again : (old new : Changes) (n i p : ℕ) → LastBlock old.blocks.items n i p → PlacesBlock old new n i
-placed_again old new n i p last none =
+pub placed_again : (old new : Changes) {n i p : ℕ} → LastBlock old.blocks.items n i p → PlacesBlock old new n i
+placed_again old new {n} {i} {p} last none =
     absurd ((subst (NoBlock n i) last.there (none_behind n i p old.blocks.items none)).0 last.block)
 
 pub placed_behind : (old new : Changes) (n i : ℕ) (bytes : List ℕ) → batch.AddsBlockEdit old new n i bytes → PlacesBlock old new n i
@@ -120,10 +120,10 @@ ways_run n from to (e ∷ es) few run =
     omega (arith, rest, near)
 
 -- ---- a write into an empty draft
-pub written_room : (c c' c'' : Changes) (n from to : ℕ) (head : Header) → IsNoChange c → c'.headers ≡ c.headers
+pub written_room : (c : Changes) {c' c'' : Changes} {n : ℕ} (from to : ℕ) {head : Header} → IsNoChange c → c'.headers ≡ c.headers
     → IsRun n from to c'.blocks.items → to ≤ from + 129 → PutsHeader c' c'' n head
     → room_for c'' ≤ 144
-written_room c c' c'' n from to head none headers run few puts =
+written_room c {c'} {c''} {n} from to none headers run few puts =
     let a = ap length none.headers in
     let b = ap length (ap (λ v. v.items) headers) in
     let x = puts.few in

@@ -46,14 +46,14 @@ none_stored new long each = ⊎_elim
     (λ (empty : length (stored new) ≤ 0). nil_from_length (stored new) (omega (arith, empty)))
     (cases_lt 0 (length (stored new)))
 
-module _ (a b : LogMap) (n len : ℕ) (old new : List ℕ) (none : HasNoneBehind a n len) (holds : HoldsBlock a n (len / 512) old)
+module _ {a b : LogMap} (n len : ℕ) (old new : List ℕ) (none : HasNoneBehind a n len) (holds : HoldsBlock a n (len / 512) old)
     (cuts : CutsTail (len % 512) old new) (long : length new ≡ 512)
     (with_it : IsWithBlock a n (len / 512) (stored new) b) where
   before : CutSoFar a a n (len / 512 + 1)
-  before = record { below = λ i lt. refl; gone = λ i le. none i (omega (arith, le)); only = changed_none a n; whole = λ was. was }
+  before = record { below = λ i lt. refl; gone = λ i le. none i (omega (arith, le)); only = changed_none; whole = λ was. was }
 
   others : (i : ℕ) → (i ≡ len / 512 → ⊥) → b.block n i ≡ a.block n i
-  others = other_block a b n (len / 512) (stored new) with_it
+  others = other_block with_it
 
   whole_gone : len % 512 ≡ 0 → CutSoFar a b n (len / 512)
   whole_gone even = record {
@@ -62,7 +62,7 @@ module _ (a b : LogMap) (n len : ℕ) (old new : List ℕ) (none : HasNoneBehind
         (λ (here : i ≡ len / 512). ap (b.block n) here ∙ with_it.own ∙ none_stored new long (λ k. cuts.zeros k (omega (arith, even))))
         (λ (ne : i ≡ len / 512 → ⊥). others i ne ∙ none i (omega (arith, le, ne)))
         (cases_eq i (len / 512));
-    only = block_apart a b n (len / 512) (stored new) with_it;
+    only = block_apart with_it;
     whole = λ was. block_whole a b n (len / 512) (stored new) with_it was (stored_whole new long);
   }
 
@@ -81,35 +81,35 @@ none_behind a n head len last map there i lt =
     (λ j. refl)).gone i (omega (arith, lt))
 
 module _ {D : Type 0} (state : D → DeviceState) where
-  pub clears_tail : (h h' : LogState D) (c c' : Changes) (n len : ℕ) (old new : List ℕ) (found : Bool) → length old ≡ 512 → length new ≡ 512
+  pub clears_tail : {h h' : LogState D} {c c' : Changes} {n len : ℕ} {old new : List ℕ} (found : Bool) → length old ≡ 512 → length new ≡ 512
       → (IsFalse found → old ≡ zeros 512)
       → ReadsBlock state h h' c n (len / 512) old found → CutsTail (len % 512) old new → PutsBlock c c' n (len / 512) new
       → ClearsTail state h h' c c' n len
-  clears_tail h h' c c' n len old new found long stays blank answer cuts puts = record {
+  clears_tail {c} {c'} {n} {len} {old} {new} found long stays blank answer cuts puts = record {
     loss = puts.loss;
     headers = puts.headers;
     blocks = puts.few;
     header = λ m. ap (λ (a : LogMap). a.header n) (puts.map m);
-    only = λ m. block_apart (staged c m) (staged c' m) n (len / 512) (stored new) (with_it m);
-    others = λ m. other_block (staged c m) (staged c' m) n (len / 512) (stored new) (with_it m);
+    only = λ m. block_apart (with_it m);
+    others = λ m. other_block (with_it m);
     fits = puts.fits;
     file = λ k m0 m keeps holds none.
-        tail_cut (staged c m) (staged c' m) n len old new none
-        (block_read (staged c m) n (len / 512) old found long blank (answer k m0 m keeps holds)) cuts stays (with_it m);
+        tail_cut n len old new none
+        (block_read (staged c m) n (len / 512) found long blank (answer k m0 m keeps holds)) cuts stays (with_it m);
   }
     where
       with_it : (m : LogMap) → IsWithBlock (staged c m) n (len / 512) (stored new) (staged c' m)
-      with_it m = block_put (staged c m) (staged c' m) n (len / 512) (stored new) (puts.map m)
+      with_it m = block_put (staged c m) n (len / 512) (stored new) (puts.map m)
 
   -- ---- and its header says so
   module _ (a b c : Store D) (n : ℕ) (head : Header) (len : ℕ) (log : c.log ≡ b.log) (reads : Reads state a.log b.log)
       (clears : ClearsTail state a.log b.log a.draft.changes b.draft.changes n len)
       (puts : PutsHeader b.draft.changes c.draft.changes n (resized head len)) where
     with_it : (m : LogMap) → IsWithHeader (staged b.draft.changes m) n (Some (as_header (resized head len))) (staged c.draft.changes m)
-    with_it m = header_put (staged b.draft.changes m) (staged c.draft.changes m) n (resized head len) (puts.map m)
+    with_it m = header_put (staged b.draft.changes m) n (resized head len) (puts.map m)
 
     has_now : (m m' : LogMap) → HasMap state a.log a.draft.changes m m' → HasMap state c.log c.draft.changes m (staged c.draft.changes m)
-    has_now m m' has = still_has state a c m m' (subst (Reads state a.log) (sym log) reads) has
+    has_now m m' has = still_has state a c (subst (Reads state a.log) (sym log) reads) has
 
     -- no more than the file changes, in that block
     pub shrinks_only : ChangesOnly (files_of state a) (files_of state c) n (len / 512) (len / 512 + 1)
@@ -117,7 +117,7 @@ module _ {D : Type 0} (state : D → DeviceState) where
       map = staged c.draft.changes m;
       has = has_now m m' has;
       only = subst (λ (x : LogMap). IsChangedAt x n (staged c.draft.changes m)) (sym has.draft)
-          (changed_twice (staged a.draft.changes m) (staged b.draft.changes m) (staged c.draft.changes m) n (clears.only m) record {
+          (changed_twice {m'' = staged c.draft.changes m} (clears.only m) record {
             headers = (with_it m).others;
             blocks = λ k i ne. (with_it m).block k i;
             version = (with_it m).version;
@@ -147,8 +147,7 @@ module _ {D : Type 0} (state : D → DeviceState) where
         map = staged c.draft.changes m;
         has = has_now m m' has;
         header = (with_it m).own;
-        file = λ there. sized m' (staged b.draft.changes m) (staged c.draft.changes m) n head len less
-            (subst (λ (x : LogMap). CutBlocks x (staged b.draft.changes m) n len) (sym has.draft)
+        file = λ there. sized m' n head less (subst (λ (x : LogMap). CutBlocks x (staged b.draft.changes m) n len) (sym has.draft)
             (clears.file has.checkpoint has.acknowledged m (subst (λ (h : LogState D). (state h.device).keeps_model) log keeps) has.holds
             (subst (λ (x : LogMap). HasNoneBehind x n len) has.draft (none_behind m' n head len last there.map there.there))))
             (puts.map m);

@@ -40,42 +40,42 @@ module _ {D : Type 0} (state : D → DeviceState) (s : Store D) (d' : Draft) (u'
   S' = state_of state s.log d' u'
 
   -- the log map with the new draft
-  became : (m m' x : LogMap) → HasMap state s.log s.draft.changes m m' → x ≡ staged d'.changes m → HasMap state s.log d'.changes m x
-  became m m' x has draft =
+  became : {m m' x : LogMap} → HasMap state s.log s.draft.changes m m' → x ≡ staged d'.changes m → HasMap state s.log d'.changes m x
+  became has draft =
       record { checkpoint = has.checkpoint; acknowledged = has.acknowledged; holds = has.holds; draft = draft }
 
-  at : (n : ℕ) (m m' : LogMap) → HasMap state s.log s.draft.changes m m' → (staged s.draft.changes m).header n ≡ m'.header n
-  at n m m' has = ap (λ (x : LogMap). x.header n) (sym has.draft)
+  at : (n : ℕ) {m m' : LogMap} → HasMap state s.log s.draft.changes m m' → (staged s.draft.changes m).header n ≡ m'.header n
+  at n has = ap (λ (x : LogMap). x.header n) (sym has.draft)
 
   -- a header drafted by itself
   abbrev Puts : ℕ → Header → Type 0
   Puts n head = (m : LogMap) → staged d'.changes m ≡ with_header (staged s.draft.changes m) n (Some (as_header head))
 
-  put : (n : ℕ) (head : Header) → Puts n head → (m m' : LogMap) → HasMap state s.log s.draft.changes m m'
+  put : (n : ℕ) (head : Header) → Puts n head → {m m' : LogMap} → HasMap state s.log s.draft.changes m m'
       → with_header m' n (Some (as_header head)) ≡ staged d'.changes m
-  put n head puts m m' has = ap (λ (x : LogMap). with_header x n (Some (as_header head))) has.draft ∙ sym (puts m)
+  put n head puts {m} has = ap (λ (x : LogMap). with_header x n (Some (as_header head))) has.draft ∙ sym (puts m)
 
   pub header_counts : (n : ℕ) (old head : Header) → 1 ≤ n → n ≤ 4095 → Puts n head
       → files.CountsReformed S (state_of state s.log d' s.drafted) n old
   header_counts n old head some few puts m a b has has' there are =
-      subst (λ (x : LogMap). AreTotals x s.drafted) (put n head puts m a has ∙ sym has'.draft)
-      (relinked_totals a n (as_header old) (as_header head) s.drafted some few there are)
+      subst (λ (x : LogMap). AreTotals x s.drafted) (put n head puts has ∙ sym has'.draft)
+      (relinked_totals a n (as_header head) s.drafted some few there are)
 
   -- ---- another form
-  pub reforms : (n : ℕ) (head : Header) (form size : ℕ) → PutsHeader s.draft.changes d'.changes n (reformed head form size)
+  pub reforms : {n : ℕ} (head : Header) (form size : ℕ) → PutsHeader s.draft.changes d'.changes n (reformed head form size)
       → files.Reforms S S' n head form size
-  reforms n head form size puts = record {
+  reforms {n} head form size puts = record {
     lost = λ y. ap (λ (x : Loss). is_lost x y) puts.loss;
     headers = puts.few;
     blocks = ap length (ap (λ v. v.items) puts.blocks);
     asked = λ none empty. room_few d'.changes 1 0 (let few = puts.few in omega (arith, few, none))
         (let same = ap length (ap (λ v. v.items) puts.blocks) in omega (arith, same, empty));
     fits = λ m m' has fits takes. puts.fits m fits
-        (takes_header s.draft.changes m n head (reformed head form size) (at n m m' has ∙ takes.there) refl takes.apart.inode takes.header);
+        (takes_header s.draft.changes m n head (reformed head form size) (at n has ∙ takes.there) refl takes.apart.inode takes.header);
     file = λ m m' has. record {
       map = with_header m' n (Some (as_header (reformed head form size)));
-      has = became m m' _ has (put n (reformed head form size) puts.map m m' has);
-      file = is_with_header m' n (Some (as_header (reformed head form size)));
+      has = became has (put n (reformed head form size) puts.map has);
+      file = is_with_header m' n;
     };
   }
 
@@ -88,13 +88,13 @@ module _ {D : Type 0} (state : D → DeviceState) (s : Store D) (d' : Draft) (u'
     blocks = ap length (ap (λ v. v.items) puts.blocks);
     fits = λ m m' has fits takes. puts.fits m fits record {
       header = takes.header;
-      name = λ there. (let never : None ≡ Some there.0 = sym (at n m m' has ∙ takes.free) ∙ there.1 in absurd (cc));
+      name = λ there. (let never : None ≡ Some there.0 = sym (at n has ∙ takes.free) ∙ there.1 in absurd (cc));
       apart = takes.apart;
     };
     has = λ m m' has. record {
       map = with_header m' n (Some (as_header head));
-      has = became m m' _ has (put n head puts.map m m' has);
-      file = is_with_header m' n (Some (as_header head));
+      has = became has (put n head puts.map has);
+      file = is_with_header m' n;
       keeps = λ whole free form. made_map m' n (as_header head) whole free some few form;
     };
   }
@@ -103,7 +103,7 @@ module _ {D : Type 0} (state : D → DeviceState) (s : Store D) (d' : Draft) (u'
       → Recounts s.drafted u' (record { data_blocks = 0; meta_blocks = 0 }) (record { data_blocks = 0; meta_blocks = 1 })
       → files_made.CountsMade S S' n
   counts_made n head some few puts recounts m a b has has' whole free are =
-      made_counts a b n (as_header head) s.drafted u' some few (put n head puts.map m a has ∙ sym has'.draft) whole free recounts are
+      made_counts a b n (as_header head) u' some few (put n head puts.map has ∙ sym has'.draft) whole free recounts are
 
   -- ---- its links
   has_relinked : (n : ℕ) (head : Header) (links : ℕ) → Puts n (relinked head links) → (m m' : LogMap)
@@ -111,20 +111,19 @@ module _ {D : Type 0} (state : D → DeviceState) (s : Store D) (d' : Draft) (u'
       → files_made.HasRelinked S' m m' n head links
   has_relinked n head links puts m m' has = record {
     map = with_header m' n (Some (as_header (relinked head links)));
-    has = became m m' _ has (put n (relinked head links) puts m m' has);
-    file = is_with_header m' n (Some (as_header (relinked head links)));
+    has = became has (put n (relinked head links) puts has);
+    file = is_with_header m' n;
     keeps = λ whole there. relinked_map m' n (as_header head) links whole there;
   }
 
-  pub relinks : (n : ℕ) (head : Header) (links : ℕ) → 1 ≤ links → PutsHeader s.draft.changes d'.changes n (relinked head links)
+  pub relinks : {n : ℕ} (head : Header) (links : ℕ) → 1 ≤ links → PutsHeader s.draft.changes d'.changes n (relinked head links)
       → files_made.SetsLinks S S' n head links
-  relinks n head links some puts = record {
+  relinks {n} head links some puts = record {
     lost = λ _ y. ap (λ (x : Loss). is_lost x y) puts.loss;
     apart = λ k was. subst (λ (x : Loss). IsApart x k) (sym puts.loss) was;
     headers = puts.few;
     blocks = ap length (ap (λ v. v.items) puts.blocks);
-    fits = λ m m' has fits takes. puts.fits m fits
-        (takes_header s.draft.changes m n head (relinked head links) (at n m m' has ∙ takes.there)
+    fits = λ m m' has fits takes. puts.fits m fits (takes_header s.draft.changes m n head (relinked head links) (at n has ∙ takes.there)
         (both_linked links head.links some takes.linked)
         takes.apart takes.header);
     has = has_relinked n head links puts.map;
@@ -176,7 +175,7 @@ module _ {D : Type 0} (state : D → DeviceState) (s : Store D) (d' : Draft) (u'
         fits = λ m. only.fits m tt;
         has = λ m m' has. record {
           map = without_file n m';
-          has = became m m' _ has (ap₂ without_file (sym number) (was m m' has) ∙ sym (only.map m));
+          has = became has (ap₂ without_file (sym number) (was m m' has) ∙ sym (only.map m));
           file = is_without m' n;
           keeps = λ whole other. (
               let gone = is_without m' n in

@@ -64,7 +64,7 @@ module _ {D : Type 0} (state : D → DeviceState) (a b : Store D) where
     has = λ m m' has. record {
       checkpoint = has.checkpoint;
       acknowledged = has.acknowledged;
-      holds = held_still state a.log b.log has.checkpoint has.acknowledged m reads has.holds;
+      holds = held_still state reads has.holds;
       draft = has.draft ∙ ap (λ (x : Draft). staged x.changes m) (sym same);
     };
     fits = λ m. subst (λ (x : Draft). FitsBatch m x.changes) (sym same);
@@ -81,7 +81,7 @@ module _ {D : Type 0} (state : D → DeviceState) (a b : Store D) where
       → ReadsBlock state a.log b.log a.draft.changes n i out stored → files.TellsBlock S S' n i out
   seen_block n i out stored long blank answer m m' keeps is =
       subst (λ (x : LogMap). HoldsBlock x n i out) (sym is.draft)
-      (block_read (staged a.draft.changes m) n i out stored long blank (answer is.checkpoint is.acknowledged m keeps is.holds))
+      (block_read (staged a.draft.changes m) n i stored long blank (answer is.checkpoint is.acknowledged m keeps is.holds))
 
   pub seen_block_then : {E : Type 0} (n i : ℕ) (out : List ℕ) (r : Result Bool E) → length out ≡ 512
       → IfOk r (λ stored. IsFalse stored → out ≡ zeros 512)

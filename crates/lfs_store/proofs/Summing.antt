@@ -20,17 +20,18 @@ sum_same f g (suc k) same =
     omega (arith, rest, own)
 
 -- one number changes
-pub sum_changed : (f g : ℕ → ℕ) (n k : ℕ) → 1 ≤ n → n ≤ k → ((j : ℕ) → (j ≡ n → ⊥) → g j ≡ f j) → sum_upto g k + f n ≡ sum_upto f k + g n
+pub sum_changed : {f g : ℕ → ℕ} {n : ℕ} (k : ℕ) → 1 ≤ n → n ≤ k → ((j : ℕ) → (j ≡ n → ⊥) → g j ≡ f j)
+    → sum_upto g k + f n ≡ sum_upto f k + g n
 unfolding sum_upto
-sum_changed f g n zero some le same = absurd (omega (arith, some, le))
-sum_changed f g n (suc k) some le same = ⊎_elim
+sum_changed zero some le same = absurd (omega (arith, some, le))
+sum_changed {f} {g} {n} (suc k) some le same = ⊎_elim
     (λ (here : suc k ≡ n).
     let rest = sum_same f g k (λ j low. same j (λ e. omega (arith, e, here, low))) in
     let a = ap f here in
     let b = ap g here in
     omega (arith, rest, a, b))
     (λ (ne : suc k ≡ n → ⊥).
-    let rest = sum_changed f g n k some (omega (arith, le, ne)) same in
+    let rest = sum_changed k some (omega (arith, le, ne)) same in
     let own = same (suc k) ne in
     omega (arith, rest, own))
     (cases_eq (suc k) n)
@@ -89,11 +90,11 @@ module _ (m m' : LogMap) (n : ℕ) (is : IsChangedAt m n m') where
       + stored_in m' n from to
   data_change k from to end some few order low same =
       let own = stored_change m m' n from to end order low same in
-      let all = sum_changed (λ j. length (stored_below m j end)) (λ j. length (stored_below m' j end)) n k some few (data_elsewhere end) in
+      let all = sum_changed k some few (data_elsewhere end) in
       omega (arith, own, all)
 
 pub totals_of_change : TotalsOfChange
 totals_of_change m m' n from to is some few order low same = (
   data_change m m' n is 4095 from to 16624 some few order low same,
-  sum_changed (meta_of_file m) (meta_of_file m') n 4095 some few (meta_elsewhere m m' n is),
+  sum_changed 4095 some few (meta_elsewhere m m' n is),
 )

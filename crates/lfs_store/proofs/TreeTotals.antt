@@ -79,7 +79,7 @@ module _ (m : LogMap) (is : IsLogMap m) (long : (n : ℕ) → AreLong m n)
   costs n h at = object_costs m n h is (long n) at (formed n h at)
 
   data_each : (n : ℕ) (o : Option Header) → m.header n ≡ o → weighs m data_of (data_of_file m) (node_of m n o) ≡ data_of_file m n
-  data_each n None at = sym (stored_all m n 16624 ∙ stored_nothing m n 0 16624 (λ i le lt. nothing_stored m n is at i))
+  data_each n None at = sym (stored_all m n 16624 ∙ stored_nothing m n 0 16624 (λ i le lt. nothing_stored n is at i))
   data_each n (Some h) at = (costs n h at).blocks
 
   meta_each : (n : ℕ) (o : Option Header) → m.header n ≡ o → weighs m meta_of (meta_of_file m) (node_of m n o) ≡ meta_of_file m n

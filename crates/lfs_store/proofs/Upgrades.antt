@@ -14,9 +14,9 @@ use Rattle.lfs_store.specs.Drafting.{LosesOnly}
 use Rattle.lfs_store.specs.Making.{DraftsUpgrade}
 use Rattle.lfs_store.specs.Recounting.{AreTotals, CountsUpgraded}
 
-pub upgrades : (c : Changes) (d : Draft) → IsNoChange c → d.changes.headers ≡ c.headers → d.changes.blocks ≡ c.blocks
+pub upgrades : {c : Changes} {d : Draft} → IsNoChange c → d.changes.headers ≡ c.headers → d.changes.blocks ≡ c.blocks
     → LosesOnly d.changes FirstVersion → DraftsUpgrade d
-upgrades c d none headers blocks only = record {
+upgrades none headers blocks only = record {
   map = only.map;
   fits = λ m. only.fits m tt;
   headers = ap (λ v. v.items) headers ∙ none.headers;
@@ -35,6 +35,6 @@ meta_raised : (m : LogMap) → meta_in (raised true m) ≡ meta_in m
 meta_raised m = ap (λ (f : ℕ → ℕ). sum_upto f 4095)
     (fun_ext (λ n. ap (λ (is : List ℕ). elim (m.header n) [ None ↦ 0 | Some h ↦ 1 + pointers is ]) (raised_list m n 16624)))
 
-pub counts_upgraded : (d : Draft) → DraftsUpgrade d → CountsUpgraded d
-counts_upgraded d is m t are = subst (λ (x : LogMap). AreTotals x t)
+pub counts_upgraded : {d : Draft} → DraftsUpgrade d → CountsUpgraded d
+counts_upgraded is m t are = subst (λ (x : LogMap). AreTotals x t)
     (sym (is.map m)) record { stored = are.stored ∙ sym (data_raised m); above = are.above ∙ sym (meta_raised m) }

@@ -41,19 +41,20 @@ zero_byte : (k : ℕ) → slice_index (zeros 512) k ≡ 0
 unfolding zeros
 zero_byte k = get_or-zeros 512 k
 
-pub block_read : (m : LogMap) (n i : ℕ) (out : List ℕ) (found : Bool) → length out ≡ 512 → (IsFalse found → out ≡ zeros 512)
+pub block_read : (m : LogMap) (n i : ℕ) {out : List ℕ} (found : Bool) → length out ≡ 512 → (IsFalse found → out ≡ zeros 512)
     → BlockAnswer m n i out found → HoldsBlock m n i out
-block_read m n i out true long blank is = record { long = long; bytes = λ k. ap (λ (b : List ℕ). slice_index b k) (sym is) }
-block_read m n i out false long blank is = record {
+block_read m n i true long blank is = record { long = long; bytes = λ k. ap (λ (b : List ℕ). slice_index b k) (sym is) }
+block_read m n i false long blank is = record {
   long = long;
   bytes = λ k. ap (λ (b : List ℕ). slice_index b k) (blank refl) ∙ zero_byte k ∙ ap (λ (b : List ℕ). slice_index b k) (sym is);
 }
 
-pub block_put : (a b : LogMap) (n i : ℕ) (bytes : List ℕ) → b ≡ with_block a n i bytes → IsWithBlock a n i bytes b
-block_put a b n i bytes is = subst (IsWithBlock a n i bytes) (sym is) (is_with_block a n i bytes)
+pub block_put : (a : LogMap) {b : LogMap} (n i : ℕ) (bytes : List ℕ) → b ≡ with_block a n i bytes → IsWithBlock a n i bytes b
+block_put a n i bytes is = subst (IsWithBlock a n i bytes) (sym is) (is_with_block a n i bytes)
 
-pub header_put : (a b : LogMap) (n : ℕ) (h : Header) → b ≡ with_header a n (Some (as_header h)) → IsWithHeader a n (Some (as_header h)) b
-header_put a b n h is = subst (IsWithHeader a n (Some (as_header h))) (sym is) (is_with_header a n (Some (as_header h)))
+pub header_put : (a : LogMap) {b : LogMap} (n : ℕ) (h : Header) → b ≡ with_header a n (Some (as_header h))
+    → IsWithHeader a n (Some (as_header h)) b
+header_put a n h is = subst (IsWithHeader a n (Some (as_header h))) (sym is) (is_with_header a n {h = Some (as_header h)})
 
 -- ---- what is put fits
 
@@ -75,38 +76,37 @@ takes_header c m n head head' there name apart fits =
 
 module _ {D : Type 0} (state : D → DeviceState) where
   -- the log map with another draft, where the log is only read
-  pub still_has : (a b : Store D) (m m' : LogMap) → Reads state a.log b.log → HasMap state a.log a.draft.changes m m'
+  pub still_has : (a b : Store D) {m m' : LogMap} → Reads state a.log b.log → HasMap state a.log a.draft.changes m m'
       → HasMap state b.log b.draft.changes m (staged b.draft.changes m)
-  still_has a b m m' reads has = record {
+  still_has a b {m} reads has = record {
     checkpoint = has.checkpoint;
     acknowledged = has.acknowledged;
-    holds = held_still state a.log b.log has.checkpoint has.acknowledged m reads has.holds;
+    holds = held_still state reads has.holds;
     draft = refl;
   }
 
   -- ---- one block
-  pub block_written : (h h' : LogState D) (c c' : Changes) (n index at : ℕ) (w old new : List ℕ) → length new ≡ 512
+  pub block_written : {h h' : LogState D} {c c' : Changes} {n index at : ℕ} {w old new : List ℕ} → length new ≡ 512
       → ReadsBeneath state h h' c n index at w old → BlockOverlays at w index old new → PutsBlock c c' n index new
       → WritesBlock state h h' c c' n index at w
-  block_written h h' c c' n index at w old new stays beneath over puts = record {
+  block_written {c} {c'} {n} {index} {at} {w} {old} {new} stays beneath over puts = record {
     few = puts.few;
     headers = puts.headers;
     loss = puts.loss;
     header = λ m. ap (λ (a : LogMap). a.header n) (puts.map m);
-    others = λ m i ne. other_block (staged c m) (staged c' m) n index (stored new)
-        (block_put (staged c m) (staged c' m) n index (stored new) (puts.map m)) i ne;
+    others = λ m i ne. other_block (block_put (staged c m) n index (stored new) (puts.map m)) i ne;
     fits = puts.fits;
     goes_on = λ k m0 m a keeps is far.
         write_goes_on a (staged c m) (staged c' m) n at index w old new far (beneath k m0 m keeps is) over stays
-        (block_put (staged c m) (staged c' m) n index (stored new) (puts.map m));
+        (block_put (staged c m) n index (stored new) (puts.map m));
   }
 
   -- a block that is read is what bytes are laid over
-  pub read_beneath : (h h' : LogState D) (c : Changes) (n index at : ℕ) (w old : List ℕ) (found : Bool) → length old ≡ 512
+  pub read_beneath : (h h' : LogState D) (c : Changes) (n index at : ℕ) (w : List ℕ) {old : List ℕ} (found : Bool) → length old ≡ 512
       → (IsFalse found → old ≡ zeros 512)
       → ReadsBlock state h h' c n index old found → ReadsBeneath state h h' c n index at w old
-  read_beneath h h' c n index at w old found long blank answer k m0 m keeps is =
-      inl (block_read (staged c m) n index old found long blank (answer k m0 m keeps is))
+  read_beneath h h' c n index at w {old} found long blank answer k m0 m keeps is =
+      inl (block_read (staged c m) n index found long blank (answer k m0 m keeps is))
 
   -- ---- the blocks up to here
   pub record WrittenUpTo (a b : Store D) (n at : ℕ) (w : List ℕ) (index : ℕ) : Type 0 where
@@ -134,12 +134,12 @@ module _ {D : Type 0} (state : D → DeviceState) where
     far = λ k m0 m keeps is. write_begins (staged a.draft.changes m) n at w;
   }
 
-  pub written_more : (a b c : Store D) (n at : ℕ) (w : List ℕ) (index : ℕ) → IsLawful (state a.log.device) → at / 512 ≤ index
+  pub written_more : {a b c : Store D} {n at : ℕ} {w : List ℕ} {index : ℕ} → IsLawful (state a.log.device) → at / 512 ≤ index
       → WrittenUpTo a b n at w index → RedraftsUncounted state b c
       → WritesBlock state b.log c.log b.draft.changes c.draft.changes n index at w → WrittenUpTo a c n at w (index + 1)
-  written_more a b c n at w index lawful le was redrafts more = record {
+  written_more {a} {b} {c} {n} {at} {index} lawful le was redrafts more = record {
     redrafts = record {
-      reads = reads_more state a.log b.log c.log lawful was.redrafts.reads redrafts.reads;
+      reads = reads_more state lawful was.redrafts.reads redrafts.reads;
       drafted = redrafts.drafted ∙ was.redrafts.drafted;
     };
     loss = more.loss ∙ was.loss;
@@ -154,25 +154,24 @@ module _ {D : Type 0} (state : D → DeviceState) where
         more.fits m (was.fits m fit there apart (λ none. (let few = within none in omega (arith, few))))
         (takes_block a.draft.changes b.draft.changes m n index was.loss (was.header m) there apart
         (λ none. (let few = within none in omega (arith, few))));
-    far = λ k m0 m keeps is. more.goes_on k m0 m (staged a.draft.changes m) keeps
-        (held_still state a.log b.log k m0 m was.redrafts.reads is)
+    far = λ k m0 m keeps is. more.goes_on k m0 m (staged a.draft.changes m) keeps (held_still state was.redrafts.reads is)
         (was.far k m0 m (redrafts.reads.looks.carries.kept_before keeps) is);
   }
 
   -- ---- all of them, and the header
-  pub written : (a b c : Store D) (n : ℕ) (head : Header) (at : ℕ) (w : List ℕ) (index : ℕ) → c.log ≡ b.log → 0 < length w
+  pub written : {a b : Store D} (c : Store D) {n : ℕ} (head : Header) {at : ℕ} {w : List ℕ} {index : ℕ} → c.log ≡ b.log → 0 < length w
       → at / 512 ≤ index → index ≡ div_ceil (at + length w) 512
       → WrittenUpTo a b n at w index
       → PutsHeader b.draft.changes c.draft.changes n (resized head (max head.size (at + length w)))
       → Writes (files_of state a) (files_of state c) n head at w
-  written a b c n head at w index log some le end was puts = record {
+  written {a} {b} c {n} head {at} {w} {index} log some le end was puts = record {
     lost = λ y. ap (λ (x : Loss). is_lost x y) (puts.loss ∙ was.loss);
     headers = let x = puts.few in let same = ap length (ap (λ v. v.items) was.headers) in omega (arith, x, same);
     blocks = let x = was.few in let same = ap length (ap (λ v. v.items) puts.blocks) in omega (arith, x, same, end);
     fits = fits;
     file = λ m m' keeps has. record {
       map = staged c.draft.changes m;
-      has = still_has a c m m' (subst (Reads state a.log) (sym log) was.redrafts.reads) has;
+      has = still_has a c (subst (Reads state a.log) (sym log) was.redrafts.reads) has;
       file = file m m' (subst (λ (x : LogMap). WriteSoFar x (staged b.draft.changes m) n at w index) (sym has.draft)
           (was.far has.checkpoint has.acknowledged m (subst (λ (h : LogState D). (state h.device).keeps_model) log keeps) has.holds));
       around = λ i out. ap (λ (x : LogMap). x.block n i) (puts.map m)
@@ -195,7 +194,7 @@ module _ {D : Type 0} (state : D → DeviceState) where
       file : (m m' : LogMap) → WriteSoFar m' (staged b.draft.changes m) n at w index
           → WritesFile m' (staged c.draft.changes m) n head head' at w
       file m m' far =
-          let with_it = header_put (staged b.draft.changes m) (staged c.draft.changes m) n head' (puts.map m) in
+          let with_it = header_put (staged b.draft.changes m) n head' (puts.map m) in
           let done =
           write_heads m' (staged b.draft.changes m) (staged c.draft.changes m) n at index w (Some (as_header head')) far with_it in
           record {

@@ -28,31 +28,31 @@ use Rattle.lfs_tree.proofs.ObjectNames.{held_headers}
 use Rattle.lfs_tree.proofs.ReachStages.{fit_if_links, fit_if_reached, links_if_fit, reached_if_fit}
 use Rattle.lfs_tree.proofs.TreeStages.{damage_of_tree, need_is, same_log}
 
-module _ (c : Content) (k : CheckpointValue) (m : LogMap) (headers : List (Option files.Header)) (names : NamesValue) (t : Tables)
+module _ (c : Content) (k : CheckpointValue) (m : LogMap) {headers : List (Option files.Header)} {names : NamesValue} {t : Tables}
     (is : IsGathered c k m headers names t) where
   root_at : (h : Header) × (m.header 1 ≡ Some h)
   root_at = let root = (formed c k m is.sized is.holds).root in (root.0, root.1)
 
   pub tree_reached : AreNamesFit headers names × AllClimb headers names.up → AreReached m
-  tree_reached fit = reached_if_fit m (held_headers c k m is.holds) headers is.told names is.named root_at.0 root_at.1 fit.0 fit.1
+  tree_reached fit = reached_if_fit m (held_headers is.holds) headers is.told is.named root_at.1 fit.0 fit.1
 
   pub tree_links : AreLinksFit headers names → AreLinks m
-  tree_links fit = links_if_fit m (held_headers c k m is.holds) headers is.told names is.named is.slots fit
+  tree_links fit = links_if_fit m (held_headers is.holds) headers is.told is.named is.slots fit
 
   need_here : HasRoom m k.segments ↔ FitsRoom t.data_blocks t.meta_blocks t.segments
   need_here =
-      let need = need_is c k m is.sized is.holds is.slots.formed t.data_blocks t.meta_blocks is.of_log.counted in
+      let need = need_is c k m is.sized is.holds is.slots.formed is.of_log.counted in
       let same = is.of_log.segments in
       (λ room. omega (arith, room, need, same), λ fit. omega (arith, fit, need, same))
 
   pub fails_reached : (AreNamesFit headers names × AllClimb headers names.up → ⊥) → IsTreeDamage k.segments m 12
   fails_reached other = reached_fail refl is.slots is.texts
-      (λ reached. other (fit_if_reached m (held_headers c k m is.holds) headers is.told names is.named reached))
+      (λ reached. other (fit_if_reached m (held_headers is.holds) headers is.told is.named reached))
 
   module _ (fit : AreNamesFit headers names × AllClimb headers names.up) where
     pub fails_links : (AreLinksFit headers names → ⊥) → IsTreeDamage k.segments m 13
     fails_links other = links_fail refl is.slots is.texts (tree_reached fit)
-        (λ links. other (fit_if_links m (held_headers c k m is.holds) headers is.told names is.named is.slots links))
+        (λ links. other (fit_if_links m (held_headers is.holds) headers is.told is.named is.slots links))
 
     module _ (links : AreLinksFit headers names) where
       pub fails_room : (FitsRoom t.data_blocks t.meta_blocks t.segments → ⊥) → IsTreeDamage k.segments m 14
@@ -62,10 +62,10 @@ module _ (c : Content) (k : CheckpointValue) (m : LogMap) (headers : List (Optio
       tree_whole room =
           record { slots = is.slots; texts = is.texts; reached = tree_reached fit; links = tree_links links; room = need_here.1 room }
 
-pub gathered : (c : Content) (k : CheckpointValue) (m : LogMap) (headers : List (Option files.Header)) (names : NamesValue) (t : Tables)
+pub gathered : {c : Content} {k : CheckpointValue} {m : LogMap} {headers : List (Option files.Header)} {names : NamesValue} {t : Tables}
     → HoldsAt c k m → IsSized c → TellsHeaders m headers 4096
     → AreSlots m → AreTexts m → AreNamed m headers names 4096 → IsOfLog c k m t → IsGathered c k m headers names t
-gathered c k m headers names t holds sized told slots texts named of_log =
+gathered holds sized told slots texts named of_log =
     record { holds = holds; sized = sized; told = told; named = named; slots = slots; texts = texts; of_log = of_log }
 
 -- ---- faults
@@ -77,13 +77,14 @@ no_failure failed damage fault.NoCheckpoint is = is
 no_failure failed damage (fault.Damaged code) is = is
 
 -- a later call's fault
-pub fault_after : (a b d : DeviceState) → Looks a b → (damage : ℕ → Type 0) (f : MountFault) → IsFaultOf (b.failures < d.failures) damage f
+pub fault_after : {a b : DeviceState} (d : DeviceState) → Looks a b → (damage : ℕ → Type 0) (f : MountFault)
+    → IsFaultOf (b.failures < d.failures) damage f
     → IsFaultOf (a.failures < d.failures) damage f
-fault_after a b d looks damage fault.NoMemory is = is
-fault_after a b d looks damage fault.Device is = let before = looks.carries.failures in omega (arith, is, before)
-fault_after a b d looks damage fault.TooSmall is = is
-fault_after a b d looks damage fault.NoCheckpoint is = is
-fault_after a b d looks damage (fault.Damaged code) is = is
+fault_after d looks damage fault.NoMemory is = is
+fault_after d looks damage fault.Device is = let before = looks.carries.failures in omega (arith, is, before)
+fault_after d looks damage fault.TooSmall is = is
+fault_after d looks damage fault.NoCheckpoint is = is
+fault_after d looks damage (fault.Damaged code) is = is
 
 -- ---- the tables of a volume
 module _ (old new : DeviceState) (t : Tables) (lawful : IsLawful old) (keeps : new.keeps_model) (has : HoldsTables old.content t) where
@@ -91,7 +92,7 @@ module _ (old new : DeviceState) (t : Tables) (lawful : IsLawful old) (keeps : n
   log = log_in (view old.content has.checkpoint)
 
   same : has.log ≡ log_in (view old.content has.checkpoint)
-  same = same_log old.content has.checkpoint has.log has.holds
+  same = same_log has.holds
 
   pub sees_log : Sees old new has.checkpoint (log_in (view old.content has.checkpoint))
   sees_log = record {
@@ -122,7 +123,7 @@ module _ (old new : DeviceState) (t : Tables) (lawful : IsLawful old) (keeps : n
   damage_in : (code : ℕ) → IsTreeDamage has.checkpoint.segments (log_in (view old.content has.checkpoint)) code
       → IsDamagedTree old.content code
   damage_in code is =
-      let damage = damage_of_tree (view old.content has.checkpoint) code has.holds.stages is in
+      let damage = damage_of_tree has.holds.stages is in
       (damage.0, damage.1, record { checkpoint = has.checkpoint; newest = has.newest; size = has.holds.size; damaged = damage.2 })
 
   pub refused_tree : (f : MountFault) → IsFaultOf (old.failures < new.failures)

@@ -90,11 +90,11 @@ module _ (up begin : List ℕ) (start : ℕ) (some : 2 ≤ start) where
       own : (n : ℕ) → n ≡ at → slice_index (set marks at start) n ≡ start
       own n same = ap (λ (x : ℕ). slice_index (set marks at start) x) same ∙ get_or-set_same marks at start 0 inside
 
-      kept : (n : ℕ) → (n ≡ at → ⊥) → slice_index (set marks at start) n ≡ slice_index marks n
-      kept n other = get_or-set_other marks at n start 0 other
+      kept : {n : ℕ} → (n ≡ at → ⊥) → slice_index (set marks at start) n ≡ slice_index marks n
+      kept {n} other = get_or-set_other marks at n start 0 other
 
       stays : (n : ℕ) → slice_index marks n ≡ start → slice_index (set marks at start) n ≡ start
-      stays n is = ⊎_elim (own n) (λ (other : n ≡ at → ⊥). kept n other ∙ is) (cases_eq n at)
+      stays n is = ⊎_elim (own n) (λ (other : n ≡ at → ⊥). kept other ∙ is) (cases_eq n at)
 
       ring_then : (n : ℕ) → slice_index (set marks at start) n ≡ start
           → (slice_index up n ≡ slice_index up at) ⊎ (slice_index (set marks at start) (slice_index up n) ≡ start)
@@ -102,29 +102,24 @@ module _ (up begin : List ℕ) (start : ℕ) (some : 2 ≤ start) where
           (λ (same : n ≡ at). inl (ap (slice_index up) same))
           (λ (other : n ≡ at → ⊥). ⊎_elim
           (λ (back : slice_index up n ≡ at). inr (own (slice_index up n) back))
-          (λ (on : slice_index marks (slice_index up n) ≡ start). inr (stays (slice_index up n) on))
-          (was.ring n (sym (kept n other) ∙ is)))
+          (λ (on : slice_index marks (slice_index up n) ≡ start). inr (stays (slice_index up n) on)) (was.ring n (sym (kept other) ∙ is)))
           (cases_eq n at)
 
       pub way_goes_on : OnTheWay up begin (set marks at start) start (slice_index up at)
       way_goes_on = record {
         old = λ n lt apart. ⊎_elim
             (λ (same : n ≡ at). absurd (apart (own n same)))
-            (λ (other : n ≡ at → ⊥). (let e = kept n other in was.old n (omega (arith, e, lt)) (λ is. apart (e ∙ is))))
-            (cases_eq n at);
+            (λ (other : n ≡ at → ⊥). (let e = kept other in was.old n (omega (arith, e, lt)) (λ is. apart (e ∙ is)))) (cases_eq n at);
         later = λ climbs n is. ⊎_elim
             (λ (same : n ≡ at). subst (Climbs (slice_index up)) (sym same) (more at climbs))
-            (λ (other : n ≡ at → ⊥). was.later (more at climbs) n (sym (kept n other) ∙ is))
-            (cases_eq n at);
+            (λ (other : n ≡ at → ⊥). was.later (more at climbs) n (sym (kept other) ∙ is)) (cases_eq n at);
         ring = ring_then;
         low = λ n. ⊎_elim
             (λ (same : n ≡ at). (let e = own n same in omega (arith, e)))
-            (λ (other : n ≡ at → ⊥). (let e = kept n other in let low = was.low n in omega (arith, e, low)))
-            (cases_eq n at);
+            (λ (other : n ≡ at → ⊥). (let e = kept other in let low = was.low n in omega (arith, e, low))) (cases_eq n at);
         root = ⊎_elim
             (λ (same : 1 ≡ at). (let one = was.root in let e = ap (slice_index marks) same in absurd (omega (arith, one, e, none))))
-            (λ (other : 1 ≡ at → ⊥). kept 1 other ∙ was.root)
-            (cases_eq 1 at);
+            (λ (other : 1 ≡ at → ⊥). kept other ∙ was.root) (cases_eq 1 at);
         begun = inr (⊎_elim
             (λ (first : (at ≡ start) × ((n : ℕ) → slice_index marks n ≢ start)). own start (sym first.0))
             (λ (on : slice_index marks start ≡ start). stays start on)
@@ -171,19 +166,19 @@ module _ (up begin : List ℕ) (start : ℕ) (some : 2 ≤ start) where
             (λ (on : slice_index marks start ≡ start). never climbs on)
             was.begun
 
-      pub way_done : (mark : ℕ) → mark ≡ slice_index marks at → MarksUp up marks start (not (nat_eq mark start))
-      way_done mark is = elim (nat_eq mark start) as (λ b. nat_eq mark start ≡ b → MarksUp up marks start (not b)) [
+      pub way_done : {mark : ℕ} → mark ≡ slice_index marks at → MarksUp up marks start (not (nat_eq mark start))
+      way_done {mark} is = elim (nat_eq mark start) as (λ b. nat_eq mark start ≡ b → MarksUp up marks start (not b)) [
         | true ↦ λ e. let same : mark ≡ start = grind (arith, nat_tests) in way_turns (sym is ∙ same)
         | false ↦ λ e. let other : mark ≢ start = grind (arith, nat_tests) in way_ends (λ on. other (is ∙ on))
       ] refl
 
 -- ---- directories one after the other
-pub marked_next : (up marks : List ℕ) (n : ℕ) → Marked up marks n → Marked up marks (n + 1)
-marked_next up marks n was = record { climbs = was.climbs; low = λ k. (let low = was.low k in omega (arith, low)); root = was.root }
+pub marked_next : {up marks : List ℕ} (n : ℕ) → Marked up marks n → Marked up marks (n + 1)
+marked_next n was = record { climbs = was.climbs; low = λ k. (let low = was.low k in omega (arith, low)); root = was.root }
 
 module _ (headers : List (Option Header)) (up marks : List ℕ) (n : ℕ) where
   pub directory_passed : leads headers n ≡ false → Marked up marks n → MarksDirectory headers up marks n true
-  directory_passed other was = (marked_next up marks n was, λ on. absurd (let both : true ≡ false = sym on ∙ other in cc))
+  directory_passed other was = (marked_next n was, λ on. absurd (let both : true ≡ false = sym on ∙ other in cc))
 
   pub directory_climbs : leads headers n ≡ true → (r : Bool) → MarksUp up marks n r → MarksDirectory headers up marks n r
   directory_climbs on true did = (did.0, λ same. did.0.climbs n did.1)

@@ -17,25 +17,25 @@ use Rattle.lfs_dirs.proofs.SlotPlaces.{slots_many, slots_of_block}
 use Rattle.lfs_tree.specs.Naming.{AreGoodSlots, Base, HasNames, IsNoted, IsTaken, NamesValue, TakesNames, TakesSlots}
 use Rattle.lfs_tree.proofs.GoodSlots.{good_behind, good_none}
 
-module _ (headers : List (Option Header)) (d : ℕ) (base : Base) (m : LogMap) (head : Header) where
-  pub blocks_begin : (index : ℕ) (set : BTreeSet (Vec ℕ Global)) (t : NamesValue) → slot_count head ≤ per_block head.form * index → IsTaken
+module _ {headers : List (Option Header)} {d : ℕ} {base : Base} (m : LogMap) (head : Header) where
+  pub blocks_begin : (index : ℕ) {set : BTreeSet (Vec ℕ Global)} {t : NamesValue} → slot_count head ≤ per_block head.form * index → IsTaken
       head.form headers d base [] set t → IsTaken head.form headers d base (drop (per_block head.form * index) (slots_at m d head)) set t
-  blocks_begin index set t past was =
+  blocks_begin index {set} {t} past was =
       let many = slots_many m d head in
       subst (λ (a : List (List ℕ)). IsTaken head.form headers d base a set t)
       (sym (drop_all (per_block head.form * index) (slots_at m d head) (omega (arith, many, past)))) was
 
-  pub blocks_end : (index : ℕ) (set : BTreeSet (Vec ℕ Global)) (t : NamesValue) → index ≡ 0 → IsTaken head.form headers d base
+  pub blocks_end : (index : ℕ) {set : BTreeSet (Vec ℕ Global)} {t : NamesValue} → index ≡ 0 → IsTaken head.form headers d base
       (drop (per_block head.form * index) (slots_at m d head)) set t → TakesNames head.form headers d base (slots_at m d head) t true
-  blocks_end index set t all was =
+  blocks_end index {set} {t} all was =
       let times = ap (λ (i : ℕ). per_block head.form * i) all in
       let none : per_block head.form * index ≡ 0 = omega (arith, times) in
       let whole = subst (λ (j : ℕ). IsTaken head.form headers d base (drop j (slots_at m d head)) set t) none was in
       (whole.good, whole.noted)
 
-  module _ (index next count : ℕ) (block : List ℕ) (holds : HoldsBlock m d next block) (is : count ≡ min (slot_count head
+  module _ (index : ℕ) {next count : ℕ} {block : List ℕ} (holds : HoldsBlock m d next block) (is : count ≡ min (slot_count head
       - per_block head.form * next) (per_block head.form)) (low : per_block head.form * next < slot_count head) (here : index ≡ next + 1)
-      (set set' : BTreeSet (Vec ℕ Global)) (t t' : NamesValue)
+      {set : BTreeSet (Vec ℕ Global)} (set' : BTreeSet (Vec ℕ Global)) {t : NamesValue} (t' : NamesValue)
       (was : IsTaken head.form headers d base (drop (per_block head.form * index) (slots_at m d head)) set t) where
     parts : first_slots head.form block count ++ drop (per_block head.form * index) (slots_at m d head)
         ≡ drop (per_block head.form * next) (slots_at m d head)
@@ -44,7 +44,7 @@ module _ (headers : List (Option Header)) (d : ℕ) (base : Base) (m : LogMap) (
         (sym (slots_of_block m d head next count block holds (omega (arith, is)) (omega (arith, is, low))))
         ∙ ap (λ (j : ℕ). take count (drop (per_block head.form * next) (slots_at m d head))
         ++ drop (per_block head.form * j) (slots_at m d head)) here
-        ∙ sym (block_and_rest head.form (slots_at m d head) next count (slot_count head) (slots_many m d head) is)
+        ∙ sym (block_and_rest head.form (slots_at m d head) next (slots_many m d head) is)
 
     pub blocks_go_on : TakesSlots head.form headers d (first_slots head.form block count) set set' t t' true
         → IsTaken head.form headers d base (drop (per_block head.form * next) (slots_at m d head)) set' t'
@@ -55,14 +55,13 @@ module _ (headers : List (Option Header)) (d : ℕ) (base : Base) (m : LogMap) (
         → TakesNames head.form headers d base (slots_at m d head) t' false
     blocks_fail more good =
         more base (drop (per_block head.form * index) (slots_at m d head)) was
-        (subst (AreGoodSlots head.form headers) (sym parts)
-        (good_behind head.form headers (take (per_block head.form * next) (slots_at m d head))
+        (subst (AreGoodSlots head.form headers) (sym parts) (good_behind (take (per_block head.form * next) (slots_at m d head))
         (drop (per_block head.form * next) (slots_at m d head))
         (subst (AreGoodSlots head.form headers) (sym (take-append-drop (per_block head.form * next) (slots_at m d head))) good)))
 
-pub nothing_taken : (form : ℕ) (headers : List (Option Header)) (d : ℕ) (base : Base) (set : BTreeSet (Vec ℕ Global)) (t : NamesValue)
+pub nothing_taken : (form : ℕ) {headers : List (Option Header)} {d : ℕ} {base : Base} (set : BTreeSet (Vec ℕ Global)) {t : NamesValue}
     → HasNames set [] → IsNoted headers d base [] t → IsTaken form headers d base [] set t
-nothing_taken form headers d base set t none was = record { good = good_none form headers; names = none; noted = was }
+nothing_taken form {headers} set none was = record { good = good_none; names = none; noted = was }
 
 pub names_none : (set : BTreeSet (Vec ℕ Global)) → set.keys ≡ [] → HasNames set []
 names_none set empty q =

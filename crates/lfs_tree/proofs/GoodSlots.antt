@@ -35,7 +35,7 @@ few_names form [] = omega arith
 few_names form (x ∷ a) = let few = few_with (slot_in form x) (map_of form a) (sorted_names form a) in let rest = few_names form a in
     omega (arith, few, rest)
 
-module _ (form : ℕ) (headers : List (Option Header)) where
+module _ {form : ℕ} {headers : List (Option Header)} where
   pub good_behind : (a b : List (List ℕ)) → AreGoodSlots form headers (a ++ b) → AreGoodSlots form headers b
   good_behind [] b good = good
   good_behind (x ∷ a) b good = good_behind a b record {
@@ -52,7 +52,7 @@ module _ (form : ℕ) (headers : List (Option Header)) where
 
 -- ---- one slot more
 module _ (form : ℕ) (headers : List (Option Header)) (d : ℕ) (slot : List ℕ) where
-  module _ (s : SlotValue) (is : slot_in form slot ≡ Some s) where
+  module _ {s : SlotValue} (is : slot_in form slot ≡ Some s) where
     map_more : (behind : List (List ℕ)) → map_of form (slot ∷ behind) ≡ put byte_cmp s.name s.number (map_of form behind)
     map_more behind = ap (λ (o : Option SlotValue). with_slot o (map_of form behind)) is
 
@@ -61,21 +61,21 @@ module _ (form : ℕ) (headers : List (Option Header)) (d : ℕ) (slot : List �
     long_more behind = ap length (map_more behind)
         ∙ length-put byte_cmp nat_list_cmp_total s.name s.number (map_of form behind) (sorted_names form behind)
 
-    pub slot_twice : (behind : List (List ℕ)) → AreGoodSlots form headers behind → (find byte_cmp s.name (map_of form behind) ≡ None → ⊥)
+    pub slot_twice : {behind : List (List ℕ)} → AreGoodSlots form headers behind → (find byte_cmp s.name (map_of form behind) ≡ None → ⊥)
         → AreGoodSlots form headers (slot ∷ behind) → ⊥
-    slot_twice behind rest found good =
+    slot_twice {behind} rest found good =
         elim (find byte_cmp s.name (map_of form behind)) as (λ o. find byte_cmp s.name (map_of form behind) ≡ o
         → length (map_of form (slot ∷ behind)) ≡ cond (is_some o) (length (map_of form behind)) (length (map_of form behind) + 1) → ⊥) [
           | None ↦ λ e long. found e
           | Some n ↦ λ e long. let all = good.apart in let some = rest.apart in omega (arith, long, all, some)
         ] refl (long_more behind)
 
-    pub slot_taken : (set set' : BTreeSet (Vec ℕ Global)) (t t' : NamesValue) (base : Base) (behind : List (List ℕ)) → d < 4096
+    pub slot_taken : {set set' : BTreeSet (Vec ℕ Global)} {t t' : NamesValue} (base : Base) {behind : List (List ℕ)} → d < 4096
         → s.number < 4096 → (get_or headers s.number None ≡ None → ⊥) → AreTables t
         → IsTaken form headers d base behind set t → find byte_cmp s.name (map_of form behind) ≡ None
         → HasNames set' (put byte_cmp s.name s.number (map_of form behind)) → Notes t t' d s.number (leads headers s.number)
         → IsTaken form headers d base (slot ∷ behind) set' t'
-    slot_taken set set' t t' base behind low inside there sizes was new names notes = record {
+    slot_taken {set'} {t} {t'} base {behind} low inside there sizes was new names notes = record {
       good = record {
         each = (record { value = s; spelt = is; there = there }, was.good.each);
         apart =
@@ -86,7 +86,7 @@ module _ (form : ℕ) (headers : List (Option Header)) (d : ℕ) (slot : List �
       };
       names = subst (HasNames set') (sym (map_more behind)) names;
       noted = subst (λ (m : Names). IsNoted headers d base m t') (sym (map_more behind)) (noted_more headers d base
-          (map_of form behind) t t' s.number s.name low inside sizes (sorted_names form behind) new was.noted notes);
+          t t' s.name low inside sizes (sorted_names form behind) new was.noted notes);
     }
 
 -- ---- the slots of a block, from its last on
@@ -96,7 +96,7 @@ module _ (form : ℕ) (headers : List (Option Header)) (d : ℕ) (block : List �
   slots_begin base behind was = subst (λ (a : List (List ℕ)). IsTaken form headers d base (a ++ behind) set t)
       (sym (no_slots form block count count (omega arith))) was
 
-  module _ (place next : ℕ) (some : 0 < place) (le : place ≤ count) (before : next ≡ place - 1) (slot : List ℕ)
+  module _ (place next : ℕ) (some : 0 < place) (le : place ≤ count) (before : next ≡ place - 1) {slot : List ℕ}
       (own : slot ≡ part (slot_len form * next) (slot_len form) block) where
     split : slots_in form block next (count - next) ≡ slot ∷ slots_in form block place (count - place)
     split =
@@ -135,7 +135,7 @@ module _ (form : ℕ) (headers : List (Option Header)) (d : ℕ) (block : List �
     slots_fail set1 set2 t1 t2 was one base behind taken good =
         one base (slots_in form block place (count - place) ++ behind) (was base behind taken)
         (subst (λ (a : List (List ℕ)). AreGoodSlots form headers (a ++ behind)) (dropped ∙ split)
-        (good_behind form headers (take next (first_slots form block count)) (drop next (first_slots form block count) ++ behind)
+        (good_behind (take next (first_slots form block count)) (drop next (first_slots form block count) ++ behind)
         (subst (AreGoodSlots form headers)
         (ap (λ (a : List (List ℕ)). a ++ behind) (sym (take-append-drop next (first_slots form block count)))
         ∙ append_assoc (take next (first_slots form block count)) (drop next (first_slots form block count)) behind) good)))

@@ -22,7 +22,7 @@ use Rattle.lfs_tree.specs.Texts.{Decides, HasNoZero, IsGoodText}
 use Rattle.lfs_tree.proofs.ObjectNames.{AreHeaders, all_at, all_from, head_told, node_at}
 
 -- ---- a block more
-module _ (m : LogMap) (n i size count : ℕ) (block : List ℕ) (holds : HoldsBlock m n i block) (low : 512 * i < size)
+module _ (m : LogMap) (n : ℕ) {i : ℕ} (size : ℕ) {count : ℕ} {block : List ℕ} (holds : HoldsBlock m n i block) (low : 512 * i < size)
     (is : count ≡ min (size - 512 * i) 512) where
   in_block : (p : ℕ) → 512 * i ≤ p → p < 512 * i + 512 → slice_index block (p - 512 * i) ≡ byte_in m n p
   in_block p le lt =
@@ -76,14 +76,14 @@ module _ (m : LogMap) (are : AreHeaders m) where
 module _ (m : LogMap) (headers : List (Option Header)) (told : TellsHeaders m headers 4096) (n : ℕ) (low : n < 4096) where
   module _ (head : Header) (is : get_or headers n None ≡ Some head) where
     own : (h : entry.Header) → m.header n ≡ Some h → as_header head ≡ h
-    own h at = let both : Some (as_header head) ≡ Some h = sym (head_told m headers told n low head is) ∙ at in cc
+    own h at = let both : Some (as_header head) ≡ Some h = sym (head_told m headers told n low is) ∙ at in cc
 
     pub text_decided : (r : Bool) → head.kind ≡ kind.Link → Decides (HasNoZero m n head.size) r → Decides (IsGoodText m n) r
     text_decided true link good = λ h at also. subst (λ (x : entry.Header). HasNoZero m n x.size) (own h at) good
-    text_decided false link bad = λ all. bad (all (as_header head) (head_told m headers told n low head is) link)
+    text_decided false link bad = λ all. bad (all (as_header head) (head_told m headers told n low is) link)
 
-pub decided_true : (P : Type 0) (r : Bool) → r ≡ true → Decides P r → P
-decided_true P r is = λ d. subst (Decides P) is d
+pub decided_true : (P : Type 0) {r : Bool} → r ≡ true → Decides P r → P
+decided_true P is = λ d. subst (Decides P) is d
 
-pub decided_false : (P : Type 0) (r : Bool) → r ≡ false → Decides P r → P → ⊥
-decided_false P r is = λ d. subst (Decides P) is d
+pub decided_false : (P : Type 0) {r : Bool} → r ≡ false → Decides P r → P → ⊥
+decided_false P is = λ d. subst (Decides P) is d

@@ -33,7 +33,7 @@ module _ (m : LogMap) (headers : List (Option Header)) where
     good = λ n low. absurd (omega (arith, low));
   }
 
-  module _ (t : NamesValue) (upto : ℕ) (was : AreNamed m headers t upto) where
+  module _ {t : NamesValue} {upto : ℕ} (was : AreNamed m headers t upto) where
     pub noted_begin : IsNoted headers upto (base_at t upto) [] t
     noted_begin = record {
       counts = λ n low. let own = was.counts n low in omega (arith, own);
@@ -43,7 +43,7 @@ module _ (m : LogMap) (headers : List (Option Header)) where
       others = λ e other. refl;
     }
 
-    module _ (t' : NamesValue) (good : IsGoodObject m headers upto)
+    module _ {t' : NamesValue} (good : IsGoodObject m headers upto)
         (noted : IsNoted headers upto (base_at t upto) (names_at m upto) t') where
       up_then : (n : ℕ) → n < 4096 → 0 < given_below m (upto + 1) n → 0 < giving (names_at m (slice_index t'.up n)) n
       up_then n low some = ⊎_elim
@@ -81,7 +81,7 @@ module _ (m : LogMap) (headers : List (Option Header)) where
       }
 
   -- before the first number that a file has
-  pub named_first : (t : NamesValue) → AreEmpty t → IsGoodObject m headers 0 → names_at m 0 ≡ [] → AreNamed m headers t 1
-  named_first t empty good nothing =
+  pub named_first : {t : NamesValue} → AreEmpty t → IsGoodObject m headers 0 → names_at m 0 ≡ [] → AreNamed m headers t 1
+  named_first {t} empty good nothing =
       let was = named_none t empty in
-      named_more t 0 was t good (subst (λ (ms : Names). IsNoted headers 0 (base_at t 0) ms t) (sym nothing) (noted_begin t 0 was))
+      named_more was good (subst (λ (ms : Names). IsNoted headers 0 (base_at t 0) ms t) (sym nothing) (noted_begin was))

@@ -20,7 +20,7 @@ counted_put p names name v order new =
     let none = ap (λ (o : Option ℕ). weight nat_list_cmp_total (λ w. cond {A = ℕ} (p w) 1 0) o) new in
     omega (arith, put_in, none)
 
-module _ (headers : List (Option Header)) (d : ℕ) (base : Base) (names : Names) (t t' : NamesValue) (n : ℕ) (name : List ℕ)
+module _ (headers : List (Option Header)) (d : ℕ) (base : Base) {names : Names} (t t' : NamesValue) {n : ℕ} (name : List ℕ)
     (here : d < 4096) (inside : n < 4096)
     (sizes : AreTables t) (order : T (is_sorted byte_cmp names)) (new : find byte_cmp name names ≡ None)
     (was : IsNoted headers d base names t) (notes : Notes t t' d n (leads headers n)) where

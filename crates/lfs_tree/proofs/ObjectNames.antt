@@ -44,13 +44,13 @@ all_map P Q f (x ∷ xs) all = (f x all.0, all_map P Q f xs all.1)
 abbrev pub AreHeaders : LogMap → Type 0
 AreHeaders m = (n : ℕ) (h : entry.Header) → m.header n ≡ Some h → IsHeader m.version n h
 
-pub held_headers : (c : Content) (k : CheckpointValue) (m : LogMap) → HoldsAt c k m → AreHeaders m
-held_headers c k m st n h is = subst (λ (v : ℕ). IsHeader v n h) (sym st.version) (headers_are c k m st n h is)
+pub held_headers : {c : Content} {k : CheckpointValue} {m : LogMap} → HoldsAt c k m → AreHeaders m
+held_headers {c} {k} {m} st n h is = subst (λ (v : ℕ). IsHeader v n h) (sym st.version) (headers_are c k m st n h is)
 
 -- what the table says of a number
-pub head_told : (m : LogMap) (headers : List (Option Header)) → TellsHeaders m headers 4096 → (n : ℕ) → n < 4096 → (head : Header)
+pub head_told : (m : LogMap) (headers : List (Option Header)) → TellsHeaders m headers 4096 → (n : ℕ) → n < 4096 → {head : Header}
     → get_or headers n None ≡ Some head → m.header n ≡ Some (as_header head)
-head_told m headers told n low head is = told n low ∙ ap (option_map as_header) is
+head_told m headers told n low is = told n low ∙ ap (option_map as_header) is
 
 module _ (m : LogMap) (are : AreHeaders m) where
   outside : (n : ℕ) → (1 ≤ n → n ≤ 4095 → ⊥) → m.header n ≡ None
@@ -96,15 +96,15 @@ module _ (m : LogMap) (are : AreHeaders m) where
   names_by n h kind.Directory other = absurd (other refl)
   names_by n h kind.Link other = refl
 
-  names_of_header : (n : ℕ) (h : entry.Header) → m.header n ≡ Some h → names_at m n ≡ names_of (node_by m h.kind n h)
-  names_of_header n h at = ap (λ (o : Option entry.Header). names_of (unwrap_or (node_of m n o) (File []))) at
+  names_of_header : (n : ℕ) {h : entry.Header} → m.header n ≡ Some h → names_at m n ≡ names_of (node_by m h.kind n h)
+  names_of_header n at = ap (λ (o : Option entry.Header). names_of (unwrap_or (node_of m n o) (File []))) at
 
-  pub names_other : (n : ℕ) (h : entry.Header) → m.header n ≡ Some h → (h.kind ≡ kind.Directory → ⊥) → names_at m n ≡ []
-  names_other n h at other = names_of_header n h at ∙ names_by n h h.kind other
+  pub names_other : (n : ℕ) {h : entry.Header} → m.header n ≡ Some h → (h.kind ≡ kind.Directory → ⊥) → names_at m n ≡ []
+  names_other n {h} at other = names_of_header n at ∙ names_by n h h.kind other
 
-  pub names_directory : (n : ℕ) (h : entry.Header) → m.header n ≡ Some h → h.kind ≡ kind.Directory
+  pub names_directory : (n : ℕ) {h : entry.Header} → m.header n ≡ Some h → h.kind ≡ kind.Directory
       → names_at m n ≡ map_of h.form (slots m n h)
-  names_directory n h at dir = names_of_header n h at ∙ ap (λ (k : Kind). names_of (node_by m k n h)) dir
+  names_directory n {h} at dir = names_of_header n at ∙ ap (λ (k : Kind). names_of (node_by m k n h)) dir
 
   -- ---- the stage, and each object by itself
   module _ (headers : List (Option Header)) (told : TellsHeaders m headers 4096) where
@@ -126,7 +126,7 @@ module _ (m : LogMap) (are : AreHeaders m) where
         let found = (slot_gives h.form (slots m n h) s.name s.number).1 distinct j record { inside = low; slot = own } in
         let range = (slot_found h.form (get_or (slots m n h) j []) s own).0.number in
         let high = range.1 in
-        let given : entry_in (tree_in m) n s.name ≡ Some s.number = ap (find byte_cmp s.name) (names_in_is n ∙ names_directory n h at dir)
+        let given : entry_in (tree_in m) n s.name ≡ Some s.number = ap (find byte_cmp s.name) (names_in_is n ∙ names_directory n at dir)
         ∙ found in
         record {
           value = s;
@@ -160,7 +160,7 @@ module _ (m : LogMap) (are : AreHeaders m) where
     found_there good d name n (Some h) is found = by h.kind refl
       where
         other : (h.kind ≡ kind.Directory → ⊥) → m.header n ≢ None
-        other kept = absurd (let none : None ≡ Some n = sym (ap (find byte_cmp name) (names_other d h is kept)) ∙ found in cc)
+        other kept = absurd (let none : None ≡ Some n = sym (ap (find byte_cmp name) (names_other d is kept)) ∙ found in cc)
 
         by : (k : Kind) → h.kind ≡ k → m.header n ≢ None
         by kind.File e = other (λ dir. let no = sym e ∙ dir in cc)
@@ -169,7 +169,7 @@ module _ (m : LogMap) (are : AreHeaders m) where
             let range = (are d h is).number in
             let high = range.1 in
             let own = good d (omega (arith, high)) h is dir in
-            let at = (slot_gives h.form (slots m d h) name n).0 (sym (ap (find byte_cmp name) (names_directory d h is dir)) ∙ found) in
+            let at = (slot_gives h.form (slots m d h) name n).0 (sym (ap (find byte_cmp name) (names_directory d is dir)) ∙ found) in
             let slot = all_at (IsGoodSlot h.form headers) (slots m d h) at.0 [] own.each at.1.inside in
             let both : Some slot.value ≡ Some record { number = n; name = name } = sym slot.spelt ∙ at.1.slot in
             let same : slot.value.number ≡ n = cc in
@@ -186,9 +186,9 @@ module _ (m : LogMap) (are : AreHeaders m) where
 
     -- ---- one object
     module _ (n : ℕ) (low : n < 4096) (base : Base) (t : NamesValue) where
-      module _ (head : Header) (is : get_or headers n None ≡ Some head) where
+      module _ {head : Header} (is : get_or headers n None ≡ Some head) where
         at_head : m.header n ≡ Some (as_header head)
-        at_head = head_told m headers told n low head is
+        at_head = head_told m headers told n low is
 
         kind_dir : (k : Kind) → is_directory_kind k ≡ true → k ≡ kind.Directory
         kind_dir kind.File e = absurd (cc)
@@ -205,8 +205,7 @@ module _ (m : LogMap) (are : AreHeaders m) where
             → TakesObject m headers n base t r
         object_directory true dir taken = (
           good_slots taken.0,
-          subst (λ (ms : Names). IsNoted headers n base ms t) (sym (names_directory n (as_header head) at_head (kind_dir head.kind dir)))
-              taken.1,
+          subst (λ (ms : Names). IsNoted headers n base ms t) (sym (names_directory n at_head (kind_dir head.kind dir))) taken.1,
         )
         object_directory false dir taken = λ good. taken (good (as_header head) at_head (kind_dir head.kind dir))
 
@@ -218,5 +217,5 @@ module _ (m : LogMap) (are : AreHeaders m) where
         object_other apart was = (
           λ h at dir. (let both : Some (as_header head) ≡ Some h = sym at_head ∙ at in let same : as_header head ≡ h = cc in
               absurd (other_kind apart (ap (λ (x : entry.Header). x.kind) same ∙ dir))),
-          subst (λ (ms : Names). IsNoted headers n base ms t) (sym (names_other n (as_header head) at_head (other_kind apart))) was,
+          subst (λ (ms : Names). IsNoted headers n base ms t) (sym (names_other n at_head (other_kind apart))) was,
         )

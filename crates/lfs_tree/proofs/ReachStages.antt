@@ -57,7 +57,7 @@ module _ (m : LogMap) (are : AreHeaders m) (headers : List (Option Header)) (tol
 
   node_there : (n : ℕ) (hd : Header) → n < 4096 → get_or headers n None ≡ Some hd
       → node (tree_in m) n ≡ Some (node_by m hd.kind n (as_header hd))
-  node_there n hd low is = node_at m are n ∙ ap (node_of m n) (head_told m headers told n low hd is)
+  node_there n hd low is = node_at m are n ∙ ap (node_of m n) (head_told m headers told n low is)
 
   node_not : (n : ℕ) → n < 4096 → get_or headers n None ≡ None → node (tree_in m) n ≡ None
   node_not n low none = node_at m are n ∙ ap (node_of m n) (told n low ∙ ap (option_map as_header) none)
@@ -70,15 +70,15 @@ module _ (m : LogMap) (are : AreHeaders m) (headers : List (Option Header)) (tol
   leads_is n low = leads_by n low (get_or headers n None) refl
 
   -- a number that is there
-  low_of : (n : ℕ) (h : entry.Header) → m.header n ≡ Some h → n < 4096
-  low_of n h at = let range = (are n h at).number in let high = range.1 in omega (arith, high)
+  low_of : (n : ℕ) {h : entry.Header} → m.header n ≡ Some h → n < 4096
+  low_of n {h} at = let range = (are n h at).number in let high = range.1 in omega (arith, high)
 
   header_of : (n : ℕ) (h : entry.Header) → m.header n ≡ Some h → (hd : Header) × (get_or headers n None ≡ Some hd) × (h ≡ as_header hd)
   header_of n h at = by (get_or headers n None) refl
     where
       by : (o : Option Header) → get_or headers n None ≡ o → (hd : Header) × (get_or headers n None ≡ Some hd) × (h ≡ as_header hd)
-      by None is = absurd (let both : None ≡ Some h = sym (told n (low_of n h at) ∙ ap (option_map as_header) is) ∙ at in cc)
-      by (Some hd) is = (hd, is, let both : Some h ≡ Some (as_header hd) = sym at ∙ head_told m headers told n (low_of n h at) hd is in cc)
+      by None is = absurd (let both : None ≡ Some h = sym (told n (low_of n at) ∙ ap (option_map as_header) is) ∙ at in cc)
+      by (Some hd) is = (hd, is, let both : Some h ≡ Some (as_header hd) = sym at ∙ head_told m headers told n (low_of n at) is in cc)
 
   header_in : (n : ℕ) → node (tree_in m) n ≢ None → (h : entry.Header) × (m.header n ≡ Some h)
   header_in n there = by (m.header n) refl
@@ -96,19 +96,19 @@ module _ (m : LogMap) (are : AreHeaders m) (headers : List (Option Header)) (tol
     where
       sorted_by : (h : entry.Header) → m.header d ≡ Some h → (k : Kind) → h.kind ≡ k → T (is_sorted byte_cmp (names_at m d))
       sorted_by h is kind.File e = subst (λ (ms : Names). T (is_sorted byte_cmp ms))
-          (sym (names_other m are d h is (λ dir. let both = sym e ∙ dir in absurd (cc)))) tt
+          (sym (names_other m are d is (λ dir. let both = sym e ∙ dir in absurd (cc)))) tt
       sorted_by h is kind.Link e = subst (λ (ms : Names). T (is_sorted byte_cmp ms))
-          (sym (names_other m are d h is (λ dir. let both = sym e ∙ dir in absurd (cc)))) tt
+          (sym (names_other m are d is (λ dir. let both = sym e ∙ dir in absurd (cc)))) tt
       sorted_by h is kind.Directory e =
-          subst (λ (ms : Names). T (is_sorted byte_cmp ms)) (sym (names_directory m are d h is e)) (sorted_names h.form (slots m d h))
+          subst (λ (ms : Names). T (is_sorted byte_cmp ms)) (sym (names_directory m are d is e)) (sorted_names h.form (slots m d h))
 
       by : (o : Option entry.Header) → m.header d ≡ o → T (is_sorted byte_cmp (names_at m d))
       by None is = subst (λ (ms : Names). T (is_sorted byte_cmp ms)) (sym (no_names m are d is)) tt
       by (Some h) is = sorted_by h is h.kind refl
 
   -- what gives a name is a directory
-  entry_dir : (d : ℕ) (name : List ℕ) (n : ℕ) → entry_in (tree_in m) d name ≡ Some n → is_dir (node (tree_in m) d) ≡ true
-  entry_dir d name n given = by (node (tree_in m) d) refl
+  entry_dir : (d : ℕ) (name : List ℕ) {n : ℕ} → entry_in (tree_in m) d name ≡ Some n → is_dir (node (tree_in m) d) ≡ true
+  entry_dir d name {n} given = by (node (tree_in m) d) refl
     where
       none_of : (o : Option Node) → node (tree_in m) d ≡ o → names_of (unwrap_or o (File [])) ≡ [] → is_dir (node (tree_in m) d) ≡ true
       none_of o is none = absurd (let both : None ≡ Some n = sym
@@ -124,7 +124,7 @@ module _ (m : LogMap) (are : AreHeaders m) (headers : List (Option Header)) (tol
   entry_given d name n given = found_given (names_at m d) name n (sym (ap (find byte_cmp name) (names_in_is m are d)) ∙ given)
 
   -- ---- the tables
-  module _ (t : NamesValue) (named : AreNamed m headers t 4096) where
+  module _ {t : NamesValue} (named : AreNamed m headers t 4096) where
     pub count_is : (n : ℕ) → n < 4096 → slice_index t.counts n ≡ capped (names (tree_in m) n)
     count_is n low = named.counts n low ∙ ap capped (sym (names_given m are n))
 
@@ -139,23 +139,23 @@ module _ (m : LogMap) (are : AreHeaders m) (headers : List (Option Header)) (tol
 
     -- ---- numbers named
     module _ (fit : AreNamesFit headers t) where
-      fits_at : (n : ℕ) (h : entry.Header) → m.header n ≡ Some h
+      fits_at : (n : ℕ) {h : entry.Header} → m.header n ≡ Some h
           → (hd : Header) × (h ≡ as_header hd) × FitsNames (Some hd) n (slice_index t.counts n)
-      fits_at n h at =
+      fits_at n {h} at =
           let is = header_of n h at in
-          (is.0, is.2, subst (λ (o : Option Header). FitsNames o n (slice_index t.counts n)) is.1 (fit n (low_of n h at)))
+          (is.0, is.2, subst (λ (o : Option Header). FitsNames o n (slice_index t.counts n)) is.1 (fit n (low_of n at)))
 
       pub named_some : (n : ℕ) → n ≢ 1 → node (tree_in m) n ≢ None → 0 < names (tree_in m) n
       named_some n other there =
           let at = header_in n there in
-          let fits = fits_at n at.0 at.1 in
+          let fits = fits_at n at.1 in
           let some = fits.2.1 other in
-          let same = count_is n (low_of n at.0 at.1) in
+          let same = count_is n (low_of n at.1) in
           omega (arith, some, same)
 
       pub named_root : (h : entry.Header) → m.header 1 ≡ Some h → names (tree_in m) 1 ≡ 0
       named_root h at =
-          let fits = fits_at 1 h at in
+          let fits = fits_at 1 at in
           let none = fits.2.0 refl in
           let same = count_is 1 (omega arith) in
           omega (arith, none, same)
@@ -163,10 +163,10 @@ module _ (m : LogMap) (are : AreHeaders m) (headers : List (Option Header)) (tol
       pub named_one : (n : ℕ) → n ≢ 1 → is_dir (node (tree_in m) n) ≡ true → names (tree_in m) n ≡ 1
       named_one n other dir =
           let at = header_in n (dir_there n dir) in
-          let fits = fits_at n at.0 at.1 in
+          let fits = fits_at n at.1 in
           let kind_is = sym (dir_by n at.0 at.0.kind) ∙ ap is_dir (sym (node_at m are n ∙ ap (node_of m n) at.1)) ∙ dir in
           let one = fits.2.2 other (ap (λ (h : entry.Header). is_directory_kind h.kind) (sym fits.1) ∙ kind_is) in
-          let same = count_is n (low_of n at.0 at.1) in
+          let same = count_is n (low_of n at.1) in
           omega (arith, one, same)
 
     pub names_fit : AreReached m → AreNamesFit headers t
@@ -188,7 +188,7 @@ module _ (m : LogMap) (are : AreHeaders m) (headers : List (Option Header)) (tol
     -- ---- directories reached
     module _ (one : (n : ℕ) → n ≢ 1 → is_dir (node (tree_in m) n) ≡ true → names (tree_in m) n ≡ 1) where
       dir_low : (n : ℕ) → is_dir (node (tree_in m) n) ≡ true → n < 4096
-      dir_low n dir = let at = header_in n (dir_there n dir) in low_of n at.0 at.1
+      dir_low n dir = let at = header_in n (dir_there n dir) in low_of n at.1
 
       pub climbs_reached : {n : ℕ} → Climbs (slice_index t.up) n → is_dir (node (tree_in m) n) ≡ true → IsReachable (tree_in m) n
       climbs_reached way.root dir = root
@@ -197,11 +197,10 @@ module _ (m : LogMap) (are : AreHeaders m) (headers : List (Option Header)) (tol
           (λ (other : n ≡ 1 → ⊥).
           let once = one n other dir in
           let given = up_entry n (dir_low n dir) (omega (arith, once)) in
-          below given.0 (climbs_reached rest (entry_dir (slice_index t.up n) given.0 n given.1)) given.1)
-          (cases_eq n 1)
+          below given.0 (climbs_reached rest (entry_dir (slice_index t.up n) given.0 given.1)) given.1) (cases_eq n 1)
 
       up_low : (n : ℕ) → n < 4096 → 0 < names (tree_in m) n → slice_index t.up n < 4096
-      up_low n low some = let given = up_entry n low some in dir_low (slice_index t.up n) (entry_dir (slice_index t.up n) given.0 n given.1)
+      up_low n low some = let given = up_entry n low some in dir_low (slice_index t.up n) (entry_dir (slice_index t.up n) given.0 given.1)
 
       same_up : (n d : ℕ) (name : List ℕ) → n ≢ 1 → is_dir (node (tree_in m) n) ≡ true → entry_in (tree_in m) d name ≡ Some n
           → d ≡ slice_index t.up n
@@ -211,7 +210,7 @@ module _ (m : LogMap) (are : AreHeaders m) (headers : List (Option Header)) (tol
           let once = one n other dir in
           let first = entry_given d name n given in
           let second = up_names n (dir_low n dir) (omega (arith, once)) in
-          let both = sum_both (λ (x : ℕ). giving (names_at m x) n) d (slice_index t.up n) 4096 (dir_low d (entry_dir d name n given))
+          let both = sum_both (λ (x : ℕ). giving (names_at m x) n) d 4096 (dir_low d (entry_dir d name given))
           (up_low n (dir_low n dir) (omega (arith, once))) apart in
           let all = names_given m are n in
           absurd (omega (arith, once, first, second, both, all)))
@@ -222,20 +221,19 @@ module _ (m : LogMap) (are : AreHeaders m) (headers : List (Option Header)) (tol
       reached_climbs (below {d} {n} name from given) dir = ⊎_elim
           (λ (here : n ≡ 1). subst (Climbs (slice_index t.up)) (sym here) way.root)
           (λ (other : n ≡ 1 → ⊥).
-          way.more n
-          (subst (Climbs (slice_index t.up)) (same_up n d name other dir given) (reached_climbs from (entry_dir d name n given))))
+          way.more n (subst (Climbs (slice_index t.up)) (same_up n d name other dir given) (reached_climbs from (entry_dir d name given))))
           (cases_eq n 1)
 
     -- ---- the stage
-    pub reached_if_fit : (h : entry.Header) → m.header 1 ≡ Some h → AreNamesFit headers t → AllClimb headers t.up → AreReached m
-    reached_if_fit h at fit climb = record {
+    pub reached_if_fit : {h : entry.Header} → m.header 1 ≡ Some h → AreNamesFit headers t → AllClimb headers t.up → AreReached m
+    reached_if_fit {h} at fit climb = record {
       some = named_some fit;
       root = named_root fit h at;
       one = named_one fit;
       down = λ n dir.
           let there = header_in n (dir_there n dir) in
           let range = (are n there.0 there.1).number in
-          climbs_reached (named_one fit) (climb n range.0 (low_of n there.0 there.1) (leads_is n (low_of n there.0 there.1) ∙ dir)) dir;
+          climbs_reached (named_one fit) (climb n range.0 (low_of n there.1) (leads_is n (low_of n there.1) ∙ dir)) dir;
     }
 
     pub fit_if_reached : AreReached m → AreNamesFit headers t × AllClimb headers t.up
@@ -249,7 +247,7 @@ module _ (m : LogMap) (are : AreHeaders m) (headers : List (Option Header)) (tol
       given_low d n some =
           let found = given_found (names_at m d) n (sorted_at d) some in
           let at = header_in n (entries.there d found.0 n (ap (find byte_cmp found.0) (names_in_is m are d) ∙ found.1)) in
-          low_of n at.0 at.1
+          low_of n at.1
 
       links_of : (n : ℕ) (hd : Header) → n < 4096 → get_or headers n None ≡ Some hd → hd.links ≤ 1000 → (k : Kind) → hd.kind ≡ k
           → (hd.links ≡ cond (is_directory_kind hd.kind) (2 + slice_index t.below n) (slice_index t.counts n)) ↔
@@ -265,7 +263,7 @@ module _ (m : LogMap) (are : AreHeaders m) (headers : List (Option Header)) (tol
           let test = ap {B = ℕ} (λ (k : Kind). cond (is_directory_kind k) (2 + slice_index t.below n) (slice_index t.counts n)) e in
           (λ l. omega (arith, l, same, tree, test, few), λ l. omega (arith, l, same, tree, test, few))
       links_of n hd low is few kind.Directory e =
-          let own = names_directory m are n (as_header hd) (head_told m headers told n low hd is) e in
+          let own = names_directory m are n (head_told m headers told n low is) e in
           let same = named.below n low in
           let counted = count_same (leads headers) (λ (v : ℕ). is_dir (node (tree_in m) v)) (names_at m n)
           (λ v some. leads_is v (given_low n v some)) in
@@ -274,15 +272,15 @@ module _ (m : LogMap) (are : AreHeaders m) (headers : List (Option Header)) (tol
           let test = ap {B = ℕ} (λ (k : Kind). cond (is_directory_kind k) (2 + slice_index t.below n) (slice_index t.counts n)) e in
           (λ l. omega (arith, l, same, counted, moved, tree, test, few), λ l. omega (arith, l, same, counted, moved, tree, test, few))
 
-      few_links : (n : ℕ) (hd : Header) → n < 4096 → get_or headers n None ≡ Some hd → hd.links ≤ 1000
-      few_links n hd low is = (are n (as_header hd) (head_told m headers told n low hd is)).links.1
+      few_links : (n : ℕ) {hd : Header} → n < 4096 → get_or headers n None ≡ Some hd → hd.links ≤ 1000
+      few_links n {hd} low is = (are n (as_header hd) (head_told m headers told n low is)).links.1
 
       pub links_if_fit : AreLinksFit headers t → AreLinks m
       links_if_fit fit n h at =
           let is = header_of n h at in
-          let low = low_of n h at in
+          let low = low_of n at in
           let fits = subst (λ (o : Option Header). FitsLinks o (slice_index t.counts n) (slice_index t.below n)) is.1 (fit n low) in
-          ap (λ (x : entry.Header). x.links) is.2 ∙ (links_of n is.0 low is.1 (few_links n is.0 low is.1) is.0.kind refl).0 fits
+          ap (λ (x : entry.Header). x.links) is.2 ∙ (links_of n is.0 low is.1 (few_links n low is.1) is.0.kind refl).0 fits
 
       pub fit_if_links : AreLinks m → AreLinksFit headers t
       fit_if_links all n low = by (get_or headers n None) refl
@@ -292,4 +290,4 @@ module _ (m : LogMap) (are : AreHeaders m) (headers : List (Option Header)) (tol
           by None is = subst (λ (o : Option Header). FitsLinks o (slice_index t.counts n) (slice_index t.below n)) (sym is) tt
           by (Some hd) is =
               subst (λ (o : Option Header). FitsLinks o (slice_index t.counts n) (slice_index t.below n)) (sym is)
-              ((links_of n hd low is (few_links n hd low is) hd.kind refl).1 (all n (as_header hd) (head_told m headers told n low hd is)))
+              ((links_of n hd low is (few_links n low is) hd.kind refl).1 (all n (as_header hd) (head_told m headers told n low is)))

@@ -26,22 +26,22 @@ use Rattle.lfs_tree.specs.Reading.{Sees, Leads, IsInodeOf, TellsHeaders}
 
 -- ---- calls that only read
 
-pub looks_call : (a b : DeviceState) → IsLawful a → Carries a b → IsUntouched a b → Elapses a b → Looks a b
-looks_call a b lawful carries untouched time = record {
+pub looks_call : {a b : DeviceState} → IsLawful a → Carries a b → IsUntouched a b → Elapses a b → Looks a b
+looks_call {a} {b} lawful carries untouched time = record {
   carries = carries;
   untouched = untouched;
-  any_moment = goes_on a a b a.may_leave (started a a.may_leave lawful (λ c left. left)) carries time untouched.crash;
+  any_moment = goes_on a.may_leave (started a.may_leave lawful (λ c left. left)) carries time untouched.crash;
 }
 
-pub reads_of : (a b : DeviceState) (k : CheckpointValue) (m : LogMap) → Sees a b k m → ReadsContent a b a.content
-reads_of a b k m sees = record { content = refl; keeps = sees.keeps }
+pub reads_of : {a b : DeviceState} {k : CheckpointValue} {m : LogMap} → Sees a b k m → ReadsContent a b a.content
+reads_of sees = record { content = refl; keeps = sees.keeps }
 
 -- a run that sees a log map begins with one that sees it, and goes on with one
-pub sees_first : (a b c : DeviceState) (k : CheckpointValue) (m : LogMap) → Sees a c k m → Looks b c → Sees a b k m
-sees_first a b c k m sees looks = record { keeps = looks.carries.kept_before sees.keeps; holds = sees.holds; sized = sees.sized }
+pub sees_first : {a b c : DeviceState} {k : CheckpointValue} {m : LogMap} → Sees a c k m → Looks b c → Sees a b k m
+sees_first sees looks = record { keeps = looks.carries.kept_before sees.keeps; holds = sees.holds; sized = sees.sized }
 
-pub sees_then : (a b c : DeviceState) (k : CheckpointValue) (m : LogMap) → Sees a c k m → Looks a b → Sees b c k m
-sees_then a b c k m sees looks =
+pub sees_then : {a b c : DeviceState} {k : CheckpointValue} {m : LogMap} → Sees a c k m → Looks a b → Sees b c k m
+sees_then {k} {m} sees looks =
     let same = sym looks.untouched.content in
     record {
       keeps = sees.keeps;
@@ -49,38 +49,38 @@ sees_then a b c k m sees looks =
       sized = subst (λ (x : Content). (at : ℕ) (bytes : List ℕ) → cell_at x at ≡ Some bytes → length bytes ≡ 512) same sees.sized;
     }
 
-pub leads_then : (a b : DeviceState) (k : CheckpointValue) (map : MapValue) → Leads a.content k map → Looks a b → Leads b.content k map
-leads_then a b k map leads looks = subst (λ (x : Content). Leads x k map) (sym looks.untouched.content) leads
+pub leads_then : {a b : DeviceState} {k : CheckpointValue} {map : MapValue} → Leads a.content k map → Looks a b → Leads b.content k map
+leads_then {k} {map} leads looks = subst (λ (x : Content). Leads x k map) (sym looks.untouched.content) leads
 
-pub inode_then : (a b : DeviceState) (k : CheckpointValue) (n : ℕ) (bytes : List ℕ)
+pub inode_then : {a b : DeviceState} (k : CheckpointValue) (n : ℕ) {bytes : List ℕ}
     → bytes ≡ block a.content (address a.content k (Inode n)) → Looks a b → bytes ≡ block b.content (address b.content k (Inode n))
-inode_then a b k n bytes is looks = is ∙ ap (λ (x : Content). block x (address x k (Inode n))) (sym looks.untouched.content)
+inode_then k n is looks = is ∙ ap (λ (x : Content). block x (address x k (Inode n))) (sym looks.untouched.content)
 
 -- ---- what is there
-module _ (c : Content) (k : CheckpointValue) (m : LogMap)
+module _ {c : Content} {k : CheckpointValue} {m : LogMap}
     (sized : (at : ℕ) (bytes : List ℕ) → cell_at c at ≡ Some bytes → length bytes ≡ 512) (st : HoldsAt c k m) where
-  pub is_long : (e : Entry) (at : ℕ) → at ≡ address c k e → 0 < at → 0 < length (block c at)
-  is_long e at is some =
+  pub is_long : (e : Entry) {at : ℕ} → at ≡ address c k e → 0 < at → 0 < length (block c at)
+  is_long e is some =
       let long = Decodes.long c k m sized st e (omega (arith, is, some)) in
       let same = ap (λ (x : ℕ). length (block c x)) is in
       omega (arith, long, same)
 
-  pub is_inside : (e : Entry) (at : ℕ) → at ≡ address c k e → 0 < at → at < length c
-  is_inside e at is some =
+  pub is_inside : (e : Entry) {at : ℕ} → at ≡ address c k e → 0 < at → at < length c
+  is_inside e is some =
       let within = reached_within (view c k) st.stages e (omega (arith, is, some)) in
       let high = within.1 in
       let size = st.size in
       omega (arith, is, high, size)
 
-  pub not_lost : (e : Entry) (at : ℕ) → at ≡ address c k e → IsLost c at → ⊥
-  not_lost e at is lost =
+  pub not_lost : (e : Entry) {at : ℕ} → at ≡ address c k e → IsLost c at → ⊥
+  not_lost e {at} is lost =
       let some = lost.some in
-      let long = is_long e at is some in
+      let long = is_long e is some in
       let none = ap length (block_at c at some ∙ ap bytes_of lost.lost) in
       omega (arith, long, none)
 
-  pub inode_there : (n at : ℕ) (bytes : List ℕ) → at ≡ address c k (Inode n) → 0 < at → block c at ≡ bytes → IsInodeOf c k m n bytes
-  inode_there n at bytes is some own =
+  pub inode_there : {n at : ℕ} {bytes : List ℕ} → at ≡ address c k (Inode n) → 0 < at → block c at ≡ bytes → IsInodeOf c k m n bytes
+  inode_there {n} {bytes} is some own =
       let same : bytes ≡ block c (address c k (Inode n)) = sym own ∙ ap (block c) is in
       record {
         header = header_at c k m sized st n (omega (arith, is, some)) ∙ ap (λ (b : List ℕ). Some (header b)) (sym same);
@@ -88,42 +88,42 @@ module _ (c : Content) (k : CheckpointValue) (m : LogMap)
       }
 
   -- ---- blocks
-  leaf_is : (n q : ℕ) (bytes : List ℕ) → bytes ≡ block c (address c k (Inode n)) → leaf_in c bytes q ≡ address c k (Leaf n q)
+  leaf_is : (n q : ℕ) {bytes : List ℕ} → bytes ≡ block c (address c k (Inode n)) → leaf_in c bytes q ≡ address c k (Leaf n q)
   unfolding address
-  leaf_is n zero bytes is = ap (λ (b : List ℕ). word b 120) is
-  leaf_is n (suc q) bytes is = ap (λ (b : List ℕ). word (block c (word b 121)) q) is
+  leaf_is n zero is = ap (λ (b : List ℕ). word b 120) is
+  leaf_is n (suc q) is = ap (λ (b : List ℕ). word (block c (word b 121)) q) is
 
-  double_is : (n : ℕ) (bytes : List ℕ) → bytes ≡ block c (address c k (Inode n)) → word bytes 121 ≡ address c k (Double n)
+  double_is : (n : ℕ) {bytes : List ℕ} → bytes ≡ block c (address c k (Inode n)) → word bytes 121 ≡ address c k (Double n)
   unfolding address
-  double_is n bytes is = ap (λ (b : List ℕ). word b 121) is
+  double_is n is = ap (λ (b : List ℕ). word b 121) is
 
-  data_by : (n i : ℕ) (bytes : List ℕ) → bytes ≡ block c (address c k (Inode n)) → (leaf : ℕ)
+  data_by : (n i : ℕ) {bytes : List ℕ} → bytes ≡ block c (address c k (Inode n)) → {leaf : ℕ}
       → leaf ≡ address c k (Leaf n ((i - 112) / 128))
       → cond (nat_lt i 112) (word bytes (8 + i)) (word (block c leaf) ((i - 112) % 128)) ≡ address c k (Data n i)
   unfolding address
-  data_by n i bytes is leaf at =
+  data_by n i is at =
       ap₂ (λ (b : List ℕ) (x : ℕ). cond (nat_lt i 112) (word b (8 + i)) (word (block c x) ((i - 112) % 128))) is at
 
-  pub data_is : (n i : ℕ) (bytes : List ℕ) → bytes ≡ block c (address c k (Inode n)) → data_in c bytes i ≡ address c k (Data n i)
-  data_is n i bytes is = data_by n i bytes is (leaf_in c bytes ((i - 112) / 128)) (leaf_is n ((i - 112) / 128) bytes is)
+  pub data_is : (n i : ℕ) {bytes : List ℕ} → bytes ≡ block c (address c k (Inode n)) → data_in c bytes i ≡ address c k (Data n i)
+  data_is n i {bytes} is = data_by n i is (leaf_is n ((i - 112) / 128) is)
 
-  pub data_not_lost : (n i : ℕ) (bytes : List ℕ) → bytes ≡ block c (address c k (Inode n)) → IsDataLost c bytes i → ⊥
-  data_not_lost n i bytes is lost = ⊎_elim
-      (λ (double : IsLeafLost c bytes ((i - 112) / 128)). not_lost (Double n) (word bytes 121) (double_is n bytes is) double.1)
+  pub data_not_lost : (n i : ℕ) {bytes : List ℕ} → bytes ≡ block c (address c k (Inode n)) → IsDataLost c bytes i → ⊥
+  data_not_lost n i {bytes} is lost = ⊎_elim
+      (λ (double : IsLeafLost c bytes ((i - 112) / 128)). not_lost (Double n) (double_is n is) double.1)
       (λ (leaf : IsLost c (leaf_in c bytes ((i - 112) / 128))).
-      not_lost (Leaf n ((i - 112) / 128)) (leaf_in c bytes ((i - 112) / 128)) (leaf_is n ((i - 112) / 128) bytes is) leaf)
-      lost.1
+      not_lost (Leaf n ((i - 112) / 128)) (leaf_is n ((i - 112) / 128) is) leaf) lost.1
 
-  pub block_there : (n i at : ℕ) (bytes : List ℕ) → at ≡ address c k (Data n i) → 0 < at → block c at ≡ bytes → HoldsBlock m n i bytes
-  block_there n i at bytes is some own =
+  pub block_there : (n : ℕ) {i at : ℕ} {bytes : List ℕ} → at ≡ address c k (Data n i) → 0 < at → block c at ≡ bytes → HoldsBlock m n i bytes
+  block_there n {i} {bytes} is some own =
       let same : bytes ≡ block c (address c k (Data n i)) = sym own ∙ ap (block c) is in
       record {
         long = ap length same ∙ Decodes.long c k m sized st (Data n i) (omega (arith, is, some));
         bytes = λ p. ap (λ (b : List ℕ). slice_index b p) (same ∙ sym (st.block n i));
       }
 
-  pub block_not : (n i at : ℕ) (bytes : List ℕ) → at ≡ address c k (Data n i) → at ≡ 0 → bytes ≡ replicate 512 0 → HoldsBlock m n i bytes
-  block_not n i at bytes is none zeros =
+  pub block_not : (n : ℕ) {i at : ℕ} (bytes : List ℕ) → at ≡ address c k (Data n i) → at ≡ 0 → bytes ≡ replicate 512 0
+      → HoldsBlock m n i bytes
+  block_not n {i} bytes is none zeros =
       let gone : m.block n i ≡ [] = st.block n i ∙ ap (block c) (sym is ∙ none) in
       record {
         long = ap length zeros ∙ (let nought : ℕ = 0 in length-replicate 512 nought);

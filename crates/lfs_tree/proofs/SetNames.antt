@@ -12,7 +12,7 @@ use Rattle.lfs_model.specs.Tree.{Names, byte_cmp}
 use Rattle.lfs_dirs.proofs.SlotNames.{apart, tied, ties}
 use Rattle.lfs_tree.specs.Naming.{HasNames}
 
-module _ (set : BTreeSet (Vec ℕ Global)) (key : Vec ℕ Global) (name : List ℕ) (is : key.items ≡ name) (names : Names)
+module _ (set : BTreeSet (Vec ℕ Global)) (key : Vec ℕ Global) {name : List ℕ} (is : key.items ≡ name) (names : Names)
     (had : HasNames set names) where
   pub name_more : (set' : BTreeSet (Vec ℕ Global)) (v : ℕ)
       → ((q : Vec ℕ Global) → tree.contains (λ (x y : Vec ℕ Global). slice_cmp nat_cmp x.items y.items) set' q ≡ cond (is_at
@@ -23,10 +23,10 @@ module _ (set : BTreeSet (Vec ℕ Global)) (key : Vec ℕ Global) (name : List �
       → tree.contains (λ (x y : Vec ℕ Global). slice_cmp nat_cmp x.items y.items) set' q
       ≡ is_some (cond b (Some v) (find byte_cmp q.items names))) [
         | true ↦ λ e. up q ∙ ap (λ b. cond b true (tree.contains (λ (x y : Vec ℕ Global). slice_cmp nat_cmp x.items y.items) set q))
-            (ties key.items q.items (is ∙ sym (tied q.items name e)))
+            (ties (is ∙ sym (tied q.items name e)))
         | false ↦ λ e.
             let other : key.items ≢ q.items =
-            λ same. (let yes = ties q.items name (sym same ∙ is) in let no : true ≡ false = sym yes ∙ e in absurd (cc)) in
+            λ same. (let yes = ties (sym same ∙ is) in let no : true ≡ false = sym yes ∙ e in absurd (cc)) in
             up q ∙ ap (λ b. cond b true (tree.contains (λ (x y : Vec ℕ Global). slice_cmp nat_cmp x.items y.items) set q))
             (apart key.items q.items other) ∙ had q
       ] refl ∙ sym (ap is_some (find-put byte_cmp nat_list_cmp_total q.items name v names))

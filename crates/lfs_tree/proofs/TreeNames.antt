@@ -67,14 +67,13 @@ sum_own f a (suc n) low = ⊎_elim
     (λ (other : a ≡ n → ⊥). (let rest = sum_own f a n (omega (arith, low, other)) in omega (arith, rest)))
     (cases_eq a n)
 
-pub sum_both : (f : ℕ → ℕ) (a b n : ℕ) → a < n → b < n → (a ≡ b → ⊥) → f a + f b ≤ sum_below f n
+pub sum_both : (f : ℕ → ℕ) (a : ℕ) {b : ℕ} (n : ℕ) → a < n → b < n → (a ≡ b → ⊥) → f a + f b ≤ sum_below f n
 unfolding sum_below
-sum_both f a b zero low high ne = absurd (omega (arith, low))
-sum_both f a b (suc n) low high ne = ⊎_elim
+sum_both f a zero low high ne = absurd (omega (arith, low))
+sum_both f a {b} (suc n) low high ne = ⊎_elim
     (λ (here : a ≡ n). (let e = ap f here in let rest = sum_own f b n (omega (arith, here, high, ne)) in omega (arith, e, rest)))
     (λ (other : a ≡ n → ⊥). ⊎_elim
     (λ (there : b ≡ n). (let e = ap f there in let rest = sum_own f a n (omega (arith, low, other)) in omega (arith, e, rest)))
     (λ (apart : b ≡ n → ⊥).
-    (let rest = sum_both f a b n (omega (arith, low, other)) (omega (arith, high, apart)) ne in omega (arith, rest)))
-    (cases_eq b n))
+    (let rest = sum_both f a n (omega (arith, low, other)) (omega (arith, high, apart)) ne in omega (arith, rest))) (cases_eq b n))
     (cases_eq a n)

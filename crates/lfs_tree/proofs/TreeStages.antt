@@ -29,51 +29,47 @@ use Rattle.lfs_verify.proofs.CodeSteps.{stage_9}
 use Rattle.lfs_tree.specs.Checking.{IsTreeDamage, links_fail, reached_fail, room_fail, slots_fail, texts_fail}
 
 -- ---- stages by number
-below_10 : (v : View) → Stages v → HoldsBelow v 10
-below_10 v s =
+below_10 : {v : View} → Stages v → HoldsBelow v 10
+below_10 {v} s =
     below_next v 9 (below_next v 8
     (below_next v 7 (below_next v 6 (below_next v 5 (below_next v 4 (below_next v 3 (below_next v 2 (below_next v 1 (below_1 v)
-    ((stage_1 v).1 s.usages)) ((stage_2 v).1 s.rows)) ((stage_3 v).1 s.maps)) ((stage_4 v).1 s.inodes)) (stage_5 v s.roots))
-    (stage_6 v s.leaves))
-    ((stage_7 v).1 s.blocks)) ((stage_8 v).1 s.named)) ((stage_9 v).1 s.counted)
+    ((stage_1 v).1 s.usages)) ((stage_2 v).1 s.rows)) ((stage_3 v).1 s.maps)) ((stage_4 v).1 s.inodes)) (stage_5 s.roots))
+    (stage_6 s.leaves)) ((stage_7 v).1 s.blocks)) ((stage_8 v).1 s.named)) ((stage_9 v).1 s.counted)
 
 -- damage of the tree is damage of the volume, where the stages of its log hold
-pub damage_of_tree : (v : View) (code : ℕ) → Stages v → IsTreeDamage v.checkpoint.segments (log_in v) code
+pub damage_of_tree : {v : View} {code : ℕ} → Stages v → IsTreeDamage v.checkpoint.segments (log_in v) code
     → (10 ≤ code) × (code ≤ 14) × IsDamaged v code
 unfolding stage
-damage_of_tree v code s (slots_fail is fails) =
-    (omega (arith, is), omega (arith, is), subst (IsDamaged v) (sym is) (below_10 v s, fails))
-damage_of_tree v code s (texts_fail is slots fails) =
-    (omega (arith, is), omega (arith, is), subst (IsDamaged v) (sym is) (below_next v 10 (below_10 v s) slots, fails))
-damage_of_tree v code s (reached_fail is slots texts fails) = (
+damage_of_tree {v} s (slots_fail is fails) =
+    (omega (arith, is), omega (arith, is), subst (IsDamaged v) (sym is) (below_10 s, fails))
+damage_of_tree {v} s (texts_fail is slots fails) =
+    (omega (arith, is), omega (arith, is), subst (IsDamaged v) (sym is) (below_next v 10 (below_10 s) slots, fails))
+damage_of_tree {v} s (reached_fail is slots texts fails) = ( omega (arith, is),
   omega (arith, is),
-  omega (arith, is),
-  subst (IsDamaged v) (sym is) (below_next v 11 (below_next v 10 (below_10 v s) slots) texts, fails),
+  subst (IsDamaged v) (sym is) (below_next v 11 (below_next v 10 (below_10 s) slots) texts, fails),
 )
-damage_of_tree v code s (links_fail is slots texts reached fails) = (
+damage_of_tree {v} s (links_fail is slots texts reached fails) = ( omega (arith, is),
   omega (arith, is),
-  omega (arith, is),
-  subst (IsDamaged v) (sym is) (below_next v 12 (below_next v 11 (below_next v 10 (below_10 v s) slots) texts) reached, fails),
+  subst (IsDamaged v) (sym is) (below_next v 12 (below_next v 11 (below_next v 10 (below_10 s) slots) texts) reached, fails),
 )
-damage_of_tree v code s (room_fail is slots texts reached links fails) = (
-  omega (arith, is),
+damage_of_tree {v} s (room_fail is slots texts reached links fails) = ( omega (arith, is),
   omega (arith, is),
   subst (IsDamaged v) (sym is)
-      (below_next v 13 (below_next v 12 (below_next v 11 (below_next v 10 (below_10 v s) slots) texts) reached) links, fails),
+      (below_next v 13 (below_next v 12 (below_next v 11 (below_next v 10 (below_10 s) slots) texts) reached) links, fails),
 )
 
 -- where the stages of the log and of its tree hold, too few clean segments are what is damaged
-pub too_few_clean : (v : View) → Stages v → IsTree v.checkpoint.segments (log_in v) → (EnoughClean v → ⊥) → IsDamaged v 15
+pub too_few_clean : {v : View} → Stages v → IsTree v.checkpoint.segments (log_in v) → (EnoughClean v → ⊥) → IsDamaged v 15
 unfolding stage
-too_few_clean v s t few = (
-  below_next v 14 (below_next v 13 (below_next v 12 (below_next v 11 (below_next v 10 (below_10 v s) t.slots) t.texts) t.reached)
+too_few_clean {v} s t few = (
+  below_next v 14 (below_next v 13 (below_next v 12 (below_next v 11 (below_next v 10 (below_10 s) t.slots) t.texts) t.reached)
       t.links) t.room,
   few,
 )
 
 -- ---- the log map of a content
-pub same_log : (c : Content) (k : CheckpointValue) (m : LogMap) → HoldsAt c k m → m ≡ log_in (view c k)
-same_log c k m st i = record { header = λ n. st.header n i; block = λ n j. st.block n j i; version = st.version i }
+pub same_log : {c : Content} {k : CheckpointValue} {m : LogMap} → HoldsAt c k m → m ≡ log_in (view c k)
+same_log st i = record { header = λ n. st.header n i; block = λ n j. st.block n j i; version = st.version i }
 
 -- ---- sums
 sum_upto_none : (f : ℕ → ℕ) → sum_upto f 0 ≡ 0
@@ -136,8 +132,8 @@ module _ (c : Content) (k : CheckpointValue) (m : LogMap) (sized : IsSized c) (s
       → sum_by (λ (e : ℕ × Node). f e.1) (tree_in m) ≡ sum_upto g 4095
   sum_of f g each = tree_sum m f g each (sum_upto g) (sum_upto_none g) (sum_upto_more g)
 
-  pub need_is : (blocks others : ℕ) → IsCounted m blocks others → need (tree_in m) ≡ blocks + 7 * others + 720
-  need_is blocks others counted =
+  pub need_is : {blocks others : ℕ} → IsCounted m blocks others → need (tree_in m) ≡ blocks + 7 * others + 720
+  need_is counted =
       let data_is : data_blocks (tree_in m) ≡ sum_upto (data_of_file m) 4095 =
       sum_of data_of (data_of_file m) (λ n. data_each n (m.header n) refl) in
       let meta : meta_blocks (tree_in m) ≡ sum_upto (meta_of_file m) 4095 =

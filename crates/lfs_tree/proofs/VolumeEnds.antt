@@ -28,7 +28,7 @@ refused_log old new fault.NoCheckpoint is = is
 refused_log old new (fault.Damaged code) is = λ keeps. (is keeps).1
 
 -- ---- the tree behind the log
-module _ (a b d : DeviceState) (one : Looks a b) (two : Looks b d) (found : FoundLog)
+module _ {a b d : DeviceState} (one : Looks a b) (two : Looks b d) {found : FoundLog}
     (holds : b.keeps_model → IsFound a.content found) where
   found_then : d.keeps_model → IsFound b.content found
   found_then keeps = subst (λ (x : Content). IsFound x found) (sym one.untouched.content) (holds (two.carries.kept_before keeps))
@@ -51,12 +51,12 @@ module _ (a b d : DeviceState) (one : Looks a b) (two : Looks b d) (found : Foun
     few_clean off keeps =
         let log = found_then keeps in
         let has = log.tables in
-        let whole = subst (IsTree has.checkpoint.segments) (same_log b.content has.checkpoint has.log has.holds) (tree keeps has).tree in
+        let whole = subst (IsTree has.checkpoint.segments) (same_log has.holds) (tree keeps has).tree in
         subst (λ (x : Content). IsDamagedIn x 15) one.untouched.content (record {
           checkpoint = has.checkpoint;
           newest = has.newest;
           size = has.holds.size;
-          damaged = too_few_clean (view b.content has.checkpoint) has.holds.stages whole
+          damaged = too_few_clean has.holds.stages whole
               (λ clean. let bad : false ≡ true = sym off ∙ log.clean.1 clean in absurd (cc));
         })
 
@@ -81,20 +81,21 @@ module _ (a b d : DeviceState) (one : Looks a b) (two : Looks b d) (found : Foun
 abbrev log_of : (c : Content) (s : State) (is : Stands c s) → StandsLog c is.log
 log_of c s is = record { checkpoint = is.checkpoint; newest = is.found; stands = is.stands }
 
-undamaged : (c : Content) (code : ℕ) → IsDamagedIn c code → (s : State) → Stands c s → ⊥
-undamaged c code damage s is =
+undamaged : {c : Content} (code : ℕ) → IsDamagedIn c code → (s : State) → Stands c s → ⊥
+undamaged {c} code damage s is =
     let both : Some damage.checkpoint ≡ Some is.checkpoint = sym damage.newest ∙ is.found in
     let same : damage.checkpoint ≡ is.checkpoint = cc in
     let here = subst (λ (k : CheckpointValue). IsDamaged (view c k) code) same damage.damaged in
     not_damaged (view c is.checkpoint) is.stands.holds.stages
-    (subst (IsTree is.checkpoint.segments) (same_log c is.checkpoint is.log is.stands.holds) is.tree.tree) is.stands.clean code here
+    (subst (IsTree is.checkpoint.segments) (same_log is.stands.holds) is.tree.tree) is.stands.clean code here
 
-pub fault_of_volume : (old new : DeviceState) → IsLawful old → (f : MountFault) → IsRefusedVolume old new f → (f ≡ fault.NoMemory → ⊥)
+pub fault_of_volume : {old : DeviceState} (new : DeviceState) → IsLawful old → (f : MountFault) → IsRefusedVolume old new f
+    → (f ≡ fault.NoMemory → ⊥)
     → IsTreeFault old new f
-fault_of_volume old new lawful fault.NoMemory is other = absurd (other refl)
-fault_of_volume old new lawful fault.Device is other = λ s keeps stands. is keeps
-fault_of_volume old new lawful fault.TooSmall is other = λ s keeps stands.
-    open_fault old new lawful fault.TooSmall is other stands.log keeps (log_of old.content s stands)
-fault_of_volume old new lawful fault.NoCheckpoint is other = λ s keeps stands.
-    open_fault old new lawful fault.NoCheckpoint is other stands.log keeps (log_of old.content s stands)
-fault_of_volume old new lawful (fault.Damaged code) is other = λ s keeps stands. undamaged old.content code (is keeps) s stands
+fault_of_volume new lawful fault.NoMemory is other = absurd (other refl)
+fault_of_volume new lawful fault.Device is other = λ s keeps stands. is keeps
+fault_of_volume {old} new lawful fault.TooSmall is other = λ s keeps stands.
+    open_fault new lawful fault.TooSmall is other stands.log keeps (log_of old.content s stands)
+fault_of_volume {old} new lawful fault.NoCheckpoint is other = λ s keeps stands.
+    open_fault new lawful fault.NoCheckpoint is other stands.log keeps (log_of old.content s stands)
+fault_of_volume {old} new lawful (fault.Damaged code) is other = λ s keeps stands. undamaged code (is keeps) s stands

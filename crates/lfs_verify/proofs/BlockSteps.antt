@@ -63,7 +63,7 @@ module _ (c : Content) (k : CheckpointValue) (n : ℕ) where
 
     -- blocks that aren't there are passed by
     pub pass_to : (m : List ℕ) → a ≤ b → Walked (view c k) m (536624 + 16624 * n + a) → Walked (view c k) m (536624 + 16624 * n + b)
-    pass_to m le w = skip_to (view c k) m (536624 + 16624 * n + a) (536624 + 16624 * n + b) w (omega arith) none_there
+    pass_to m le w = skip_to w (omega arith) none_there
 
   -- no leaf, no blocks behind it
   pub behind_none : (q : ℕ) → address c k (Leaf n q) ≡ 0 → (i : ℕ) → 112 + 128 * q ≤ i → i < 112 + 128 * (q + 1)
@@ -74,48 +74,48 @@ module _ (c : Content) (k : CheckpointValue) (n : ℕ) where
       ∙ word_none (i - (112 + 128 * q))
 
   -- what lies behind a leaf that isn't there is passed by
-  pub leaf_passed : n < 4096 → (q : ℕ) → q < 129 → address c k (Leaf n q) ≡ 0 → (m : List ℕ)
+  pub leaf_passed : n < 4096 → (q : ℕ) → q < 129 → address c k (Leaf n q) ≡ 0 → {m : List ℕ}
       → Walked (view c k) m (536624 + 16624 * n + (112 + 128 * q)) → Walked (view c k) m (536624 + 16624 * n + (112 + 128 * (q + 1)))
-  leaf_passed low q few none m w = pass_to low (112 + 128 * q) (112 + 128 * (q + 1)) (omega arith) (behind_none q none) m (omega arith) w
+  leaf_passed low q few none {m} w = pass_to low (112 + 128 * q) (112 + 128 * (q + 1)) (omega arith) (behind_none q none) m (omega arith) w
 
   -- a leaf that was reached is marked, and so has a sector
-  pub leaf_inside : n < 4096 → (q : ℕ) → q < 129 → (m : List ℕ) (r : ℕ) → 536624 ≤ r → (p : ℕ) → p ≡ address c k (Leaf n q) → (p ≡ 0 → ⊥)
+  pub leaf_inside : n < 4096 → (q : ℕ) → q < 129 → {m : List ℕ} (r : ℕ) → 536624 ≤ r → {p : ℕ} → p ≡ address c k (Leaf n q) → (p ≡ 0 → ⊥)
       → Walked (view c k) m r → p < length m
-  leaf_inside low q few m r past p is some w =
+  leaf_inside low q few {m} r past is some w =
       let reached : Reached (view c k) (Leaf n q) = omega arith in
       let before = leaf_before n q low few in
-      let x = inside_marks m (address c k (Leaf n q)) (step_of (Leaf n q))
+      let x = inside_marks m (address c k (Leaf n q))
       (w.marked (Leaf n q) (omega (arith, before, past)) (leaf_bounds n q low few) reached) in omega (arith, x, is)
 
-  pub leaf_readable : n < 4096 → (q : ℕ) → q < 129 → (m : List ℕ) (r : ℕ) → 536624 ≤ r → (p : ℕ) → p ≡ address c k (Leaf n q) → (p ≡ 0 → ⊥)
+  pub leaf_readable : n < 4096 → (q : ℕ) → q < 129 → {m : List ℕ} (r : ℕ) → 536624 ≤ r → {p : ℕ} → p ≡ address c k (Leaf n q) → (p ≡ 0 → ⊥)
       → Walked (view c k) m r → block c p ≡ [] → ⊥
-  leaf_readable low q few m r past p is some w none =
+  leaf_readable low q few r past is some w none =
       let reached : Reached (view c k) (Leaf n q) = omega arith in
       let before = leaf_before n q low few in
-      no_word (block c (address c k (Leaf n q))) (ap (block c) (sym is) ∙ none)
-      (w.good (Leaf n q) (omega (arith, before, past)) (leaf_bounds n q low few) reached)
+      no_word (ap (block c) (sym is) ∙ none) (w.good (Leaf n q) (omega (arith, before, past)) (leaf_bounds n q low few) reached)
 
   -- the addresses that stand in a leaf
-  pub leaf_words : (q p : ℕ) → p ≡ address c k (Leaf n q) → (words : List ℕ) → block c p ≡ words
+  pub leaf_words : (q : ℕ) {p : ℕ} → p ≡ address c k (Leaf n q) → (words : List ℕ) → block c p ≡ words
       → (j : ℕ) → j < 128 → word words (0 + j) ≡ address c k (Data n (112 + 128 * q + j))
-  leaf_words q p is words read j lt =
+  leaf_words q is words read j lt =
       let e : 0 + j ≡ j = omega arith in
       ap (word words) e ∙ ap (λ (b : List ℕ). word b j) (sym read ∙ ap (block c) is) ∙ sym (behind_at q j (112 + 128 * q + j) lt refl)
 
   -- ---- the blocks to which the inode leads by itself
-  pub direct_words : (inode : List ℕ) → block c (address c k (Inode n)) ≡ inode → (j : ℕ) → j < 112
+  pub direct_words : {inode : List ℕ} → block c (address c k (Inode n)) ≡ inode → (j : ℕ) → j < 112
       → word inode (8 + j) ≡ address c k (Data n (0 + j))
-  direct_words inode read j lt =
+  direct_words read j lt =
       let e : j ≡ 0 + j = omega arith in
       ap (λ (b : List ℕ). word b (8 + j)) (sym read) ∙ sym (direct_at j lt) ∙ ap (λ (x : ℕ). address c k (Data n x)) e
 
-  pub size_there : (inode : List ℕ) → block c (address c k (Inode n)) ≡ inode → (size : ℕ) → size ≡ (header inode).size
+  pub size_there : {inode : List ℕ} → block c (address c k (Inode n)) ≡ inode → {size : ℕ} → size ≡ (header inode).size
       → size ≡ (header (block c (address c k (Inode n)))).size
-  size_there inode read size is = is ∙ ap (λ (b : List ℕ). (header b).size) (sym read)
+  size_there read is = is ∙ ap (λ (b : List ℕ). (header b).size) (sym read)
 
   -- ---- the leaves under the double root
-  pub under_at : (root : List ℕ) → block c (address c k (Double n)) ≡ root → (q p : ℕ) → p ≡ word root q → p ≡ address c k (Leaf n (q + 1))
-  under_at root read q p is =
+  pub under_at : (root : List ℕ) → block c (address c k (Double n)) ≡ root → (q : ℕ) {p : ℕ} → p ≡ word root q
+      → p ≡ address c k (Leaf n (q + 1))
+  under_at root read q is =
       let e : suc q ≡ q + 1 = omega arith in
       is ∙ ap (λ (b : List ℕ). word b q) (sym read) ∙ sym (address_linked c k (Leaf n (suc q))) ∙ ap (λ (x : ℕ). address c k (Leaf n x)) e
 
@@ -124,36 +124,36 @@ module _ (c : Content) (k : CheckpointValue) (n : ℕ) where
   under_none none (suc q) some = address_linked c k (Leaf n (suc q)) ∙ ap (λ (x : ℕ). word (block c x) q) none ∙ word_none q
 
   -- what lies under a double root that isn't there is passed by
-  pub double_passed : n < 4096 → address c k (Double n) ≡ 0 → (m : List ℕ)
+  pub double_passed : n < 4096 → address c k (Double n) ≡ 0 → {m : List ℕ}
       → Walked (view c k) m (536624 + 16624 * n + 240) → Walked (view c k) m (536624 + 16624 * n + 16624)
-  double_passed low none m w =
+  double_passed low none {m} w =
       pass_to low 240 16624 (omega arith)
       (λ i le lt.
       behind_none ((i - 112) / 128) (under_none none ((i - 112) / 128) (omega (arith, le))) i (omega (arith, le)) (omega (arith, le)))
       m (omega arith) w
 
   -- a double root that was reached is marked, and so has a sector
-  pub root_inside : n < 4096 → (m : List ℕ) (r : ℕ) → 536624 ≤ r → (p : ℕ) → p ≡ address c k (Double n) → (p ≡ 0 → ⊥)
+  pub root_inside : n < 4096 → {m : List ℕ} (r : ℕ) → 536624 ≤ r → {p : ℕ} → p ≡ address c k (Double n) → (p ≡ 0 → ⊥)
       → Walked (view c k) m r → p < length m
-  root_inside low m r past p is some w =
+  root_inside low {m} r past is some w =
       let reached : Reached (view c k) (Double n) = omega arith in
-      let x = inside_marks m (address c k (Double n)) (4145 + 2 * n) (w.marked (Double n) (omega arith) low reached) in omega (arith, x, is)
+      let x = inside_marks m (address c k (Double n)) (w.marked (Double n) (omega arith) low reached) in omega (arith, x, is)
 
-  pub root_readable : n < 4096 → (m : List ℕ) (r : ℕ) → 536624 ≤ r → (p : ℕ) → p ≡ address c k (Double n) → (p ≡ 0 → ⊥)
+  pub root_readable : n < 4096 → {m : List ℕ} (r : ℕ) → 536624 ≤ r → {p : ℕ} → p ≡ address c k (Double n) → (p ≡ 0 → ⊥)
       → Walked (view c k) m r → block c p ≡ [] → ⊥
-  root_readable low m r past p is some w none =
+  root_readable low r past is some w none =
       let reached : Reached (view c k) (Double n) = omega arith in
-      no_word (block c (address c k (Double n))) (ap (block c) (sym is) ∙ none) (w.good (Double n) (omega arith) low reached)
+      no_word (ap (block c) (sym is) ∙ none) (w.good (Double n) (omega arith) low reached)
 
   -- ---- the whole file
-  pub inode_word : (at : ℕ) → at ≡ address c k (Inode n) → (inode : List ℕ) → block c at ≡ inode → block c (address c k (Inode n)) ≡ inode
-  inode_word at is inode read = ap (block c) (sym is) ∙ read
+  pub inode_word : {at : ℕ} → at ≡ address c k (Inode n) → {inode : List ℕ} → block c at ≡ inode → block c (address c k (Inode n)) ≡ inode
+  inode_word is read = ap (block c) (sym is) ∙ read
 
-  pub first_leaf_at : (inode : List ℕ) → block c (address c k (Inode n)) ≡ inode → (p : ℕ) → p ≡ word inode 120 → p ≡ address c k (Leaf n 0)
-  first_leaf_at inode read p is = is ∙ ap (λ (b : List ℕ). word b 120) (sym read) ∙ sym (address_linked c k (Leaf n 0))
+  pub first_leaf_at : {inode : List ℕ} → block c (address c k (Inode n)) ≡ inode → {p : ℕ} → p ≡ word inode 120 → p ≡ address c k (Leaf n 0)
+  first_leaf_at read is = is ∙ ap (λ (b : List ℕ). word b 120) (sym read) ∙ sym (address_linked c k (Leaf n 0))
 
-  pub root_at : (inode : List ℕ) → block c (address c k (Inode n)) ≡ inode → (p : ℕ) → p ≡ word inode 121 → p ≡ address c k (Double n)
-  root_at inode read p is = is ∙ ap (λ (b : List ℕ). word b 121) (sym read) ∙ sym (address_linked c k (Double n))
+  pub root_at : {inode : List ℕ} → block c (address c k (Inode n)) ≡ inode → {p : ℕ} → p ≡ word inode 121 → p ≡ address c k (Double n)
+  root_at read is = is ∙ ap (λ (b : List ℕ). word b 121) (sym read) ∙ sym (address_linked c k (Double n))
 
   any_none : address c k (Inode n) ≡ 0 → (q : ℕ) → address c k (Leaf n q) ≡ 0
   any_none none zero = address_linked c k (Leaf n 0) ∙ ap (λ (x : ℕ). word (block c x) 120) none ∙ word_none 120

@@ -34,9 +34,9 @@ clean_is v used table =
     ap (λ (n : ℕ). count_up (is_unused used) n) table.size
     ∙ count_up_same (is_unused used) (is_clean v) v.checkpoint.segments (λ s lt. ap (λ (x : ℕ). x == 0) (table.each s lt))
 
-pub enough_clean : (v : View) (used : List ℕ) (n : ℕ) → IsUsedTable v used → n ≡ clean_count used (length used)
+pub enough_clean : (v : View) {used : List ℕ} {n : ℕ} → IsUsedTable v used → n ≡ clean_count used (length used)
     → (length used ≤ 8 * n) ↔ EnoughClean v
-enough_clean v used n table is =
+enough_clean v {used} table is =
     let e = clean_is v used table in
     let s = table.size in
     (λ le. omega (arith, le, e, s, is), λ le. omega (arith, le, e, s, is))

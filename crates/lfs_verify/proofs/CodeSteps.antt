@@ -19,17 +19,17 @@ below_next v j below here k lt =
     ⊎_elim (λ (same : k ≡ j). subst (stage v) (sym same) here) (λ (other : k ≡ j → ⊥). below k (omega arith)) (cases_eq k j)
 
 -- the stages of the pointers
-pub stage_5 : (v : View) → Roots v → stage v 5
+pub stage_5 : {v : View} → Roots v → stage v 5
 unfolding stage
-stage_5 v here = here
+stage_5 here = here
 
 pub fails_5 : (v : View) → (Roots v → ⊥) → stage v 5 → ⊥
 unfolding stage
 fails_5 v fails here = fails here
 
-pub stage_6 : (v : View) → Leaves v → stage v 6
+pub stage_6 : {v : View} → Leaves v → stage v 6
 unfolding stage
-stage_6 v here = here
+stage_6 here = here
 
 pub fails_6 : (v : View) → (Leaves v → ⊥) → stage v 6 → ⊥
 unfolding stage
@@ -84,44 +84,44 @@ nine_stages v below = record {
 }
 
 -- a walk begins with no mark
-pub passed_none : (v : View) (marks : List ℕ) → IsBounded v → length marks ≡ 2 + 64 * v.checkpoint.segments
+pub passed_none : {v : View} (marks : List ℕ) → IsBounded v → length marks ≡ 2 + 64 * v.checkpoint.segments
     → ((a : ℕ) → get_or marks a 0 ≡ 0) → Passed v marks 0 1
-passed_none v marks bounded size empty = record { bounded = bounded; below = below_1 v; walked = walked_start v marks size empty }
+passed_none {v} marks bounded size empty = record { bounded = bounded; below = below_1 v; walked = walked_start v size empty }
 
 -- one stage more, which may have taken blocks
-pub pass : (v : View) (old new : List ℕ) (r s code : ℕ) → Passed v old r code → stage v code → Walked v new s → Passed v new s (suc code)
-pass v old new r s code passed here w = record { bounded = passed.bounded; below = below_next v code passed.below here; walked = w }
+pub pass : (v : View) {old new : List ℕ} {r s code : ℕ} → Passed v old r code → stage v code → Walked v new s → Passed v new s (suc code)
+pass v {code} passed here w = record { bounded = passed.bounded; below = below_next v code passed.below here; walked = w }
 
 -- a stage that fails is the first
-pub damage : (v : View) (marks : List ℕ) (r code n : ℕ) → Passed v marks r code → code ≡ n → (stage v code → ⊥) → IsDamaged v n
-damage v marks r code n passed is fails = subst (IsDamaged v) is (passed.below, fails)
+pub damage : (v : View) {marks : List ℕ} {r code n : ℕ} → Passed v marks r code → code ≡ n → (stage v code → ⊥) → IsDamaged v n
+damage v passed is fails = subst (IsDamaged v) is (passed.below, fails)
 
-module _ (v : View) (code : ℕ) (S : Type 0) (by : stage v code ↔ S) (old : List ℕ) (r : ℕ) (passed : Passed v old r code) where
+module _ {v : View} {code : ℕ} (S : Type 0) (by : stage v code ↔ S) {old : List ℕ} {r : ℕ} (passed : Passed v old r code) where
   -- the stage takes blocks
-  pub walk_pass : (new : List ℕ) (s : ℕ) (x : Bool) → x ≡ true → Advances v old new r s S x → (Walked v new s → IsBounded v → S)
+  pub walk_pass : (new : List ℕ) (s : ℕ) {x : Bool} → x ≡ true → Advances v old new r s S x → (Walked v new s → IsBounded v → S)
       → Passed v new s (suc code)
-  walk_pass new s x is goes here =
-      let w = goes_true v old new r s S x is goes passed.walked in
-      pass v old new r s code passed (by.1 (here w passed.bounded)) w
+  walk_pass new s {x} is goes here =
+      let w = goes_true new s S is goes passed.walked in
+      pass v passed (by.1 (here w passed.bounded)) w
 
-  pub walk_fails : (new : List ℕ) (s : ℕ) (x : Bool) → x ≡ false → Advances v old new r s S x → (n : ℕ) → code ≡ n → IsDamaged v n
-  walk_fails new s x is goes n number =
-      damage v old r code n passed number (λ here. goes_false v old new r s S x is goes passed.walked (by.0 here))
+  pub walk_fails : (new : List ℕ) (s : ℕ) {x : Bool} → x ≡ false → Advances v old new r s S x → {n : ℕ} → code ≡ n → IsDamaged v n
+  walk_fails new s {x} is goes {n} number =
+      damage v passed number (λ here. goes_false new s S is goes passed.walked (by.0 here))
 
   -- the stage looks at what was taken
-  pub look_pass : (x : Bool) → x ≡ true → (x ≡ true) ↔ S → Passed v old r (suc code)
-  look_pass x is tells = pass v old old r r code passed (by.1 (tells.0 is)) passed.walked
+  pub look_pass : {x : Bool} → x ≡ true → (x ≡ true) ↔ S → Passed v old r (suc code)
+  look_pass is tells = pass v passed (by.1 (tells.0 is)) passed.walked
 
-  pub look_fails : (x : Bool) → x ≡ false → (x ≡ true) ↔ S → (n : ℕ) → code ≡ n → IsDamaged v n
-  look_fails x is tells n number =
-      damage v old r code n passed number (λ here. let e : true ≡ false = sym (tells.1 (by.0 here)) ∙ is in absurd (cc))
+  pub look_fails : {x : Bool} → x ≡ false → (x ≡ true) ↔ S → {n : ℕ} → code ≡ n → IsDamaged v n
+  look_fails is tells {n} number =
+      damage v passed number (λ here. let e : true ≡ false = sym (tells.1 (by.0 here)) ∙ is in absurd (cc))
 
 -- the tables that stage 1 copied
-pub used_says : (v : View) (used live : List ℕ) → Usages v → length used ≡ v.checkpoint.segments → SaysAll v used live → IsUsedTable v used
-used_says v used live usages size says = used_table v used usages size (λ s lt. (says s lt).0)
+pub used_says : {v : View} (used live : List ℕ) → Usages v → length used ≡ v.checkpoint.segments → SaysAll v used live → IsUsedTable v used
+used_says {v} used live usages size says = used_table v usages size (λ s lt. (says s lt).0)
 
 pub live_says : (v : View) (used live : List ℕ) → length live ≡ v.checkpoint.segments → SaysAll v used live → IsLiveTable v live
 live_says v used live size says = record { size = size; each = λ s lt. (says s lt).1 }
 
-pub passed_pointers : (v : View) (marks : List ℕ) → IsBounded v → HoldsBelow v 7 × Walked v marks 536624 → Passed v marks 536624 7
-passed_pointers v marks bounded both = record { bounded = bounded; below = both.0; walked = both.1 }
+pub passed_pointers : {v : View} {marks : List ℕ} → IsBounded v → HoldsBelow v 7 × Walked v marks 536624 → Passed v marks 536624 7
+passed_pointers bounded both = record { bounded = bounded; below = both.0; walked = both.1 }

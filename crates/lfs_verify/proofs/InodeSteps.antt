@@ -17,14 +17,13 @@ module _ (c : Content) (k : CheckpointValue) (n : ℕ) (low : n < 4096) (m m1 : 
 
   pub inode_refused : x ≡ false → Inodes (view c k) → ⊥
   inode_refused fails inodes =
-      refused (view c k) m m1 (48 + n) w (Inode n) refl low p at c (IsInode (layout_version k) n)
+      refused m1 w (Inode n) refl low at c (IsInode (layout_version k) n)
       (subst (IsInode (layout_version k) n) (ap (block c) at), subst (IsInode (layout_version k) n) (sym (ap (block c) at))) x fails t
       inodes.fresh (inodes.formed n)
 
   pub inode_took : x ≡ true → Walked (view c k) m1 (48 + (n + 1))
   inode_took holds =
-      subst (Walked (view c k) m1) (omega arith)
-      (took (view c k) m m1 (48 + n) w (Inode n) refl low p at c (IsInode (layout_version k) n)
+      subst (Walked (view c k) m1) (omega arith) (took m1 w (Inode n) refl low at c (IsInode (layout_version k) n)
       (subst (IsInode (layout_version k) n) (ap (block c) at), subst (IsInode (layout_version k) n) (sym (ap (block c) at))) x holds t)
 
 pub in_marks : (at : ℕ) (old new : List ℕ) → length new ≡ length old → (at ≡ 0) ⊎ (at < length new) → (at ≡ 0) ⊎ (at < length old)

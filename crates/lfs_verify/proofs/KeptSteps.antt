@@ -79,6 +79,6 @@ module _ (map : List ℕ) (n : ℕ) (xs ys : List (List ℕ)) (count : length xs
         (cases_eq i n)
 
 -- the inode of a file, where so many come before it
-pub keeps_here : (c : Content) (map : List ℕ) (inodes : List (List ℕ)) → KeepsInodes c map inodes → (n : ℕ) → n < 4096 → (p : ℕ)
+pub keeps_here : (c : Content) (map : List ℕ) (inodes : List (List ℕ)) → KeepsInodes c map inodes → (n : ℕ) → n < 4096 → {p : ℕ}
     → p ≡ there_below map n → KeepsAt c (get_or map n 0) inodes p
-keeps_here c map inodes keeps n lt p is = subst (KeepsAt c (get_or map n 0) inodes) (sym is) (keeps n lt)
+keeps_here c map inodes keeps n lt is = subst (KeepsAt c (get_or map n 0) inodes) (sym is) (keeps n lt)

@@ -41,8 +41,8 @@ pub record NamedTo (c : Content) (used segment : ℕ) (marks : List ℕ) (at : �
 abbrev pub AllNamed : Content → ℕ → ℕ → List ℕ → Type 0
 AllNamed c used segment marks = (o : ℕ) → o < 64 → IsNamedIn (row_by c used segment) marks segment o
 
-pub named_start : (c : Content) (used segment : ℕ) (marks : List ℕ) → HasRow (row_by c used segment) → NamedTo c used segment marks 0
-named_start c used segment marks h =
+pub named_start : (c : Content) (used : ℕ) {segment : ℕ} {marks : List ℕ} → HasRow (row_by c used segment) → NamedTo c used segment marks 0
+named_start c used {segment} h =
     record {
       whole = rows.row_start (row_by c used segment) (from c used segment) (from_start c used segment) h;
       named = λ o lt. absurd (omega arith);
@@ -57,17 +57,17 @@ unlabelled row marks s o (suc p) is none named = let h = named p is in let z = s
 unmarked_named : (row : Option Row) (marks : List ℕ) (s o : ℕ) → get_or marks (2 + 64 * s + o) 0 ≡ 0 → IsNamedIn row marks s o
 unmarked_named row marks s o none p is = absurd (omega arith)
 
-module _ (c : Content) (used segment at : ℕ) (marks : List ℕ) (long : 2 + 64 * segment + used ≤ length c) (few : used ≤ 64) (lt : at < used)
+module _ (c : Content) {used segment at : ℕ} {marks : List ℕ} (long : 2 + 64 * segment + used ≤ length c) (few : used ≤ 64) (lt : at < used)
     (to : NamedTo c used segment marks at) where
   summary_place : place_in (row_by c used segment) at ≡ None
   summary_place =
       rows.summary_place (row_by c used segment) (from c used segment) at to.whole (entries_in (bytes_of (here c used segment at long lt)))
       (λ es. chunks es (behind c used segment at long lt)) (opens c used segment at long lt)
 
-  module _ (bytes : List ℕ) (there : block c (2 + 64 * segment + at) ≡ bytes) (bs : List BlockNameValue) (is : Some bs ≡ summary_in bytes)
+  module _ {bytes : List ℕ} (there : block c (2 + 64 * segment + at) ≡ bytes) (bs : List BlockNameValue) (is : Some bs ≡ summary_in bytes)
       (room : at + length bs < used) where
     abbrev known : IsSummaryOf (block c (2 + 64 * segment + at)) (length bs)
-    known = (map entry_of bs, ap entries_in there ∙ entries_some bytes bs is, length-map bs entry_of)
+    known = (map entry_of bs, ap entries_in there ∙ entries_some bytes is, length-map bs entry_of)
 
     opened_row : from c used segment at ≡ after None (chunks (map entry_of bs) (behind c used segment at long lt))
     opened_row = opens_names c used segment at long lt (length bs) known
@@ -128,7 +128,7 @@ module _ (c : Content) (used segment at : ℕ) (marks : List ℕ) (long : 2 + 64
     }
 
 -- ---- the end of a row
-module _ (c : Content) (used segment : ℕ) (marks : List ℕ) (long : 2 + 64 * segment + used ≤ length c) (few : used ≤ 64)
+module _ (c : Content) {used segment : ℕ} {marks : List ℕ} (long : 2 + 64 * segment + used ≤ length c) (few : used ≤ 64)
     (to : NamedTo c used segment marks used) where
   abbrev AreClear : ℕ → ℕ → Type 0
   AreClear a b = (i : ℕ) → a ≤ i → i < b → get_or marks i 0 ≡ 0
@@ -150,12 +150,12 @@ module _ (c : Content) (used segment : ℕ) (marks : List ℕ) (long : 2 + 64 * 
       (ap (λ (x : ℕ). get_or marks x 0) (sym e)) none (all (i - (2 + 64 * segment)) (omega arith))
 
 -- ---- the rows of all segments
-module _ (c : Content) (k : CheckpointValue) (used : List ℕ) (table : IsUsedTable (view c k) used) (s : ℕ) (lt : s < length used) where
+module _ (c : Content) (k : CheckpointValue) {used : List ℕ} (table : IsUsedTable (view c k) used) (s : ℕ) (lt : s < length used) where
   same_row : row_by c (get_or used s 0) s ≡ (view c k).row s
   same_row = ap (λ (u : ℕ). row_by c u s) (table.each s (let n = table.size in omega arith)) ∙ sym (row_is c k s)
 
-  pub labels_there : (labels : List ℕ) → HasLabels (row_by c (get_or used s 0) s) labels s → HasLabels ((view c k).row s) labels s
-  labels_there labels = subst (λ (r : Option Row). HasLabels r labels s) same_row
+  pub labels_there : {labels : List ℕ} → HasLabels (row_by c (get_or used s 0) s) labels s → HasLabels ((view c k).row s) labels s
+  labels_there {labels} = subst (λ (r : Option Row). HasLabels r labels s) same_row
 
 -- ---- the marks that labels give
 -- Up to a place of a row that begins a chunk.
@@ -166,17 +166,17 @@ pub record LabelledTo (c : Content) (used segment : ℕ) (labels : List ℕ) (at
 pub labelled_start : (c : Content) (used segment : ℕ) (labels : List ℕ) → HasRow (row_by c used segment)
     → LabelledTo c used segment labels 0
 labelled_start c used segment labels h =
-    record { named = named_start c used segment labels h; agree = λ marks all o lt. absurd (omega (arith, lt)) }
+    record { named = named_start c used h; agree = λ marks all o lt. absurd (omega (arith, lt)) }
 
 -- a place of a row is one of any marks
-named_as : (c : Content) (used segment : ℕ) (old new : List ℕ) (at : ℕ) → NamedTo c used segment old at
+named_as : {c : Content} {used segment : ℕ} {old : List ℕ} (new : List ℕ) {at : ℕ} → NamedTo c used segment old at
     → ((o : ℕ) → o < at → IsNamedIn (row_by c used segment) new segment o) → NamedTo c used segment new at
-named_as c used segment old new at to named = record { whole = to.whole; named = named }
+named_as new to named = record { whole = to.whole; named = named }
 
 -- a mark that has the step of a label is the one that the label gives
-step_label : (mark label step : ℕ) → label ≡ suc step → ((p : ℕ) → mark ≡ suc p → step ≡ p) → (mark ≡ 0) ⊎ (mark ≡ label)
-step_label zero label step is has = inl refl
-step_label (suc p) label step is has = inr (ap suc (sym (has p refl)) ∙ sym is)
+step_label : (mark : ℕ) {label step : ℕ} → label ≡ suc step → ((p : ℕ) → mark ≡ suc p → step ≡ p) → (mark ≡ 0) ⊎ (mark ≡ label)
+step_label zero is has = inl refl
+step_label (suc p) is has = inr (ap suc (sym (has p refl)) ∙ sym is)
 
 module _ (c : Content) (used segment at : ℕ) (old new : List ℕ) (long : 2 + 64 * segment + used ≤ length c) (few : used ≤ 64)
     (lt : at < used) (to : LabelledTo c used segment old at)
@@ -189,7 +189,7 @@ module _ (c : Content) (used segment at : ℕ) (old new : List ℕ) (long : 2 + 
   same o small = before (2 + 64 * segment + o) (omega (arith, small, is_first))
 
   so_far : NamedTo c used segment new at
-  so_far = named_as c used segment old new at to.named (λ o small p marked. to.named.named o small p (sym (same o small) ∙ marked))
+  so_far = named_as new to.named (λ o small p marked. to.named.named o small p (sym (same o small) ∙ marked))
 
   steps : (i : ℕ) → i < length bs → HasStep (get_or new (first + i) 0) (entry_of (get_or bs i no_block))
   steps i small p marked = ap pred (sym (labelled i small) ∙ marked)
@@ -203,47 +203,44 @@ module _ (c : Content) (used segment at : ℕ) (old new : List ℕ) (long : 2 + 
       (λ (later : at ≤ o). ⊎_elim
       (λ (here : o ≡ at).
       inl (unlabelled (row_by c used segment) marks segment o (get_or marks (2 + 64 * segment + o) 0) refl
-      (ap (place_in (row_by c used segment)) here ∙ summary_place c used segment at new long few lt so_far)
-      (all o (omega (arith, small, is_next, room, few)))))
+      (ap (place_in (row_by c used segment)) here ∙ summary_place c long few lt so_far) (all o (omega (arith, small, is_next, room, few)))))
       (λ (other : o ≡ at → ⊥).
       let i = o - (at + 1) in
       let e : first + (o - (at + 1)) ≡ 2 + 64 * segment + o = omega (arith, is_first, later, other) in
       let low : o - (at + 1) < length bs = omega (arith, small, is_next, later, other) in
-      let own = named_as c used segment old marks at to.named (λ x lower. all x (omega (arith, lower, lt, few))) in
-      let has = steps_of c used segment at marks long few lt own bytes there bs is room first is_first all (o - (at + 1)) low in
-      subst (Agrees marks new) e (step_label (get_or marks (first + (o - (at + 1))) 0) (get_or new (first + (o - (at + 1))) 0)
-      (step_of (entry_of (get_or bs (o - (at + 1)) no_block))) (labelled (o - (at + 1)) low) has))
-      (cases_eq o at))
+      let own = named_as marks to.named (λ x lower. all x (omega (arith, lower, lt, few))) in
+      let has = steps_of c long few lt own there bs is room first is_first all (o - (at + 1)) low in
+      subst (Agrees marks new) e (step_label (get_or marks (first + (o - (at + 1))) 0) (labelled (o - (at + 1)) low) has)) (cases_eq o at))
       (cases_lt o at)
 
   pub chunk_labelled : FitsSummary bs → LabelledTo c used segment new next
   chunk_labelled fits = record {
     named =
-        chunk_taken c used segment at new long few lt so_far bytes there bs is room fits
+        chunk_taken c long few lt so_far there bs is room fits
         (before (2 + 64 * segment + at) (omega (arith, is_first)) ∙ empty) first next is_first is_next steps;
     agree = agree_next;
   }
 
 -- at the end
-pub row_labelled : (c : Content) (used segment : ℕ) (labels : List ℕ) → 2 + 64 * segment + used ≤ length c → used ≤ 64
+pub row_labelled : (c : Content) {used segment : ℕ} {labels : List ℕ} → 2 + 64 * segment + used ≤ length c → used ≤ 64
     → LabelledTo c used segment labels used → ((i : ℕ) → 2 + 64 * segment + used ≤ i → get_or labels i 0 ≡ 0)
     → HasLabels (row_by c used segment) labels segment
-row_labelled c used segment labels long few to empty = record {
-  named = all_named c used segment labels long few to.named (2 + 64 * segment + used) (2 + 64 * segment + 64) refl refl
+row_labelled c {used} {segment} {labels} long few to empty = record {
+  named = all_named c long few to.named (2 + 64 * segment + used) (2 + 64 * segment + 64) refl refl
       (λ i le lt. empty i le);
   all = λ marks all o small. ⊎_elim
       (λ (before : o < used). to.agree marks all o before)
       (λ (later : used ≤ o).
-      let own = named_as c used segment labels marks used to.named (λ x lower. all x (omega (arith, lower, few))) in
-      inl (all_clear c used segment marks long few own (2 + 64 * segment + used) (2 + 64 * segment + 64) refl refl all
+      let own = named_as marks to.named (λ x lower. all x (omega (arith, lower, few))) in
+      inl (all_clear c long few own (2 + 64 * segment + used) (2 + 64 * segment + 64) refl refl all
       (2 + 64 * segment + o) (omega (arith, later)) (omega (arith, small))))
       (cases_lt o used);
 }
 
 -- labels of a segment stay where those of others are put in
-pub labels_stay : (row : Option Row) (old new : List ℕ) (s : ℕ)
+pub labels_stay : {row : Option Row} {old : List ℕ} (new : List ℕ) (s : ℕ)
     → ((o : ℕ) → o < 64 → get_or new (2 + 64 * s + o) 0 ≡ get_or old (2 + 64 * s + o) 0) → HasLabels row old s → HasLabels row new s
-labels_stay row old new s same has = record {
+labels_stay {old} new s same has = record {
   named = λ o small p is. has.named o small p (sym (same o small) ∙ is);
   all = λ marks each o small. ⊎_elim
       (λ (none : get_or marks (2 + 64 * s + o) 0 ≡ 0). inl none)
@@ -252,7 +249,7 @@ labels_stay row old new s same has = record {
 }
 
 -- ---- the labels of all segments against the marks of the walk
-module _ (v : View) (labels marks : List ℕ) (has : HasAllLabels v labels) (w : Walked v marks 68628528) (bounded : IsBounded v) where
+module _ (v : View) {labels marks : List ℕ} (has : HasAllLabels v labels) (w : Walked v marks 68628528) (bounded : IsBounded v) where
   pub all_agree : ((i : ℕ) → i < length marks → Agrees marks labels i) → AreNamed v
   all_agree agree = (named_by_marks v marks w bounded).1 (λ s o lt small p is. ⊎_elim
       (λ (none : get_or marks (2 + 64 * s + o) 0 ≡ 0). absurd (omega (arith, none, is)))
@@ -281,12 +278,12 @@ module _ (v : View) (labels marks : List ℕ) (has : HasAllLabels v labels) (w :
       (cases_lt i 2)
 
 -- ---- the labels of a chunk put into a table
-pub puts_none : (names : List BlockNameValue) (labels : List ℕ) (at : ℕ) → PutsLabels names labels labels at 0
-puts_none names labels at = record { own = λ i lt. absurd (omega (arith, lt)); before = λ j lt. refl; after = λ j le. refl; size = refl }
+pub puts_none : {names : List BlockNameValue} {labels : List ℕ} {at : ℕ} → PutsLabels names labels labels at 0
+puts_none = record { own = λ i lt. absurd (omega (arith, lt)); before = λ j lt. refl; after = λ j le. refl; size = refl }
 
-pub puts_more : (names : List BlockNameValue) (old mid : List ℕ) (at n x : ℕ) → at + n < length mid → x ≡ suc
+pub puts_more : {names : List BlockNameValue} {old mid : List ℕ} {at n x : ℕ} → at + n < length mid → x ≡ suc
     (step_of (entry_of (get_or names n no_block))) → PutsLabels names old mid at n → PutsLabels names old (set mid (at + n) x) at (n + 1)
-puts_more names old mid at n x inside is was = record {
+puts_more {names} {mid} {at} {n} {x} inside is was = record {
   own = λ i lt. ⊎_elim
       (λ (here : i ≡ n). ap (λ (a : ℕ). get_or (set mid (at + n) x) (at + a) 0) here ∙ get_or-set_same mid (at + n) x 0 inside ∙ is
       ∙ ap (λ (a : ℕ). suc (step_of (entry_of (get_or names a no_block)))) (sym here))

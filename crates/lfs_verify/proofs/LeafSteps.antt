@@ -32,28 +32,28 @@ module _ (c : Content) (k : CheckpointValue) (n : ℕ) (low : n < 4096) where
   none_there none (Data m i) b le lt reached = absurd (omega arith)
 
   -- no double root, no leaves
-  pub no_leaves : (m : List ℕ) → address c k (Double n) ≡ 0 → Walked (view c k) m (12336 + 128 * n)
+  pub no_leaves : {m : List ℕ} → address c k (Double n) ≡ 0 → Walked (view c k) m (12336 + 128 * n)
       → Walked (view c k) m (12336 + 128 * (n + 1))
-  no_leaves m none w = skip_to (view c k) m (12336 + 128 * n) (12336 + 128 * (n + 1)) w (omega arith) (none_there none)
+  no_leaves {m} none w = skip_to w (omega arith) (none_there none)
 
-  module _ (at : ℕ) (out : List ℕ) (is : at ≡ address c k (Inode n)) (read : block c at ≡ out) (p : ℕ) (val : p ≡ word out 121) where
+  module _ (at : ℕ) {out : List ℕ} (is : at ≡ address c k (Inode n)) (read : block c at ≡ out) {p : ℕ} (val : p ≡ word out 121) where
     pub double_is : p ≡ address c k (Double n)
     double_is = val ∙ ap (λ (b : List ℕ). word b 121) (sym read) ∙ ap (λ (x : ℕ). word (block c x) 121) is
         ∙ sym (address_linked c k (Double n))
 
   -- a double root that was reached is marked, and so has a sector
-  pub double_inside : (m : List ℕ) (p : ℕ) → p ≡ address c k (Double n) → 0 < p → Walked (view c k) m (12336 + 128 * n) → p < length m
-  double_inside m p is some w =
+  pub double_inside : {m : List ℕ} (p : ℕ) → p ≡ address c k (Double n) → 0 < p → Walked (view c k) m (12336 + 128 * n) → p < length m
+  double_inside {m} p is some w =
       let reached : Reached (view c k) (Double n) = omega arith in
-      let x = inside_marks m (address c k (Double n)) _ (w.marked (Double n) (omega arith) low reached) in omega arith
+      let x = inside_marks m (address c k (Double n)) (w.marked (Double n) (omega arith) low reached) in omega arith
 
-  pub double_readable : (m : List ℕ) (p : ℕ) → p ≡ address c k (Double n) → 0 < p → Walked (view c k) m (12336 + 128 * n) → block c p ≡ []
+  pub double_readable : {m : List ℕ} (p : ℕ) → p ≡ address c k (Double n) → 0 < p → Walked (view c k) m (12336 + 128 * n) → block c p ≡ []
       → ⊥
-  double_readable m p is some w none =
+  double_readable p is some w none =
       let reached : Reached (view c k) (Double n) = omega arith in
-      no_word (block c (address c k (Double n))) (ap (block c) (sym is) ∙ none) (w.good (Double n) (omega arith) low reached)
+      no_word (ap (block c) (sym is) ∙ none) (w.good (Double n) (omega arith) low reached)
 
-  module _ (out : List ℕ) (read : block c (address c k (Double n)) ≡ out) (q : ℕ) (few : q < 128) (m m1 : List ℕ) (p : ℕ)
+  module _ {out : List ℕ} (read : block c (address c k (Double n)) ≡ out) (q : ℕ) (few : q < 128) (m m1 : List ℕ) (p : ℕ)
       (val : p ≡ word out q) (x : Bool)
       (t : TakesAddress SomeWord c m m1 p (12336 + 128 * n + q) x) (w : Walked (view c k) m (12336 + 128 * n + q)) where
     leaf_at : p ≡ address c k (Leaf n (suc q))
@@ -61,11 +61,10 @@ module _ (c : Content) (k : CheckpointValue) (n : ℕ) (low : n < 4096) where
 
     pub leaf_refused : x ≡ false → Leaves (view c k) → ⊥
     leaf_refused fails leaves =
-        refused (view c k) m m1 (12336 + 128 * n + q) w (Leaf n (suc q)) refl (low, few) p leaf_at c SomeWord
+        refused m1 w (Leaf n (suc q)) refl (low, few) leaf_at c SomeWord
         (subst SomeWord (ap (block c) leaf_at), subst SomeWord (sym (ap (block c) leaf_at))) x fails t leaves.fresh (leaves.nonempty n q)
 
     pub leaf_took : x ≡ true → Walked (view c k) m1 (12336 + 128 * n + (q + 1))
     leaf_took holds =
-        subst (Walked (view c k) m1) (omega arith)
-        (took (view c k) m m1 (12336 + 128 * n + q) w (Leaf n (suc q)) refl (low, few) p leaf_at c SomeWord
+        subst (Walked (view c k) m1) (omega arith) (took m1 w (Leaf n (suc q)) refl (low, few) leaf_at c SomeWord
         (subst SomeWord (ap (block c) leaf_at), subst SomeWord (sym (ap (block c) leaf_at))) x holds t)

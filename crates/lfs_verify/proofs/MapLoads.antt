@@ -22,9 +22,9 @@ pub says_no_map : (c : Content) (k : CheckpointValue) (map : MapValue) → SaysM
 says_no_map c k map = record { addresses = λ i l lt low. absurd (omega (arith, lt)); blocks = λ i lt. absurd (omega (arith, lt)) }
 
 -- a block that isn't stored
-module _ (j : ℕ) (map : MapValue) (is : IsMapUpTo j map) where
-  pub says_skipped : (c : Content) (k : CheckpointValue) → get_or k.map j 0 ≡ 0 → SaysMap c k j map → SaysMap c k (j + 1) map
-  says_skipped c k none says = record {
+module _ {j : ℕ} {map : MapValue} (is : IsMapUpTo j map) where
+  pub says_skipped : {c : Content} {k : CheckpointValue} → get_or k.map j 0 ≡ 0 → SaysMap c k j map → SaysMap c k (j + 1) map
+  says_skipped {c} {k} none says = record {
     addresses = λ i l lt low. ⊎_elim
         (λ (here : i ≡ j). is.past (128 * i + l) (omega (arith, here))
         ∙ sym (ap (λ (a : ℕ). word (block c a) l) (ap (λ (x : ℕ). get_or k.map x 0) here ∙ none) ∙ word_nil l))
@@ -37,7 +37,8 @@ module _ (j : ℕ) (map : MapValue) (is : IsMapUpTo j map) where
   }
 
 -- one that is
-module _ (j at : ℕ) (map mid new : MapValue) (addresses : List ℕ) (is : IsMapUpTo j map) (loaded : IsLoaded map mid j addresses)
+module _ {j at : ℕ} {map mid : MapValue} (new : MapValue) {addresses : List ℕ} (is : IsMapUpTo j map)
+    (loaded : IsLoaded map mid j addresses)
     (set : IsSet (block_in mid) (block_in new) j at)
     (same : new.addresses ≡ mid.addresses) (kept : new.hidden ≡ mid.hidden) where
   address_same : (n : ℕ) → address_in new n ≡ address_in mid n
@@ -53,10 +54,10 @@ module _ (j at : ℕ) (map mid new : MapValue) (addresses : List ℕ) (is : IsMa
     past = λ n le. address_same n ∙ loaded.past n (omega (arith, le)) ∙ is.past n (omega (arith, le));
   }
 
-  pub says_map_more : (c : Content) (k : CheckpointValue) (bytes : List ℕ) → block c at ≡ bytes → get_or k.map j 0 ≡ at
+  pub says_map_more : {c : Content} {k : CheckpointValue} (bytes : List ℕ) → block c at ≡ bytes → get_or k.map j 0 ≡ at
       → FitsPointers addresses → bytes ≡ pointer_sector addresses
       → SaysMap c k j map → SaysMap c k (j + 1) new
-  says_map_more c k bytes there points fits spelt says = record {
+  says_map_more {c} {k} bytes there points fits spelt says = record {
     addresses = λ i l lt low. ⊎_elim
         (λ (here : i ≡ j).
         subst (λ (x : ℕ). address_in new (128 * x + l) ≡ word (map_block c k x) l) (sym here)
@@ -72,7 +73,7 @@ module _ (j at : ℕ) (map mid new : MapValue) (addresses : List ℕ) (is : IsMa
   }
 
 -- ---- where the content holds a log map, its inode map can be read
-module _ (c : Content) (k : CheckpointValue) (m : LogMap) (st : HoldsAt c k m) (j : ℕ) (some : 0 < get_or k.map j 0) where
+module _ {c : Content} (k : CheckpointValue) (m : LogMap) (st : HoldsAt c k m) (j : ℕ) (some : 0 < get_or k.map j 0) where
   pub map_range : (2 ≤ get_or k.map j 0) × (get_or k.map j 0 < 2 + 64 * k.segments)
   unfolding address
   map_range = let f = st.stages.maps.fresh (Map j) refl some in (f.0, f.1)
@@ -81,16 +82,16 @@ module _ (c : Content) (k : CheckpointValue) (m : LogMap) (st : HoldsAt c k m) (
   unfolding address
   map_long all = long c k m (are_sized c all) st (Map j) some
 
-pub map_fault : (d d' : DeviceState) (k : CheckpointValue) (j at : ℕ) → AllByRecursion IsSector d.content → get_or k.map j 0 ≡ at
+pub map_fault : (d d' : DeviceState) (k : CheckpointValue) (j : ℕ) {at : ℕ} → AllByRecursion IsSector d.content → get_or k.map j 0 ≡ at
     → (at ≡ 0 → ⊥) → LacksBlock d d' k.segments at → LacksTables d d' k
-map_fault d d' k j at all points some lacks m keeps st =
+map_fault d d' k j all points some lacks m keeps st =
     let stored : 0 < get_or k.map j 0 = omega (arith, points, some) in
-    let range = map_range d.content k m st j stored in
+    let range = map_range k m st j stored in
     lacks keeps (subst (λ (a : ℕ). 2 ≤ a) points range.0) (subst (λ (a : ℕ). a < 2 + 64 * k.segments) points range.1)
-    (subst (λ (a : ℕ). length (block d.content a) ≡ 512) points (map_long d.content k m st j stored all))
+    (subst (λ (a : ℕ). length (block d.content a) ≡ 512) points (map_long k m st j stored all))
 
-pub says_map_then : (a b : DeviceState) (k : CheckpointValue) (j l : ℕ) (t u : MapValue) → Looks a b → SaysMap a.content k j t
+pub says_map_then : {a b : DeviceState} {k : CheckpointValue} {j l : ℕ} {t u : MapValue} → Looks a b → SaysMap a.content k j t
     → (SaysMap b.content k j t → SaysMap b.content k l u) → SaysMap a.content k l u
-says_map_then a b k j l t u looks says more =
+says_map_then {k} {j} {l} {t} {u} looks says more =
     subst (λ (x : Content). SaysMap x k l u) looks.untouched.content
     (more (subst (λ (x : Content). SaysMap x k j t) (sym looks.untouched.content) says))

@@ -16,12 +16,12 @@ use Rattle.lfs_verify.proofs.Steps.{skip}
 use Rattle.lfs_verify.proofs.Takes.{took, refused, no_word}
 use Rattle.lfs_verify.proofs.Words.{word_none}
 
-pub copies_none : (bytes old : List ℕ) (at : ℕ) → Copies bytes old old at 0
-copies_none bytes old at = record { own = λ i lt. absurd (omega (arith, lt)); before = λ j lt. refl; after = λ j le. refl; size = refl }
+pub copies_none : {bytes old : List ℕ} {at : ℕ} → Copies bytes old old at 0
+copies_none = record { own = λ i lt. absurd (omega (arith, lt)); before = λ j lt. refl; after = λ j le. refl; size = refl }
 
-pub copies_more : (bytes old mid : List ℕ) (at n x : ℕ) → at + n < length mid → x ≡ word bytes n → Copies bytes old mid at n
+pub copies_more : {bytes old mid : List ℕ} {at n x : ℕ} → at + n < length mid → x ≡ word bytes n → Copies bytes old mid at n
     → Copies bytes old (set mid (at + n) x) at (n + 1)
-copies_more bytes old mid at n x inside is was = record {
+copies_more {bytes} {mid} {at} {n} {x} inside is was = record {
   own = λ i lt. ⊎_elim
       (λ (here : i ≡ n). ap (λ (a : ℕ). get_or (set mid (at + n) x) (at + a) 0) here ∙ get_or-set_same mid (at + n) x 0 inside ∙ is
       ∙ ap (word bytes) (sym here))
@@ -40,7 +40,7 @@ entry_at c k j i lt =
     let b : (128 * j + i) % 128 ≡ i = omega arith in
     address_linked c k (Inode (128 * j + i)) ∙ ap₂ (λ (x y : ℕ). word (block c (address c k (Map x))) y) a b
 
-module _ (c : Content) (k : CheckpointValue) (j : ℕ) (low : j < 32) (p : ℕ) (val : p ≡ get_or k.map j 0) where
+module _ (c : Content) (k : CheckpointValue) (j : ℕ) (low : j < 32) {p : ℕ} (val : p ≡ get_or k.map j 0) where
   map_at : p ≡ address c k (Map j)
   map_at = val ∙ sym (address_linked c k (Map j))
 
@@ -57,16 +57,16 @@ module _ (c : Content) (k : CheckpointValue) (j : ℕ) (low : j < 32) (p : ℕ) 
       (own (n - 128 * j) few ∙ ap (λ (a : ℕ). word (block c a) (n - 128 * j)) map_at ∙ sym (entry_at c k j (n - 128 * j) few)))
       (cases_lt n (128 * j))
 
-  pub map_passed : p ≡ 0 → (m : List ℕ) → Walked (view c k) m (16 + j) → Walked (view c k) m (16 + (j + 1))
-  map_passed none m w = subst (Walked (view c k) m) (omega arith) (skip (view c k) m (16 + j) w (Map j) refl low (sym map_at ∙ none))
+  pub map_passed : p ≡ 0 → {m : List ℕ} → Walked (view c k) m (16 + j) → Walked (view c k) m (16 + (j + 1))
+  map_passed none {m} w = subst (Walked (view c k) m) (omega arith) (skip w (Map j) refl low (sym map_at ∙ none))
 
   pub lists_passed : p ≡ 0 → (map : List ℕ) → IsEmptyFrom map j → ListsUpTo (view c k) map j → ListsUpTo (view c k) map (j + 1)
   lists_passed none map empty was = lists_with map map (λ n lt. refl)
       (λ i lt. empty (128 * j + i) (omega arith) ∙ sym (ap (λ (a : ℕ). word (block c a) i) none ∙ word_none i)) was
 
-  pub lists_taken : (old new out : List ℕ) → block c p ≡ out → Copies out old new (128 * j) 128 → ListsUpTo (view c k) old j
+  pub lists_taken : {old new out : List ℕ} → block c p ≡ out → Copies out old new (128 * j) 128 → ListsUpTo (view c k) old j
       → ListsUpTo (view c k) new (j + 1)
-  lists_taken old new out read copies was =
+  lists_taken {old} {new} read copies was =
       lists_with old new copies.before (λ i lt. copies.own i lt ∙ ap (λ (b : List ℕ). word b i) (sym read)) was
 
   there : SomeWord (block c p) ↔ SomeWord (block c (address c k (Map j)))
@@ -75,25 +75,27 @@ module _ (c : Content) (k : CheckpointValue) (j : ℕ) (low : j < 32) (p : ℕ) 
   -- a block that can't be taken
   map_refused : (p ≡ 0 → ⊥) → (m m1 : List ℕ) → (IsUnmarked m p → SomeWord (block c p) → ⊥) → Walked (view c k) m (16 + j)
       → Maps (view c k) → ⊥
-  map_refused some m m1 not w maps = refused (view c k) m m1 (16 + j) w (Map j) refl low p map_at c SomeWord there false refl
+  map_refused some m m1 not w maps = refused m1 w (Map j) refl low map_at c SomeWord there false refl
       (omega arith, not) maps.fresh (maps.nonempty j)
 
-  pub map_missed : (p ≡ 0 → ⊥) → (m m1 : List ℕ) → (IsUnmarked m p → block c p ≡ []) → Walked (view c k) m (16 + j) → Maps (view c k)
+  pub map_missed : (p ≡ 0 → ⊥) → {m : List ℕ} (m1 : List ℕ) → (IsUnmarked m p → block c p ≡ []) → Walked (view c k) m (16 + j)
+      → Maps (view c k)
       → ⊥
-  map_missed some m m1 none = map_refused some m m1 (λ o is. no_word (block c p) (none o) is)
+  map_missed some {m} m1 none = map_refused some m m1 (λ o is. no_word {bytes = block c p} (none o) is)
 
-  pub map_empty : (p ≡ 0 → ⊥) → (m m1 out : List ℕ) → block c p ≡ out → (SomeWord out → ⊥) → Walked (view c k) m (16 + j) → Maps (view c k)
+  pub map_empty : (p ≡ 0 → ⊥) → (m m1 : List ℕ) {out : List ℕ} → block c p ≡ out → (SomeWord out → ⊥) → Walked (view c k) m (16 + j)
+      → Maps (view c k)
       → ⊥
-  map_empty some m m1 out read not = map_refused some m m1 (λ o is. not (subst SomeWord read is))
+  map_empty some m m1 read not = map_refused some m m1 (λ o is. not (subst SomeWord read is))
 
-  pub map_taken : (m m1 out : List ℕ) → IsUnmarked m p → block c p ≡ out → SomeWord out → m1 ≡ set m p (suc (16 + j))
+  pub map_taken : {m m1 out : List ℕ} → IsUnmarked m p → block c p ≡ out → SomeWord out → m1 ≡ set m p (suc (16 + j))
       → Walked (view c k) m (16 + j) → Walked (view c k) m1 (16 + (j + 1))
-  map_taken m m1 out o read is marked w =
+  map_taken {m} {m1} o read is marked w =
       subst (Walked (view c k) m1) (omega arith)
-      (took (view c k) m m1 (16 + j) w (Map j) refl low p map_at c SomeWord there true refl (inr (o, subst SomeWord (sym read) is, marked)))
+      (took m1 w (Map j) refl low map_at c SomeWord there true refl (inr (o, subst SomeWord (sym read) is, marked)))
 
-pub empty_taken : (out old new : List ℕ) (j : ℕ) → Copies out old new (128 * j) 128 → IsEmptyFrom old j → IsEmptyFrom new (j + 1)
-empty_taken out old new j copies was n le = copies.after n (omega (arith, le)) ∙ was n (omega (arith, le))
+pub empty_taken : {out old new : List ℕ} (j : ℕ) → Copies out old new (128 * j) 128 → IsEmptyFrom old j → IsEmptyFrom new (j + 1)
+empty_taken j copies was n le = copies.after n (omega (arith, le)) ∙ was n (omega (arith, le))
 
 -- number 0 has no inode, number 1 has one
 module _ (c : Content) (k : CheckpointValue) (map : List ℕ) (lists : ListsUpTo (view c k) map 32) where

@@ -50,7 +50,7 @@ leaves_of m n = count_up (λ q. has_leaf m n (suc q)) 128
 abbrev inodes_of : LogMap → ℕ → ℕ
 inodes_of m n = one_if (has_inode m n)
 
-module _ (m : LogMap) (is : IsLogMap m) where
+module _ {m : LogMap} (is : IsLogMap m) where
   -- a number without a file has nothing
   no_data : (n : ℕ) → m.header n ≡ None → (i : ℕ) → HasData m n i → ⊥
   no_data n none i has = let within = is.within n i has in let both : None ≡ Some within.0 = sym none ∙ within.1 in absurd (cc)
@@ -113,7 +113,7 @@ module _ (c : Content) (k : CheckpointValue) (sized : IsSized c) (m : LogMap) (s
   once : (e : Entry) → InBounds e → Has m k.segments e → occurrences marks (suc (step_of e)) ≡ 1
   once e b has =
       let mark = w.marked e (at_end e b) b (stored c k m sized st e has) in
-      occurs_once marks (suc (step_of e)) (address c k e) (inside_marks marks (address c k e) (step_of e) mark) mark (λ at there.
+      occurs_once marks (address c k e) (inside_marks marks (address c k e) mark) mark (λ at there.
       let h = w.held at (step_of e) there in
       sym h.5 ∙ ap (address c k) (same_step h.0 e h.3 b h.1))
 
@@ -177,19 +177,19 @@ module _ (c : Content) (k : CheckpointValue) (sized : IsSized c) (m : LogMap) (s
 
   all_data : above marks 536624 ≡ data_in m
   all_data =
-      let sum = above_ranges marks (λ n. 536624 + 16624 * n) (data_of_file m) 4095 (no_blocks m map_is 0 (zero_free m map_is)) data_marks in
+      let sum = above_ranges marks (λ n. 536624 + 16624 * n) (data_of_file m) 4095 (no_blocks map_is 0 (zero_free map_is)) data_marks in
       omega (arith, sum, none_above)
 
   all_meta : above marks 48 ≡ above marks 536624 + meta_in m
   all_meta =
-      let free = zero_free m map_is in
-      let inodes = above_ranges marks (λ n. 48 + n) (inodes_of m) 4095 (no_inode m map_is 0 free) inode_marks in
-      let roots = above_ranges marks (λ n. 4144 + 2 * n) (roots_of m) 4095 (no_roots m map_is 0 free) root_marks in
-      let leaves = above_ranges marks (λ n. 12336 + 128 * n) (leaves_of m) 4095 (no_leaves m map_is 0 free) leaf_marks in
-      omega (arith, inodes, roots, leaves, meta_sum m map_is 4095)
+      let free = zero_free map_is in
+      let inodes = above_ranges marks (λ n. 48 + n) (inodes_of m) 4095 (no_inode map_is 0 free) inode_marks in
+      let roots = above_ranges marks (λ n. 4144 + 2 * n) (roots_of m) 4095 (no_roots map_is 0 free) root_marks in
+      let leaves = above_ranges marks (λ n. 12336 + 128 * n) (leaves_of m) 4095 (no_leaves map_is 0 free) leaf_marks in
+      omega (arith, inodes, roots, leaves, meta_sum map_is 4095)
 
-  pub totals_by_marks : (blocks all : ℕ) → blocks ≡ above marks 536624 → all ≡ above marks 48 → IsCounted m blocks (all - blocks)
-  totals_by_marks blocks all is whole = record {
+  pub totals_by_marks : {blocks all : ℕ} → blocks ≡ above marks 536624 → all ≡ above marks 48 → IsCounted m blocks (all - blocks)
+  totals_by_marks is whole = record {
     stored = is ∙ all_data;
     above = omega (arith, is, whole, all_meta);
   }
@@ -197,4 +197,4 @@ module _ (c : Content) (k : CheckpointValue) (sized : IsSized c) (m : LogMap) (s
 pub counts_by_marks : (marks : List ℕ) (blocks all : ℕ) → blocks ≡ above_count marks 536624 (length marks)
     → all ≡ above_count marks 48 (length marks) → CountsByMarks marks blocks (all - blocks)
 counts_by_marks marks blocks all is whole c k sized m st w =
-    totals_by_marks c k sized m st marks w blocks all (is ∙ above_is marks 536624) (whole ∙ above_is marks 48)
+    totals_by_marks c k sized m st marks w (is ∙ above_is marks 536624) (whole ∙ above_is marks 48)

@@ -135,9 +135,10 @@ unfolding above above_count
 above_none xs h low = count_off (is_above xs h) (length xs) (λ a lt. false_from_ne_true (is_above xs h a)
     (λ on. let past = ltb-true h (get_or xs a 0) on in let le = low a in absurd (omega (arith, past, le))))
 
-pub occurs_once : (xs : List ℕ) (y a : ℕ) → a < length xs → get_or xs a 0 ≡ y → ((b : ℕ) → get_or xs b 0 ≡ y → b ≡ a) → occurrences xs y ≡ 1
+pub occurs_once : (xs : List ℕ) {y : ℕ} (a : ℕ) → a < length xs → get_or xs a 0 ≡ y → ((b : ℕ) → get_or xs b 0 ≡ y → b ≡ a)
+    → occurrences xs y ≡ 1
 unfolding occurrences
-occurs_once xs y a lt here only =
+occurs_once xs {y} a lt here only =
     count_single (is_at xs y) (length xs) a lt (eq-eqb (get_or xs a 0) y here) (λ b low on. only b (eqb-true (get_or xs b 0) y on))
 
 pub occurs_never : (xs : List ℕ) (y : ℕ) → ((a : ℕ) → get_or xs a 0 ≡ y → ⊥) → occurrences xs y ≡ 0

@@ -10,38 +10,38 @@ use Rattle.lfs_model.proofs.Words.{inode_words}
 use Rattle.lfs_verify.specs.Directories.{IsDirectoryInode}
 use Rattle.lfs_verify.specs.Take.{Lists}
 
-pub no_directory : (bytes : List ℕ) → bytes ≡ [] → (header bytes).kind ≡ Directory → ⊥
+pub no_directory : {bytes : List ℕ} → bytes ≡ [] → (header bytes).kind ≡ Directory → ⊥
 unfolding header
-no_directory bytes none is = let e = ap (λ (b : List ℕ). (header b).kind) none in absurd (cc)
+no_directory none is = let e = ap (λ (b : List ℕ). (header b).kind) none in absurd (cc)
 
-pub kind_from : (bytes : List ℕ) → IsDirectoryInode bytes → (header bytes).kind ≡ Directory
-kind_from bytes is = ap (λ (h : Header). h.kind) (inode_words bytes is.value is.spelt).header ∙ is.kind
+pub kind_from : {bytes : List ℕ} → IsDirectoryInode bytes → (header bytes).kind ≡ Directory
+kind_from {bytes} is = ap (λ (h : Header). h.kind) (inode_words bytes is.value is.spelt).header ∙ is.kind
 
-pub directory_from : (version n : ℕ) (bytes : List ℕ) → IsInode version n bytes → (header bytes).kind ≡ Directory → IsDirectoryInode bytes
-directory_from version n bytes is kind = record {
+pub directory_from : {version : ℕ} (n : ℕ) {bytes : List ℕ} → IsInode version n bytes → (header bytes).kind ≡ Directory
+    → IsDirectoryInode bytes
+directory_from n {bytes} is kind = record {
   value = is.value;
   spelt = is.spelt;
   kind = sym (ap (λ (h : Header). h.kind) (inode_words bytes is.value is.spelt).header) ∙ kind;
 }
 
 module _ (c : Content) (k : CheckpointValue) (map : List ℕ) (lists : Lists (view c k) map) where
-  pub root_at : (p : ℕ) → p ≡ get_or map 1 0 → p ≡ address c k (Inode 1)
-  root_at p is = is ∙ lists 1 (omega arith)
+  pub root_at : {p : ℕ} → p ≡ get_or map 1 0 → p ≡ address c k (Inode 1)
+  root_at is = is ∙ lists 1 (omega arith)
 
   -- a root that isn't there, or can't be read
   pub rootless : (p : ℕ) → p ≡ get_or map 1 0 → block c p ≡ [] → Inodes (view c k) → ⊥
-  rootless p is none inodes = no_directory (block c (address c k (Inode 1))) (ap (block c) (sym (root_at p is)) ∙ none) inodes.root
+  rootless p is none inodes = no_directory (ap (block c) (sym (root_at is)) ∙ none) inodes.root
 
   pub other_kind : (p : ℕ) → p ≡ get_or map 1 0 → (p ≡ 0 → ⊥) → (out : List ℕ) → block c p ≡ out → (IsDirectoryInode out → ⊥)
       → Inodes (view c k) → ⊥
   other_kind p is some out read not inodes =
-      let at = root_at p is in
+      let at = root_at is in
       let here : block c (address c k (Inode 1)) ≡ out = ap (block c) (sym at) ∙ read in
       let reached : Reached (view c k) (Inode 1) = omega arith in
-      not (subst IsDirectoryInode here
-      (directory_from (layout_version k) 1 (block c (address c k (Inode 1))) (inodes.formed 1 reached) inodes.root))
+      not (subst IsDirectoryInode here (directory_from 1 (inodes.formed 1 reached) inodes.root))
 
-  pub root_kind : (p : ℕ) → p ≡ get_or map 1 0 → (out : List ℕ) → block c p ≡ out → IsDirectoryInode out
+  pub root_kind : (p : ℕ) → p ≡ get_or map 1 0 → {out : List ℕ} → block c p ≡ out → IsDirectoryInode out
       → (header (block c (address c k (Inode 1)))).kind ≡ Directory
-  root_kind p is out read directory =
-      kind_from (block c (address c k (Inode 1))) (subst IsDirectoryInode (sym read ∙ ap (block c) (root_at p is)) directory)
+  root_kind p is read directory =
+      kind_from (subst IsDirectoryInode (sym read ∙ ap (block c) (root_at is)) directory)

@@ -42,13 +42,13 @@ too_few (e ∷ es) [] lt h = let z = h.1 in absurd (cc)
 too_few (e ∷ es) (s ∷ ss) lt h = too_few es ss (omega arith) ((has_after (Some e) (chunks es ss)).0 h)
 
 -- a chunk at the front
-front_is : (s : Cell) (ss : Sectors) (es : List Entry) → entries_in (bytes_of s) ≡ Some es → chunks [] (s ∷ ss) ≡ after None (chunks es ss)
-front_is s ss es is = ap (λ (o : Option (List Entry)). opened o (λ es. chunks es ss)) is
+front_is : (s : Cell) (ss : Sectors) {es : List Entry} → entries_in (bytes_of s) ≡ Some es → chunks [] (s ∷ ss) ≡ after None (chunks es ss)
+front_is s ss {es} is = ap (λ (o : Option (List Entry)). opened o (λ es. chunks es ss)) is
 
-front : (s : Cell) (ss : Sectors) (es : List Entry) → entries_in (bytes_of s) ≡ Some es
+front : (s : Cell) (ss : Sectors) {es : List Entry} → entries_in (bytes_of s) ≡ Some es
     → HasRow (chunks [] (s ∷ ss)) ↔ HasRow (chunks es ss)
-front s ss es is =
-    let e = front_is s ss es is in
+front s ss {es} is =
+    let e = front_is s ss is in
     let a = has_after None (chunks es ss) in
     (λ h. a.0 (subst HasRow e h), λ h. subst HasRow (sym e) (a.1 h))
 
@@ -89,10 +89,10 @@ module _ (c : Content) (used segment at : ℕ) (long : 2 + 64 * segment + used �
 
   module _ (n : ℕ) (names : IsSummaryOf (block c (2 + 64 * segment + at)) n) where
     pub opens_names : from c used segment at ≡ after None (chunks names.0 behind)
-    opens_names = opens ∙ front_is here behind names.0 (ap entries_in bytes_is ∙ names.1)
+    opens_names = opens ∙ front_is here behind (ap entries_in bytes_is ∙ names.1)
 
     first : HasRow (from c used segment at) ↔ HasRow (chunks names.0 behind)
-    first = let f = front here behind names.0 (ap entries_in bytes_is ∙ names.1) in
+    first = let f = front here behind (ap entries_in bytes_is ∙ names.1) in
         (λ h. f.0 (subst HasRow opens h), λ h. subst HasRow (sym opens) (f.1 h))
 
     pub cut_chunk : used ≤ at + n → HasRow (from c used segment at) → ⊥
@@ -130,27 +130,27 @@ pub from_start : (c : Content) (used segment : ℕ) → from c used segment 0 �
 unfolding from part row_by
 from_start c used segment = refl
 
-pub long_enough : (d d' : DeviceState) (c : Content) (used segment : ℕ) → IsLawful d → ReadsContent d d' c → 66 + 64 * segment ≤ d.size
+pub long_enough : {d d' : DeviceState} {c : Content} (used segment : ℕ) → IsLawful d → ReadsContent d d' c → 66 + 64 * segment ≤ d.size
     → used ≤ 64 → 2 + 64 * segment + used ≤ length c
-long_enough d d' c used segment lawful reads inside few = let e = ap length reads.content in let s = lawful.size in omega arith
+long_enough used segment lawful reads inside few = let e = ap length reads.content in let s = lawful.size in omega arith
 
 pub no_entries : entries_in [] ≡ None
 unfolding entries_in summary_in read16 fields.part run
 no_entries = refl
 
 -- what a summary names, as entries
-pub entries_some : (bytes : List ℕ) (names : List BlockNameValue) → Some names ≡ summary_in bytes
+pub entries_some : (bytes : List ℕ) {names : List BlockNameValue} → Some names ≡ summary_in bytes
     → entries_in bytes ≡ Some (map entry_of names)
 unfolding entries_in
-entries_some bytes names is = ap (option_map (map entry_of)) (sym is)
+entries_some bytes is = ap (option_map (map entry_of)) (sym is)
 
 pub entries_none : (bytes : List ℕ) → None ≡ summary_in bytes → entries_in bytes ≡ None
 unfolding entries_in
 entries_none bytes is = ap (option_map (map entry_of)) (sym is)
 
-pub names_of : (bytes : List ℕ) (names : List BlockNameValue) (n : ℕ) → Some names ≡ summary_in bytes → n ≡ length names
+pub names_of : (bytes : List ℕ) {names : List BlockNameValue} {n : ℕ} → Some names ≡ summary_in bytes → n ≡ length names
     → IsSummaryOf bytes n
-names_of bytes names n is long = (map entry_of names, entries_some bytes names is, length-map names entry_of ∙ sym long)
+names_of bytes {names} is long = (map entry_of names, entries_some bytes is, length-map names entry_of ∙ sym long)
 
 -- a segment's row, by its table
 pub row_is : (c : Content) (k : CheckpointValue) (s : ℕ) → (view c k).row s ≡ row_by c (used_in (view c k) s) s
@@ -158,9 +158,9 @@ unfolding address
 row_is c k s = refl
 
 -- whole rows in the table are whole rows in the volume
-pub rows_of : (c : Content) (k : CheckpointValue) (used : List ℕ) → IsUsedTable (view c k) used
+pub rows_of : (c : Content) (k : CheckpointValue) {used : List ℕ} → IsUsedTable (view c k) used
     → ((s : ℕ) → s < length used → HasRow (row_by c (get_or used s 0) s)) → IsRows (view c k)
-rows_of c k used table rows s some = ⊎_elim
+rows_of c k table rows s some = ⊎_elim
     (λ (lt : s < k.segments).
     let h = rows s (let n = table.size in omega arith) in
     (h.0, row_is c k s ∙ ap (λ (u : ℕ). row_by c u s) (sym (table.each s lt)) ∙ h.1))
@@ -168,14 +168,14 @@ rows_of c k used table rows s some = ⊎_elim
     (cases_lt s k.segments)
 
 -- no sector at all is a row
-pub no_sectors : (c : Content) (s u : ℕ) → u ≡ 0 → HasRow (row_by c u s)
+pub no_sectors : (c : Content) (s : ℕ) {u : ℕ} → u ≡ 0 → HasRow (row_by c u s)
 unfolding row_by
-no_sectors c s u none = ([], ap (λ (u : ℕ). row_by c u s) none)
+no_sectors c s {u} none = ([], ap (λ (u : ℕ). row_by c u s) none)
 
-pub no_rows : (c : Content) (k : CheckpointValue) (used : List ℕ) → IsUsedTable (view c k) used → (s : ℕ) → s < length used
+pub no_rows : (c : Content) (k : CheckpointValue) {used : List ℕ} → IsUsedTable (view c k) used → (s : ℕ) → s < length used
     → (HasRow (row_by c (get_or used s 0) s) → ⊥) → IsRows (view c k) → ⊥
-no_rows c k used table s lt none rows = ⊎_elim
-    (λ (clean : get_or used s 0 ≡ 0). none (no_sectors c s (get_or used s 0) clean))
+no_rows c k {used} table s lt none rows = ⊎_elim
+    (λ (clean : get_or used s 0 ≡ 0). none (no_sectors c s clean))
     (λ (some : get_or used s 0 ≡ 0 → ⊥).
     let inside : s < k.segments = let n = table.size in omega arith in
     let e = table.each s inside in
@@ -183,8 +183,8 @@ no_rows c k used table s lt none rows = ⊎_elim
     none (h.0, ap (λ (u : ℕ). row_by c u s) e ∙ sym (row_is c k s) ∙ h.1))
     (cases_eq (get_or used s 0) 0)
 
-pub too_many : (v : View) (used : List ℕ) → IsUsedTable v used → (s : ℕ) → s < length used → 64 < get_or used s 0 → ⊥
-too_many v used table s lt many =
+pub too_many : {v : View} {used : List ℕ} → IsUsedTable v used → (s : ℕ) → s < length used → 64 < get_or used s 0 → ⊥
+too_many {v} table s lt many =
     let inside : s < v.checkpoint.segments = let n = table.size in omega arith in
     let e = table.each s inside in
     let f = table.fit s in

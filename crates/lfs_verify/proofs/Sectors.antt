@@ -39,7 +39,7 @@ same_tests true q P a b = sym (b.1 (a.0 refl))
 same_tests false true P a b = a.1 (b.0 refl)
 same_tests false false P a b = refl
 
-module _ (v : View) (marks : List ℕ) (w : Walked v marks 68628528) (bounded : IsBounded v) where
+module _ (v : View) {marks : List ℕ} (w : Walked v marks 68628528) (bounded : IsBounded v) where
   at_end : (e : Entry) → InBounds e → step_of e < 68628528
   at_end e b = within_7 e b (stage_low e)
 
@@ -49,7 +49,7 @@ module _ (v : View) (marks : List ℕ) (w : Walked v marks 68628528) (bounded : 
   named_at each e reached s o whole small =
       let b = bounded e reached in
       let m = w.marked e (at_end e b) b reached in
-      let inside = inside_marks marks (v.address e) (step_of e) m in
+      let inside = inside_marks marks (v.address e) m in
       let n = w.size in
       let i = each s o (omega arith) small (step_of e) (ap (λ (x : ℕ). get_or marks x 0) (sym whole) ∙ m) in
       i.1 ∙ ap Some (same_step i.0 e i.3 b i.2)
@@ -89,17 +89,17 @@ module _ (v : View) (marks : List ℕ) (w : Walked v marks 68628528) (bounded : 
     λ held. lt-ltb 0 (get_or marks (2 + 64 * s + o) 0) (marked_of (2 + 64 * s + o) (omega arith) held),
   )
 
-  counted_of : (live : List ℕ) → IsLiveTable v live → ((s : ℕ) → s < length live → get_or live s 0 ≡ marked_count marks s 64) → AreCounted v
+  counted_of : {live : List ℕ} → IsLiveTable v live → ((s : ℕ) → s < length live → get_or live s 0 ≡ marked_count marks s 64) → AreCounted v
   unfolding marked_count
-  counted_of live table counts s lt = record {
+  counted_of table counts s lt = record {
     is_held = is_marked marks s;
     exact = λ o low. marked_held s o;
     count = sym (table.each s lt) ∙ counts s (let n = table.size in omega arith);
   }
 
-  counts_of : (live : List ℕ) → IsLiveTable v live → AreCounted v → (s : ℕ) → s < length live → get_or live s 0 ≡ marked_count marks s 64
+  counts_of : {live : List ℕ} → IsLiveTable v live → AreCounted v → (s : ℕ) → s < length live → get_or live s 0 ≡ marked_count marks s 64
   unfolding marked_count
-  counts_of live table counted s lt =
+  counts_of table counted s lt =
       let inside : s < v.checkpoint.segments = let n = table.size in omega arith in
       let holds = counted s inside in
       table.each s inside ∙ holds.count
@@ -107,7 +107,7 @@ module _ (v : View) (marks : List ℕ) (w : Walked v marks 68628528) (bounded : 
       (λ o low. same_tests (holds.is_held o) (is_marked marks s o) (IsHeld v (2 + 64 * s + o)) (holds.exact o low) (marked_held s o))
 
 pub named_by_marks : NamedByMarks
-named_by_marks v marks w bounded = (λ named s o lt low. named_each v marks w bounded named s o low, named_of v marks w bounded)
+named_by_marks v marks w bounded = (λ named s o lt low. named_each v w bounded named s o low, named_of v w bounded)
 
 pub counted_by_marks : CountedByMarks
-counted_by_marks v marks live w bounded table = (counts_of v marks w bounded live table, counted_of v marks w bounded live table)
+counted_by_marks v marks live w bounded table = (counts_of v w bounded table, counted_of v w bounded table)

@@ -169,7 +169,7 @@ within_7 (Leaf n zero) b h = omega arith
 within_7 (Leaf n (suc q)) b h = omega arith
 within_7 (Data n i) b h = omega arith
 
-module _ (v : View) (marks : List ℕ) (r : ℕ) (w : Walked v marks r) (e : Entry) (here : step_of e ≡ r) (b : InBounds e) where
+module _ {v : View} {marks : List ℕ} {r : ℕ} (w : Walked v marks r) (e : Entry) (here : step_of e ≡ r) (b : InBounds e) where
   earlier : (f : Entry) → InBounds f → step_of f < suc r → (f ≡ e) ⊎ (step_of f < r)
   earlier f c lt = ⊎_elim (λ (same : step_of f ≡ r). inl (same_step f e c b (same ∙ sym here)))
       (λ (other : step_of f ≡ r → ⊥). inr (omega arith)) (cases_eq (step_of f) r)
@@ -235,18 +235,18 @@ module _ (v : View) (marks : List ℕ) (r : ℕ) (w : Walked v marks r) (e : Ent
         unmarked = unmarked_from fresh reached (get_or marks (v.address e) 0) refl;
       }
 
-pub inside_marks : (marks : List ℕ) (a p : ℕ) → get_or marks a 0 ≡ suc p → a < length marks
-inside_marks marks a p is = ⊎_elim (λ (lt : a < length marks). lt)
+pub inside_marks : (marks : List ℕ) (a : ℕ) {p : ℕ} → get_or marks a 0 ≡ suc p → a < length marks
+inside_marks marks a is = ⊎_elim (λ (lt : a < length marks). lt)
     (λ (le : length marks ≤ a). let z = get_or_past marks a 0 le in absurd (omega arith)) (cases_lt a (length marks))
 
-pub fresh_of : (v : View) (marks : List ℕ) (r : ℕ) → Walked v marks r → IsBounded v → (k : ℕ)
+pub fresh_of : {v : View} {marks : List ℕ} {r : ℕ} → Walked v marks r → IsBounded v → (k : ℕ)
     → ((f : Entry) → InBounds f → stage_of f ≤ k → step_of f < r) → Fresh v k
-fresh_of v marks r w bounded k before = λ e is reached.
+fresh_of {v} {marks} {r} w bounded k before = λ e is reached.
     let b = bounded e reached in
     let lt : step_of e < r = before e b (omega arith) in
     let m = w.marked e lt b reached in (
       w.low e lt b reached,
-      let x = inside_marks marks (v.address e) (step_of e) m in let y = w.size in omega arith,
+      let x = inside_marks marks (v.address e) m in let y = w.size in omega arith,
       λ f le same.
           let c = bounded f (omega arith) in
           let n = w.marked f (before f c le) c (omega arith) in
@@ -255,9 +255,9 @@ fresh_of v marks r w bounded k before = λ e is reached.
     )
 
 -- an entry of which none is reached is passed by
-pub skip_to : (v : View) (marks : List ℕ) (r s : ℕ) → Walked v marks r → r ≤ s
+pub skip_to : {v : View} {marks : List ℕ} {r s : ℕ} → Walked v marks r → r ≤ s
     → ((e : Entry) → InBounds e → r ≤ step_of e → step_of e < s → Reached v e → ⊥) → Walked v marks s
-skip_to v marks r s w le none =
+skip_to {v} {r} {s} w le none =
     let now : (f : Entry) → InBounds f → step_of f < s → Reached v f → step_of f < r = λ f c lt reached.
     ⊎_elim (λ (x : step_of f < r). x) (λ (x : r ≤ step_of f). absurd (none f c x lt reached)) (cases_lt (step_of f) r) in
     record {
@@ -270,14 +270,14 @@ skip_to v marks r s w le none =
 
 pub roots_of : (v : View) (marks : List ℕ) → Walked v marks 12336 → IsBounded v → Roots v
 roots_of v marks w bounded = record {
-  fresh = fresh_of v marks 12336 w bounded 5 within_5;
+  fresh = fresh_of w bounded 5 within_5;
   single = λ n reached. let b = bounded (Leaf n 0) reached in w.good (Leaf n 0) (omega arith) b reached;
   double = λ n reached. let b = bounded (Double n) reached in w.good (Double n) (omega arith) b reached;
 }
 
 pub leaves_of : (v : View) (marks : List ℕ) → Walked v marks 536624 → IsBounded v → Leaves v
 leaves_of v marks w bounded = record {
-  fresh = fresh_of v marks 536624 w bounded 6 within_6;
+  fresh = fresh_of w bounded 6 within_6;
   nonempty = λ n q reached. let b = bounded (Leaf n (suc q)) reached in w.good (Leaf n (suc q)) (omega arith) b reached;
 }
 
@@ -286,22 +286,22 @@ blocks_of v marks w bounded =
     let good : (n i : ℕ) → Reached v (Data n i) → IsData v n i = λ n i reached. let b = bounded (Data n i) reached in
     w.good (Data n i) (omega arith) b reached in
     record {
-      fresh = fresh_of v marks 68628528 w bounded 7 within_7;
+      fresh = fresh_of w bounded 7 within_7;
       nonzero = λ n i reached. (good n i reached).nonzero;
       within = λ n i reached. (good n i reached).within;
       past = λ n i reached. (good n i reached).past;
     }
 
-pub inodes_of : (v : View) (marks : List ℕ) → Walked v marks 4144 → IsBounded v → (header (v.block (Inode 1))).kind ≡ Directory → Inodes v
-inodes_of v marks w bounded root = record {
-  fresh = fresh_of v marks 4144 w bounded 4 within_4;
+pub inodes_of : {v : View} (marks : List ℕ) → Walked v marks 4144 → IsBounded v → (header (v.block (Inode 1))).kind ≡ Directory → Inodes v
+inodes_of {v} marks w bounded root = record {
+  fresh = fresh_of w bounded 4 within_4;
   formed = λ n reached. let b = bounded (Inode n) reached in w.good (Inode n) (omega arith) b reached;
   root = root;
 }
 
-pub maps_of : (v : View) (marks : List ℕ) → Walked v marks 48 → IsBounded v → v.address (Inode 0) ≡ 0 → Reached v (Inode 1) → Maps v
-maps_of v marks w bounded none root = record {
-  fresh = fresh_of v marks 48 w bounded 3 within_3;
+pub maps_of : (v : View) {marks : List ℕ} → Walked v marks 48 → IsBounded v → v.address (Inode 0) ≡ 0 → Reached v (Inode 1) → Maps v
+maps_of v {marks} w bounded none root = record {
+  fresh = fresh_of w bounded 3 within_3;
   nonempty = λ n reached. let b = bounded (Map n) reached in w.good (Map n) (omega arith) b reached;
   none = none;
   root = root;
@@ -317,9 +317,9 @@ stage_low (Leaf n (suc q)) = omega arith
 stage_low (Data n i) = omega arith
 
 -- nothing is marked before the first step
-pub walked_start : (v : View) (marks : List ℕ) → length marks ≡ 2 + 64 * v.checkpoint.segments → ((a : ℕ) → get_or marks a 0 ≡ 0)
+pub walked_start : (v : View) {marks : List ℕ} → length marks ≡ 2 + 64 * v.checkpoint.segments → ((a : ℕ) → get_or marks a 0 ≡ 0)
     → Walked v marks 0
-walked_start v marks long clear = record {
+walked_start v long clear = record {
   size = long;
   held = λ a p is. let z = clear a in absurd (omega arith);
   marked = λ e lt b reached. absurd (omega arith);

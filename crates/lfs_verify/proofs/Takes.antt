@@ -18,14 +18,14 @@ pub block_at : (c : Content) (at : ℕ) → 0 < at → block c at ≡ bytes_of (
 block_at c zero lt = absurd (omega arith)
 block_at c (suc at) lt = refl
 
-pub unread : (c : Content) (at : ℕ) (out : List ℕ) (r : Bool) → block c at ≡ cond r out [] → r ≡ false → block c at ≡ []
-unread c at out r is fails = is ∙ ap (λ (x : Bool). cond x out []) fails
+pub unread : (c : Content) (at : ℕ) (out : List ℕ) {r : Bool} → block c at ≡ cond r out [] → r ≡ false → block c at ≡ []
+unread c at out is fails = is ∙ ap (λ (x : Bool). cond x out []) fails
 
-pub read_in : (c : Content) (at : ℕ) (out : List ℕ) (r : Bool) → block c at ≡ cond r out [] → r ≡ true → block c at ≡ out
-read_in c at out r is holds = is ∙ ap (λ (x : Bool). cond x out []) holds
+pub read_in : (c : Content) (at : ℕ) (out : List ℕ) {r : Bool} → block c at ≡ cond r out [] → r ≡ true → block c at ≡ out
+read_in c at out is holds = is ∙ ap (λ (x : Bool). cond x out []) holds
 
-pub no_word : (bytes : List ℕ) → bytes ≡ [] → SomeWord bytes → ⊥
-no_word bytes none w = let z = ap (λ (b : List ℕ). word b w.0) none ∙ word_none w.0 in let lt = w.2 in omega arith
+pub no_word : {bytes : List ℕ} → bytes ≡ [] → SomeWord bytes → ⊥
+no_word none w = let z = ap (λ (b : List ℕ). word b w.0) none ∙ word_none w.0 in let lt = w.2 in omega arith
 
 pub no_inode : (version n : ℕ) (bytes : List ℕ) → bytes ≡ [] → IsInode version n bytes → ⊥
 unfolding inode_in inode_sector
@@ -34,7 +34,7 @@ no_inode version n bytes none is =
     let z = ap length (sym none ∙ spelt) in absurd (cc)
 
 -- a block that is taken, and one that isn't
-module _ (c : Content) (old new : List ℕ) (at step : ℕ) (out : List ℕ) (r : Bool) (t : TakesBlock c old new at step out r) where
+module _ (c : Content) (old new : List ℕ) (at step : ℕ) (out : List ℕ) {r : Bool} (t : TakesBlock c old new at step out r) where
   pub block_taken : r ≡ true → IsUnmarked old at × (block c at ≡ out) × (new ≡ set old at (suc step))
   block_taken is = subst (λ (b : Bool). TakesBlock c old new at step out b) is t
 
@@ -64,44 +64,43 @@ read_at d d' c at o lt reads is = block_at c at lt ∙ ap (λ (x : Content). byt
     ∙ ap bytes_of (is reads.keeps)
 
 -- a run that reads a content begins with one that reads it, and goes on with one
-pub reads_first : (a b c : DeviceState) (content : Content) → ReadsContent a c content → Looks b c → ReadsContent a b content
-reads_first a b c content reads looks = record { content = reads.content; keeps = looks.carries.kept_before reads.keeps }
+pub reads_first : {a b c : DeviceState} {content : Content} → ReadsContent a c content → Looks b c → ReadsContent a b content
+reads_first {content} reads looks = record { content = reads.content; keeps = looks.carries.kept_before reads.keeps }
 
-pub reads_then : (a b c : DeviceState) (content : Content) → ReadsContent a c content → Looks a b → ReadsContent b c content
-reads_then a b c content reads looks = record { content = looks.untouched.content ∙ reads.content; keeps = reads.keeps }
+pub reads_then : {a b c : DeviceState} {content : Content} → ReadsContent a c content → Looks a b → ReadsContent b c content
+reads_then {content} reads looks = record { content = looks.untouched.content ∙ reads.content; keeps = reads.keeps }
 
-pub looks_none : (d : DeviceState) → IsLawful d → Looks d d
-looks_none d lawful = record {
-  carries = carries_none d;
+pub looks_none : {d : DeviceState} → IsLawful d → Looks d d
+looks_none {d} lawful = record {
+  carries = carries_none;
   untouched = record { content = refl; crash = λ c left. left };
-  any_moment = started d d.may_leave lawful (λ c left. left);
+  any_moment = started d.may_leave lawful (λ c left. left);
 }
 
-pub looks_then : (a b c : DeviceState) → Looks a b → Looks b c → Looks a c
-looks_then a b c one two = record {
-  carries = carries_then a b c one.carries two.carries;
+pub looks_then : {a b c : DeviceState} → Looks a b → Looks b c → Looks a c
+looks_then {a} {b} {c} one two = record {
+  carries = carries_then one.carries two.carries;
   untouched = record {
     content = two.untouched.content ∙ one.untouched.content;
     crash = λ x left. one.untouched.crash x (two.untouched.crash x left);
   };
-  any_moment = joined a b c a.may_leave b.may_leave a.may_leave one.any_moment two.any_moment (λ x left. left) one.untouched.crash;
+  any_moment = joined a.may_leave b.may_leave a.may_leave one.any_moment two.any_moment (λ x left. left) one.untouched.crash;
 }
 
-module _ (v : View) (marks new : List ℕ) (r : ℕ) (w : Walked v marks r) (e : Entry) (here : step_of e ≡ r) (b : InBounds e)
-    (at : ℕ) (is : at ≡ v.address e) (c : Content) (P : List ℕ → Type 0) (good : P (block c at) ↔ IsGood v e) where
+module _ {v : View} {marks : List ℕ} (new : List ℕ) {r : ℕ} (w : Walked v marks r) (e : Entry) (here : step_of e ≡ r) (b : InBounds e)
+    {at : ℕ} (is : at ≡ v.address e) (c : Content) (P : List ℕ → Type 0) (good : P (block c at) ↔ IsGood v e) where
   took_true : TakesAddress P c marks new at r true → Walked v new (suc r)
   took_true t = ⊎_elim
       (λ (none : (at ≡ 0) × (new ≡ marks)).
-      subst (λ (m : List ℕ). Walked v m (suc r)) (sym none.1) (skip v marks r w e here b (sym is ∙ none.0)))
+      subst (λ (m : List ℕ). Walked v m (suc r)) (sym none.1) (skip w e here b (sym is ∙ none.0)))
       (λ (one : IsUnmarked marks at × P (block c at) × (new ≡ set marks at (suc r))).
       subst (λ (m : List ℕ). Walked v m (suc r)) (ap (λ (a : ℕ). set marks a (suc r)) (sym is) ∙ sym one.2)
-      (take_one v marks r w e here b (subst (IsUnmarked marks) is one.0) (good.0 one.1)))
-      t
+      (take_one w e here b (subst (IsUnmarked marks) is one.0) (good.0 one.1))) t
 
   refused_false : TakesAddress P c marks new at r false → Fresh v (stage_of e) → (Reached v e → IsGood v e) → ⊥
   refused_false t fresh local =
       let reached : Reached v e = let x = t.0 in omega arith in
-      t.1 (subst (IsUnmarked marks) (sym is) (is_open v marks r w e here b fresh reached)) (good.1 (local reached))
+      t.1 (subst (IsUnmarked marks) (sym is) (is_open w e here b fresh reached)) (good.1 (local reached))
 
   pub took : (x : Bool) → x ≡ true → TakesAddress P c marks new at r x → Walked v new (suc r)
   took x is t = took_true (subst (TakesAddress P c marks new at r) is t)
@@ -109,11 +108,14 @@ module _ (v : View) (marks new : List ℕ) (r : ℕ) (w : Walked v marks r) (e :
   pub refused : (x : Bool) → x ≡ false → TakesAddress P c marks new at r x → Fresh v (stage_of e) → (Reached v e → IsGood v e) → ⊥
   refused x is t = refused_false (subst (TakesAddress P c marks new at r) is t)
 
-pub goes_true : (v : View) (old new : List ℕ) (r s : ℕ) (stage : Type 0) (x : Bool) → x ≡ true → Advances v old new r s stage x
+pub goes_true : {v : View} {old : List ℕ} (new : List ℕ) {r : ℕ} (s : ℕ) (stage : Type 0) {x : Bool} → x ≡ true
+    → Advances v old new r s stage x
     → Walked v old r → Walked v new s
-goes_true v old new r s stage x is =
+goes_true {v} {old} new {r} s stage is =
     subst (λ (y : Bool). Advances v old new r s stage y → Walked v old r → Walked v new s) (sym is) (λ h. h)
 
-pub goes_false : (v : View) (old new : List ℕ) (r s : ℕ) (stage : Type 0) (x : Bool) → x ≡ false → Advances v old new r s stage x
+pub goes_false : {v : View} {old : List ℕ} (new : List ℕ) {r : ℕ} (s : ℕ) (stage : Type 0) {x : Bool} → x ≡ false
+    → Advances v old new r s stage x
     → Walked v old r → stage → ⊥
-goes_false v old new r s stage x is = subst (λ (y : Bool). Advances v old new r s stage y → Walked v old r → stage → ⊥) (sym is) (λ h. h)
+goes_false {v} {old} new {r} s stage is = subst (λ (y : Bool). Advances v old new r s stage y → Walked v old r → stage → ⊥) (sym is)
+    (λ h. h)

@@ -36,15 +36,15 @@ block_bytes c all (suc at) = go (cell_at c (suc at)) (sector_at c (suc at) all)
     go (Some bytes) is = is.each
 
 -- a sector that is lent as the device holds it
-module _ (c : Content) (at : ℕ) (bytes : List ℕ) (there : cell_at c at ≡ Some bytes) where
+module _ (c : Content) (at : ℕ) {bytes : List ℕ} (there : cell_at c at ≡ Some bytes) where
   pub lent_block : 2 ≤ at → block c at ≡ bytes
   lent_block above = block_at c at (omega (arith, above)) ∙ ap bytes_of there
 
   pub lent_long : AllByRecursion IsSector c → length bytes ≡ 512
   lent_long all = (subst IsSector there (sector_at c at all)).size
 
-pub taken_none : (t : UsageTable) (uses : List SegmentUse) (j : ℕ) → IsTakenIn t t uses j 0
-taken_none t uses j = record {
+pub taken_none : {t : UsageTable} {uses : List SegmentUse} {j : ℕ} → IsTakenIn t t uses j 0
+taken_none = record {
   own = λ i lt inside. absurd (omega (arith, lt));
   before = λ s lt. refl;
   after = λ s le. refl;
@@ -53,11 +53,12 @@ taken_none t uses j = record {
   last = refl;
 }
 
-pub taken_more : (old mid new : UsageTable) (uses : List SegmentUse) (j n : ℕ) → IsTakenIn old mid uses j n
+pub taken_more : {old mid new : UsageTable} {uses : List SegmentUse} {j n : ℕ} → IsTakenIn old mid uses j n
     → (64 * j + n < length mid.segments → new.segments ≡ slice_set mid.segments (64 * j + n) (loaded (get_or uses n no_use)))
     → (length mid.segments ≤ 64 * j + n → new.segments ≡ mid.segments) → new.blocks ≡ mid.blocks → new.last ≡ mid.last
     → IsTakenIn old new uses j (n + 1)
-taken_more old mid new uses j n before own past blocks last = ⊎_elim inside outside (cases_lt (64 * j + n) (length mid.segments))
+taken_more {old} {mid} {new} {uses} {j} {n} before own past blocks last = ⊎_elim inside outside
+    (cases_lt (64 * j + n) (length mid.segments))
   where
     same_size : length mid.segments ≡ length old.segments
     same_size = before.size
@@ -100,7 +101,7 @@ abbrev on_device : ℕ → ℕ → ℕ → SegmentNumbers
 on_device used live age = record { used = used; live = live; held = 0; age = age; kept = used }
 
 -- a usage block is taken in, and stands at this address
-module _ (old mid new : UsageTable) (uses : List SegmentUse) (j segments at : ℕ) (stale : Bool) (is : IsUsageUpTo j segments old)
+module _ {old mid new : UsageTable} {uses : List SegmentUse} {j segments : ℕ} (at : ℕ) {stale : Bool} (is : IsUsageUpTo j segments old)
     (taken : IsTakenIn old mid uses j 64) (puts : PutsPlace mid new j at stale) where
   same_numbers : (s : ℕ) → get_or new.segments s no_segment ≡ get_or mid.segments s no_segment
   same_numbers s = ap (λ (l : List SegmentNumbers). get_or l s no_segment) puts.segments
@@ -151,7 +152,7 @@ module _ (old mid new : UsageTable) (uses : List SegmentUse) (j segments at : �
     untaken = more_untaken;
   }
 
-  module _ (c : Content) (k : CheckpointValue) (says : SaysUsage c k j old) (bytes : List ℕ) (count : ℕ) (there : block c at ≡ bytes)
+  module _ {c : Content} {k : CheckpointValue} (says : SaysUsage c k j old) (bytes : List ℕ) (count : ℕ) (there : block c at ≡ bytes)
       (points : get_or k.usage j 0 ≡ at)
       (all : AllByRecursion IsSector c) (long : length bytes ≡ 512) (spelt : usage_in count bytes ≡ Some uses)
       (fresh : stale ≡ false → (i : ℕ) → i < 64 → (get_or uses i no_use).live ≡ 0 → (get_or uses i no_use).age ≡ 0) where
@@ -211,7 +212,7 @@ module _ (old mid new : UsageTable) (uses : List SegmentUse) (j segments at : �
     }
 
 -- ---- where the content holds a log map, its usage blocks can be read
-module _ (c : Content) (k : CheckpointValue) (m : LogMap) (st : HoldsAt c k m) (j : ℕ) (low : j < (k.segments + 63) / 64) where
+module _ {c : Content} (k : CheckpointValue) (m : LogMap) (st : HoldsAt c k m) (j : ℕ) (low : j < (k.segments + 63) / 64) where
   reached : 0 < get_or k.usage j 0
   unfolding address
   reached = (st.stages.usages.addresses j).1 low
@@ -227,23 +228,23 @@ module _ (c : Content) (k : CheckpointValue) (m : LogMap) (st : HoldsAt c k m) (
   pub usage_spelt : (bytes : List ℕ) → block c (get_or k.usage j 0) ≡ bytes → IsBytes bytes → length bytes ≡ 512
       → usage_in (k.segments - 64 * j) bytes ≡ Some (usage_of bytes)
   unfolding address
-  usage_spelt bytes is are long = usage_block_some bytes (k.segments - 64 * j) are long
+  usage_spelt bytes is are long = usage_block_some bytes are long
       (subst (IsUsageBlock (k.segments - 64 * j)) is (usage_block_of (view c k) st.stages.usages j))
 
-pub usage_fault : (d d' : DeviceState) (k : CheckpointValue) (j at : ℕ) → j < (k.segments + 63) / 64 → get_or k.usage j 0 ≡ at
+pub usage_fault : (d d' : DeviceState) (k : CheckpointValue) (j : ℕ) {at : ℕ} → j < (k.segments + 63) / 64 → get_or k.usage j 0 ≡ at
     → LacksBlock d d' k.segments at → LacksTables d d' k
-usage_fault d d' k j at low points lacks m keeps st =
-    let range = usage_range d.content k m st j low in
+usage_fault d d' k j low points lacks m keeps st =
+    let range = usage_range k m st j low in
     lacks keeps (subst (λ (a : ℕ). 2 ≤ a) points range.0) (subst (λ (a : ℕ). a < 2 + 64 * k.segments) points range.1)
-    (subst (λ (a : ℕ). length (block d.content a) ≡ 512) points (usage_long d.content k m st j low))
+    (subst (λ (a : ℕ). length (block d.content a) ≡ 512) points (usage_long k m st j low))
 
 pub usage_undecoded : (d d' : DeviceState) (k : CheckpointValue) (j at : ℕ) (bytes : List ℕ) → j < (k.segments + 63) / 64
     → get_or k.usage j 0 ≡ at
     → (d'.keeps_model → block d.content at ≡ bytes) → AllByRecursion IsSector d.content → (d'.keeps_model → length bytes ≡ 512)
-    → (count : ℕ) → count ≡ k.segments - 64 * j → usage_in count bytes ≡ None → LacksTables d d' k
-usage_undecoded d d' k j at bytes low points there all long count is none m keeps st =
+    → {count : ℕ} → count ≡ k.segments - 64 * j → usage_in count bytes ≡ None → LacksTables d d' k
+usage_undecoded d d' k j at bytes low points there all long is none m keeps st =
     let are = subst IsBytes (there keeps) (block_bytes d.content all at) in
-    let some = usage_spelt d.content k m st j low bytes (ap (block d.content) points ∙ there keeps) are (long keeps) in
+    let some = usage_spelt k m st j low bytes (ap (block d.content) points ∙ there keeps) are (long keeps) in
     let nothing : usage_in (k.segments - 64 * j) bytes ≡ None = subst (λ (n : ℕ). usage_in n bytes ≡ None) is none in
     cc
 
@@ -255,14 +256,15 @@ says_nothing c k t = record {
   stale = λ i lt off. absurd (omega (arith, lt));
 }
 
-pub fault_then : (a b c : DeviceState) (k : CheckpointValue) → Looks a b → (f : MountFault) → IsTableFault b c k f → IsTableFault a c k f
-fault_then a b c k looks f =
+pub fault_then : {a b : DeviceState} (c : DeviceState) (k : CheckpointValue) → Looks a b → (f : MountFault) → IsTableFault b c k f
+    → IsTableFault a c k f
+fault_then {a} {b} c k looks f =
     fault_on (b.failures < c.failures) (LacksTables b c k) (a.failures < c.failures) (LacksTables a c k)
     (λ rose. let before = looks.carries.failures in omega (arith, rose, before))
     (λ lacks m keeps st. lacks m keeps (subst (λ (x : Content). HoldsAt x k m) (sym looks.untouched.content) st)) f
 
-pub says_then : (a b : DeviceState) (k : CheckpointValue) (j l : ℕ) (t u : UsageTable) → Looks a b → SaysUsage a.content k j t
+pub says_then : {a b : DeviceState} {k : CheckpointValue} {j l : ℕ} {t u : UsageTable} → Looks a b → SaysUsage a.content k j t
     → (SaysUsage b.content k j t → SaysUsage b.content k l u) → SaysUsage a.content k l u
-says_then a b k j l t u looks says more =
+says_then {k} {j} {l} {t} {u} looks says more =
     subst (λ (x : Content). SaysUsage x k l u) looks.untouched.content
     (more (subst (λ (x : Content). SaysUsage x k j t) (sym looks.untouched.content) says))

@@ -32,12 +32,13 @@ block_bytes c all (suc at) = go (cell_at c (suc at)) (sector_at c (suc at) all)
     go None is = λ i. omega arith
     go (Some bytes) is = is.each
 
-pub read_bytes : (d d' : DeviceState) (c : Content) (at : ℕ) (out : List ℕ) → AllByRecursion IsSector d.content → ReadsContent d d' c
+pub read_bytes : (d : DeviceState) {d' : DeviceState} {c : Content} (at : ℕ) {out : List ℕ} → AllByRecursion IsSector d.content
+    → ReadsContent d d' c
     → block c at ≡ out → IsBytes out
-read_bytes d d' c at out all reads is = subst IsBytes (ap (λ (x : Content). block x at) reads.content ∙ is) (block_bytes d.content all at)
+read_bytes d at all reads is = subst IsBytes (ap (λ (x : Content). block x at) reads.content ∙ is) (block_bytes d.content all at)
 
-pub uses_none : (uses : List SegmentUse) (used live : List ℕ) (at : ℕ) → CopiesUses uses used live used live at 0
-uses_none uses used live at = record {
+pub uses_none : {uses : List SegmentUse} {used live : List ℕ} {at : ℕ} → CopiesUses uses used live used live at 0
+uses_none = record {
   used_own = λ i lt inside. absurd (omega (arith, lt));
   live_own = λ i lt inside. absurd (omega (arith, lt));
   used_before = λ s lt. refl;
@@ -47,23 +48,23 @@ uses_none uses used live at = record {
 }
 
 -- one number more at a place
-put : (mid : List ℕ) (at n x : ℕ) (f : ℕ → ℕ) (size : ℕ) → at + n < length mid → x ≡ f n
+put : (mid : List ℕ) (at n x : ℕ) {f : ℕ → ℕ} (size : ℕ) → at + n < length mid → x ≡ f n
     → ((i : ℕ) → i < n → at + i < size → get_or mid (at + i) 0 ≡ f i)
     → (i : ℕ) → i < n + 1 → at + i < size → get_or (set mid (at + n) x) (at + i) 0 ≡ f i
-put mid at n x f size inside is was i lt within = ⊎_elim
+put mid at n x {f} size inside is was i lt within = ⊎_elim
     (λ (here : i ≡ n). ap (λ (a : ℕ). get_or (set mid (at + n) x) (at + a) 0) here ∙ get_or-set_same mid (at + n) x 0 inside ∙ is
     ∙ ap f (sym here))
     (λ (ne : i ≡ n → ⊥). get_or-set_other mid (at + n) (at + i) x 0 (λ h. ne (omega (arith, h))) ∙ was i (omega (arith, lt, ne)) within)
     (cases_eq i n)
 
-module _ (uses : List SegmentUse) (used live used_then live_then : List ℕ) (at n : ℕ)
+module _ {uses : List SegmentUse} {used live used_then live_then : List ℕ} {at n : ℕ}
     (was : CopiesUses uses used live used_then live_then at n) where
   pub uses_more : (x y : ℕ) → at + n < length used_then → at + n < length live_then → x ≡ (get_or uses n no_use).used
       → y ≡ (get_or uses n no_use).live
       → CopiesUses uses used live (set used_then (at + n) x) (set live_then (at + n) y) at (n + 1)
   uses_more x y inside inside_live is is_live = record {
-    used_own = put used_then at n x (λ i. (get_or uses i no_use).used) (length used) inside is was.used_own;
-    live_own = put live_then at n y (λ i. (get_or uses i no_use).live) (length used) inside_live is_live was.live_own;
+    used_own = put used_then at n x (length used) inside is was.used_own;
+    live_own = put live_then at n y (length used) inside_live is_live was.live_own;
     used_before = λ s lt. get_or-set_other used_then (at + n) s x 0 (λ h. omega (arith, h, lt)) ∙ was.used_before s lt;
     live_before = λ s lt. get_or-set_other live_then (at + n) s y 0 (λ h. omega (arith, h, lt)) ∙ was.live_before s lt;
     used_size = length-set used_then (at + n) x ∙ was.used_size;
@@ -86,9 +87,10 @@ module _ (uses : List SegmentUse) (used live used_then live_then : List ℕ) (at
       }
 
 -- the same for tables that are equal
-pub uses_same : (uses : List SegmentUse) (used live a b a' b' : List ℕ) (at n : ℕ) → a ≡ a' → b ≡ b' → CopiesUses uses used live a' b' at n
+pub uses_same : {uses : List SegmentUse} {used live a : List ℕ} (b a' : List ℕ) {b' : List ℕ} {at : ℕ} (n : ℕ) → a ≡ a' → b ≡ b'
+    → CopiesUses uses used live a' b' at n
     → CopiesUses uses used live a b at n
-uses_same uses used live a b a' b' at n p q is =
+uses_same {uses} {used} {live} b a' {at} n p q is =
     subst (λ (x : List ℕ). CopiesUses uses used live x b at n) (sym p)
     (subst (λ (x : List ℕ). CopiesUses uses used live a' x at n) (sym q) is)
 
@@ -149,8 +151,8 @@ module _ (c : Content) (k : CheckpointValue) (j : ℕ) (low : j < 16) (n : ℕ) 
   usage_at = val ∙ sym (address_linked c k (Usage j))
 
   -- past the last segment
-  pub usage_passed : p ≡ 0 → (m : List ℕ) → Walked (view c k) m j → Walked (view c k) m (j + 1)
-  usage_passed none m w = subst (Walked (view c k) m) (omega arith) (skip (view c k) m j w (Usage j) refl low (sym usage_at ∙ none))
+  pub usage_passed : p ≡ 0 → {m : List ℕ} → Walked (view c k) m j → Walked (view c k) m (j + 1)
+  usage_passed none {m} w = subst (Walked (view c k) m) (omega arith) (skip w (Usage j) refl low (sym usage_at ∙ none))
 
   pub says_passed : n ≤ 64 * j → (used live : List ℕ) → SaysUpTo (view c k) used live j → SaysUpTo (view c k) used live (j + 1)
   says_passed past used live was s lt within = was s (omega (arith, within, past, count)) within
@@ -182,32 +184,31 @@ module _ (c : Content) (k : CheckpointValue) (j : ℕ) (low : j < 16) (n : ℕ) 
   usage_refused : (p ≡ 0 → ⊥) → (m m1 : List ℕ) → (IsUnmarked m p → Says (n - 64 * j) (block c p) → ⊥) → Walked (view c k) m j
       → Usages (view c k) → ⊥
   usage_refused some m m1 not w stage =
-      refused (view c k) m m1 j w (Usage j) refl low p usage_at c (Says (n - 64 * j)) (there, back) false refl
-      (omega arith, not) stage.fresh (good_of stage)
+      refused m1 w (Usage j) refl low usage_at c (Says (n - 64 * j)) (there, back) false refl (omega arith, not) stage.fresh (good_of stage)
 
-  pub usage_missed : (p ≡ 0 → ⊥) → (m m1 : List ℕ) → (IsUnmarked m p → block c p ≡ []) → Walked (view c k) m j → Usages (view c k) → ⊥
-  usage_missed some m m1 none = usage_refused some m m1 (λ o says. let e = sym (ap length (none o)) ∙ says.0 in absurd (cc))
+  pub usage_missed : (p ≡ 0 → ⊥) → {m : List ℕ} (m1 : List ℕ) → (IsUnmarked m p → block c p ≡ []) → Walked (view c k) m j
+      → Usages (view c k) → ⊥
+  usage_missed some {m} m1 none = usage_refused some m m1 (λ o says. let e = sym (ap length (none o)) ∙ says.0 in absurd (cc))
 
   module _ (out : List ℕ) (read : block c p ≡ out) (long : length out ≡ 512) (bytes : IsBytes out) where
     pub usage_undecoded : (p ≡ 0 → ⊥) → (m m1 : List ℕ) → None ≡ usage_in (n - 64 * j) out → Walked (view c k) m j → Usages (view c k) → ⊥
     usage_undecoded some m m1 none = usage_refused some m m1 (λ o says.
-        let e = none ∙ usage_block_some out (n - 64 * j) bytes long (subst (IsUsageBlock (n - 64 * j)) read says.1) in absurd (cc))
+        let e = none ∙ usage_block_some out bytes long (subst (IsUsageBlock (n - 64 * j)) read says.1) in absurd (cc))
 
     module _ (us : List SegmentUse) (spelt : Some us ≡ usage_in (n - 64 * j) out) where
-      pub usage_taken : (m m1 : List ℕ) → IsUnmarked m p → m1 ≡ set m p (suc j) → Walked (view c k) m j → Walked (view c k) m1 (j + 1)
-      usage_taken m m1 o marked w =
+      pub usage_taken : {m m1 : List ℕ} → IsUnmarked m p → m1 ≡ set m p (suc j) → Walked (view c k) m j → Walked (view c k) m1 (j + 1)
+      usage_taken {m} {m1} o marked w =
           let says : Says (n - 64 * j) out = (long, usage_block_found out (n - 64 * j) us bytes long (sym spelt)) in
-          subst (Walked (view c k) m1) (omega arith)
-          (took (view c k) m m1 j w (Usage j) refl low p usage_at c (Says (n - 64 * j)) (there, back) true refl
+          subst (Walked (view c k) m1) (omega arith) (took m1 w (Usage j) refl low usage_at c (Says (n - 64 * j)) (there, back) true refl
           (inr (o, subst (Says (n - 64 * j)) (sym read) says, marked)))
 
       here : block c (address c k (Usage j)) ≡ out
       here = sym (ap (block c) usage_at) ∙ read
 
-      pub says_taken : (used live used_then live_then : List ℕ) → length used ≡ k.segments
+      pub says_taken : {used live used_then live_then : List ℕ} → length used ≡ k.segments
           → CopiesUses us used live used_then live_then (64 * j) 64
           → SaysUpTo (view c k) used live j → SaysUpTo (view c k) used_then live_then (j + 1)
-      says_taken used live used_then live_then size copies was s lt within = ⊎_elim
+      says_taken {used} {used_then} {live_then} size copies was s lt within = ⊎_elim
           (λ (before : s < 64 * j). let w = was s before within in (copies.used_before s before ∙ w.0, copies.live_before s before ∙ w.1))
           (λ (past : 64 * j ≤ s).
           let i = s - 64 * j in
@@ -234,8 +235,8 @@ is_needed j n p k count val inside some = (λ x. omega arith, λ x. omega arith)
 -- all usage blocks
 pub usages_of : (c : Content) (k : CheckpointValue) → k.segments ≤ 1024
     → ((j : ℕ) → j < 16 → (0 < get_or k.usage j 0) ↔ (j < (k.segments + 63) / 64))
-    → (marks : List ℕ) → Walked (view c k) marks 16 → IsBounded (view c k) → Usages (view c k)
-usages_of c k few is_there marks w bounded = usages c k reached all (fresh_of (view c k) marks 16 w bounded 1 within_1)
+    → {marks : List ℕ} → Walked (view c k) marks 16 → IsBounded (view c k) → Usages (view c k)
+usages_of c k few is_there {marks} w bounded = usages c k reached all (fresh_of w bounded 1 within_1)
     (λ j some. (w.good (Usage j) (bounded (Usage j) some) (bounded (Usage j) some) some).readable)
     (λ j lt. let some = all j lt in (good_block c k j (w.good (Usage j) (bounded (Usage j) some) (bounded (Usage j) some) some)).1)
   where

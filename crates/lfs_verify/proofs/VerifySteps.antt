@@ -25,13 +25,13 @@ use Rattle.lfs_verify.specs.Verified.{IsWalkDamage, LacksLogMap, StandsWhereEnou
 use Rattle.lfs_verify.proofs.CodeSteps.{below_1, below_next, stage_1, stage_2, stage_3, stage_4, stage_5, stage_6, stage_7, stage_8}
 use Rattle.lfs_verify.proofs.CodeSteps.{stage_9}
 
-some_is : (a b : CheckpointValue) → Some a ≡ Some b → a ≡ b
-some_is a b e = cc
+some_is : {a b : CheckpointValue} → Some a ≡ Some b → a ≡ b
+some_is e = cc
 
 -- ---- the newest checkpoint
-module _ (d : DeviceState) (lawful : IsLawful d) where
-  pub newest_is : (k : CheckpointValue) → IsNewest d.content k → newest d.content ≡ Some k
-  newest_is k is = ((newest_fits d.content lawful.now).0 k).1 is
+module _ {d : DeviceState} (lawful : IsLawful d) where
+  pub newest_is : {k : CheckpointValue} → IsNewest d.content k → newest d.content ≡ Some k
+  newest_is {k} is = ((newest_fits d.content lawful.now).0 k).1 is
 
   no_newest : HasNoCheckpoint d.content → newest d.content ≡ None
   no_newest none = (newest_fits d.content lawful.now).1.1 none
@@ -39,26 +39,26 @@ module _ (d : DeviceState) (lawful : IsLawful d) where
   pub below_all : d.size < 4098 → IsTooSmall d.content
   below_all low = inl (let long = lawful.size in omega (arith, low, long))
 
-  pub too_few : (k : CheckpointValue) → IsNewest d.content k → d.size < 2 + 64 * k.segments → IsTooSmall d.content
-  too_few k is small = inr (k, newest_is k is, (let long = lawful.size in omega (arith, small, long)))
+  pub too_few : {k : CheckpointValue} → IsNewest d.content k → d.size < 2 + 64 * k.segments → IsTooSmall d.content
+  too_few {k} is small = inr (k, newest_is is, (let long = lawful.size in omega (arith, small, long)))
 
   pub without_checkpoint : 4098 ≤ d.size → HasNoCheckpoint d.content → IsWithoutCheckpoint d.content
   without_checkpoint least none = ((let long = lawful.size in omega (arith, least, long)), no_newest none)
 
 -- ---- the walk
 -- where all of its stages hold, the content holds the log map that is read from it
-holds_by : (c : Content) (k : CheckpointValue) → 2 + 64 * k.segments ≤ length c → Stages (view c k) → HoldsAt c k (log_in (view c k))
-holds_by c k size stages = record { size = size; stages = stages; header = λ n. refl; block = λ n i. refl; version = refl }
+holds_by : (c : Content) {k : CheckpointValue} → 2 + 64 * k.segments ≤ length c → Stages (view c k) → HoldsAt c k (log_in (view c k))
+holds_by c size stages = record { size = size; stages = stages; header = λ n. refl; block = λ n i. refl; version = refl }
 
 -- what is missing to a log map
 pub stands_where_enough : StandsWhereEnough
 stands_where_enough c enough is holds = record {
   checkpoint = is.checkpoint;
   newest = is.newest;
-  stands = record { holds = holds_by c is.checkpoint is.size is.stages; clean = is.clean.0 holds };
+  stands = record { holds = holds_by c is.size is.stages; clean = is.clean.0 holds };
 }
 
-module _ (old new : DeviceState) (lawful : IsLawful old) (k : CheckpointValue) (inside : 2 + 64 * k.segments ≤ old.size)
+module _ {old : DeviceState} (new : DeviceState) (lawful : IsLawful old) (k : CheckpointValue) (inside : 2 + 64 * k.segments ≤ old.size)
     (keeps : new.keeps_model) where
   -- the content that the walk read
   pub read_content : ReadsContent old new old.content
@@ -67,12 +67,12 @@ module _ (old new : DeviceState) (lawful : IsLawful old) (k : CheckpointValue) (
   long_enough : 2 + 64 * k.segments ≤ length old.content
   long_enough = let long = lawful.size in omega (arith, inside, long)
 
-  module _ (enough : Bool)
+  module _ {enough : Bool}
       (says : Stages (view old.content k) × HoldsBelow (view old.content k) 10 × ((enough ≡ true) ↔ EnoughClean (view old.content k))) where
-    pub holds_counted : (totals : BlockTotals) → CountsLog old.content k totals.data_blocks totals.meta_blocks
+    pub holds_counted : {totals : BlockTotals} → CountsLog old.content k totals.data_blocks totals.meta_blocks
         → HoldsCounted old.content k enough totals
-    holds_counted totals counts =
-        let held = holds_by old.content k long_enough says.0 in
+    holds_counted counts =
+        let held = holds_by old.content {k = k} long_enough says.0 in
         record { holds = held; counted = counts (log_in (view old.content k)) held; clean = says.2 }
 
   pub first_damage : newest old.content ≡ Some k → (code : ℕ) → code < 10 → IsDamaged (view old.content k) code
@@ -80,46 +80,45 @@ module _ (old new : DeviceState) (lawful : IsLawful old) (k : CheckpointValue) (
   first_damage found code low damaged = (low, record { checkpoint = k; newest = found; size = long_enough; damaged = damaged })
 
 -- ---- a content that stands for a log map
-module _ (c : Content) (m : LogMap) (is : StandsLog c m) where
+module _ {c : Content} (m : LogMap) (is : StandsLog c m) where
   -- all stages hold for the newest checkpoint
-  stages_of : (k : CheckpointValue) → newest c ≡ Some k → Stages (view c k)
-  stages_of k found =
-      subst (λ (x : CheckpointValue). Stages (view c x)) (some_is is.checkpoint k (sym is.newest ∙ found)) is.stands.holds.stages
+  stages_of : {k : CheckpointValue} → newest c ≡ Some k → Stages (view c k)
+  stages_of {k} found =
+      subst (λ (x : CheckpointValue). Stages (view c x)) (some_is (sym is.newest ∙ found)) is.stands.holds.stages
 
   -- none of the first nine fails
   pub none_fails : (code : ℕ) → code < 10 → IsDamagedIn c code → ⊥
-  none_fails code low fails = fails.damaged.1 (nine (view c fails.checkpoint) (stages_of fails.checkpoint fails.newest) code low)
+  none_fails code low fails = fails.damaged.1 (nine (view c fails.checkpoint) (stages_of fails.newest) code low)
     where
       nine : (v : View) → Stages v → HoldsBelow v 10
       nine v s = below_next v 9 (below_next v 8
           (below_next v 7 (below_next v 6 (below_next v 5 (below_next v 4 (below_next v 3 (below_next v 2 (below_next v 1 (below_1 v)
-          ((stage_1 v).1 s.usages)) ((stage_2 v).1 s.rows)) ((stage_3 v).1 s.maps)) ((stage_4 v).1 s.inodes)) (stage_5 v s.roots))
-          (stage_6 v s.leaves)) ((stage_7 v).1 s.blocks))
-          ((stage_8 v).1 s.named)) ((stage_9 v).1 s.counted)
+          ((stage_1 v).1 s.usages)) ((stage_2 v).1 s.rows)) ((stage_3 v).1 s.maps)) ((stage_4 v).1 s.inodes)) (stage_5 s.roots))
+          (stage_6 s.leaves)) ((stage_7 v).1 s.blocks)) ((stage_8 v).1 s.named)) ((stage_9 v).1 s.counted)
 
 pub stands_for_none : LacksLogMap
 stands_for_none c few m is =
-    let same = some_is is.checkpoint few.checkpoint (sym is.newest ∙ few.newest) in
+    let same = some_is (sym is.newest ∙ few.newest) in
     let clean : false ≡ true = few.clean.1 (subst (λ (k : CheckpointValue). EnoughClean (view c k)) same is.stands.clean) in
     absurd (cc)
 
 -- ---- refusals
-refused_behind : (a b c : DeviceState) → Looks a b → (f : MountFault) → IsRefusedWalk b c f → IsRefusedWalk a c f
-refused_behind a b c looks fault.NoMemory is = tt
-refused_behind a b c looks fault.Device is = let before = looks.carries.failures in omega (arith, is, before)
-refused_behind a b c looks fault.TooSmall is = λ keeps. subst IsTooSmall looks.untouched.content (is keeps)
-refused_behind a b c looks fault.NoCheckpoint is = λ keeps. subst IsWithoutCheckpoint looks.untouched.content (is keeps)
-refused_behind a b c looks (fault.Damaged code) is =
+refused_behind : {a b : DeviceState} (c : DeviceState) → Looks a b → (f : MountFault) → IsRefusedWalk b c f → IsRefusedWalk a c f
+refused_behind c looks fault.NoMemory is = tt
+refused_behind c looks fault.Device is = let before = looks.carries.failures in omega (arith, is, before)
+refused_behind c looks fault.TooSmall is = λ keeps. subst IsTooSmall looks.untouched.content (is keeps)
+refused_behind c looks fault.NoCheckpoint is = λ keeps. subst IsWithoutCheckpoint looks.untouched.content (is keeps)
+refused_behind c looks (fault.Damaged code) is =
     λ keeps. subst (λ (x : Content). IsWalkDamage x code) looks.untouched.content (is keeps)
 
 -- a table that can't be read is a call that failed, where the content holds a log map
-table_refused : (b c : DeviceState) (k : CheckpointValue) (m : LogMap) → (c.keeps_model → HoldsAt b.content k m) → (f : MountFault)
+table_refused : (b c : DeviceState) {k : CheckpointValue} {m : LogMap} → (c.keeps_model → HoldsAt b.content k m) → (f : MountFault)
     → ((f ≡ fault.NoMemory → ⊥) → IsTableFault b c k f) → IsRefusedWalk b c f
-table_refused b c k m stands fault.NoMemory told = tt
-table_refused b c k m stands fault.Device told = told (λ e. cc)
-table_refused b c k m stands fault.TooSmall told = λ keeps. absurd (told (λ e. cc) m keeps (stands keeps))
-table_refused b c k m stands fault.NoCheckpoint told = λ keeps. absurd (told (λ e. cc) m keeps (stands keeps))
-table_refused b c k m stands (fault.Damaged code) told = λ keeps. absurd (told (λ e. cc) m keeps (stands keeps))
+table_refused b c stands fault.NoMemory told = tt
+table_refused b c stands fault.Device told = told (λ e. cc)
+table_refused b c {m} stands fault.TooSmall told = λ keeps. absurd (told (λ e. cc) m keeps (stands keeps))
+table_refused b c {m} stands fault.NoCheckpoint told = λ keeps. absurd (told (λ e. cc) m keeps (stands keeps))
+table_refused b c {m} stands (fault.Damaged code) told = λ keeps. absurd (told (λ e. cc) m keeps (stands keeps))
 
 module _ (d : DeviceState) (lawful : IsLawful d) (m : LogMap) (is : StandsLog d.content m) where
   large : IsTooSmall d.content → ⊥
@@ -130,36 +129,37 @@ module _ (d : DeviceState) (lawful : IsLawful d) (m : LogMap) (is : StandsLog d.
       let size = is.stands.holds.size in
       omega (arith, least, size, low))
       (λ (few : (k : CheckpointValue) × (newest d.content ≡ Some k) × (length d.content < 2 + 64 * k.segments)).
-      let same = ap (λ (x : CheckpointValue). x.segments) (some_is is.checkpoint few.0 (sym is.newest ∙ few.1)) in
+      let same = ap (λ (x : CheckpointValue). x.segments) (some_is (sym is.newest ∙ few.1)) in
       let size = is.stands.holds.size in
       let low = few.2 in
       omega (arith, same, size, low))
       small
 
-  undamaged : (code : ℕ) → IsLogDamage d.content code → ⊥
-  undamaged code (stage_fails damage) = none_fails d.content m is code damage.0 damage.1
-  undamaged code (lacks_clean at few) = stands_for_none d.content few m is
+  undamaged : {code : ℕ} → IsLogDamage d.content code → ⊥
+  undamaged {code} (stage_fails damage) = none_fails m is code damage.0 damage.1
+  undamaged (lacks_clean at few) = stands_for_none d.content few m is
 
 -- why a device isn't opened
-pub open_fault : (old new : DeviceState) → IsLawful old → (f : MountFault) → IsRefusedLog old new f → (f ≡ fault.NoMemory → ⊥)
+pub open_fault : {old : DeviceState} (new : DeviceState) → IsLawful old → (f : MountFault) → IsRefusedLog old new f
+    → (f ≡ fault.NoMemory → ⊥)
     → IsOpenFault old new f
-open_fault old new lawful fault.NoMemory is other = absurd (other refl)
-open_fault old new lawful fault.Device is other = is
-open_fault old new lawful fault.TooSmall is other = λ m keeps stands. large old lawful m stands (is keeps)
-open_fault old new lawful fault.NoCheckpoint is other =
+open_fault new lawful fault.NoMemory is other = absurd (other refl)
+open_fault new lawful fault.Device is other = is
+open_fault {old} new lawful fault.TooSmall is other = λ m keeps stands. large old lawful m stands (is keeps)
+open_fault new lawful fault.NoCheckpoint is other =
     λ m keeps stands. (let some = stands.newest in let none = (is keeps).1 in absurd (cc))
-open_fault old new lawful (fault.Damaged code) is other = λ m keeps stands. undamaged old lawful m stands code (is keeps)
+open_fault {old} new lawful (fault.Damaged code) is other = λ m keeps stands. undamaged old lawful m stands (is keeps)
 
 -- ---- the checkpoint, the walk and the tables, one after the other
-module _ (a b c d : DeviceState) (one : Looks a b) (two : Looks b c) (three : Looks c d) (k : CheckpointValue)
+module _ {a b c d : DeviceState} (one : Looks a b) (two : Looks b c) (three : Looks c d) {k : CheckpointValue}
     (newest_at : b.keeps_model → newest a.content ≡ Some k) where
   newest_later : c.keeps_model → newest b.content ≡ Some k
   newest_later keeps = ap newest one.untouched.content ∙ newest_at (two.carries.kept_before keeps)
 
   pub check_refused : (f : MountFault) → ((c.keeps_model → newest b.content ≡ Some k) → IsRefusedWalk b c f) → IsRefusedWalk a c f
-  check_refused f told = refused_behind a b c one f (told newest_later)
+  check_refused f told = refused_behind c one f (told newest_later)
 
-  module _ (enough : Bool) (totals : BlockTotals) (holds : c.keeps_model → HoldsCounted b.content k enough totals) where
+  module _ {enough : Bool} {totals : BlockTotals} (holds : c.keeps_model → HoldsCounted b.content k enough totals) where
     content_same : c.content ≡ a.content
     content_same = two.untouched.content ∙ one.untouched.content
 
@@ -167,9 +167,9 @@ module _ (a b c d : DeviceState) (one : Looks a b) (two : Looks b c) (three : Lo
     holds_then keeps = subst (λ (x : Content). HoldsAt x k (log_in (view b.content k))) (sym two.untouched.content)
         (holds (three.carries.kept_before keeps)).holds
 
-    pub load_refused : (f : MountFault) → ((f ≡ fault.NoMemory → ⊥) → IsTableFault c d k f) → IsRefusedWalk a d f
-    load_refused f told =
-        refused_behind a b d one f (refused_behind b c d two f (table_refused c d k (log_in (view b.content k)) holds_then f told))
+    pub load_refused : {f : MountFault} → ((f ≡ fault.NoMemory → ⊥) → IsTableFault c d k f) → IsRefusedWalk a d f
+    load_refused {f} told =
+        refused_behind d one f (refused_behind d two f (table_refused c d holds_then f told))
 
     tables_held : FitsCheckpoint k → (t : Tables) → (d.keeps_model → SaysTables c.content k t)
         → (t.data_blocks ≡ totals.data_blocks) × (t.meta_blocks ≡ totals.meta_blocks)
@@ -187,11 +187,11 @@ module _ (a b c d : DeviceState) (one : Looks a b) (two : Looks b c) (three : Lo
           counted = record { stored = same.0 ∙ counted.stored; above = same.1 ∙ counted.above };
         }
 
-    pub log_found : FitsCheckpoint k → (t : Tables) → (d.keeps_model → SaysTables c.content k t)
+    pub log_found : FitsCheckpoint k → {t : Tables} → (d.keeps_model → SaysTables c.content k t)
         → (t.data_blocks ≡ totals.data_blocks) × (t.meta_blocks ≡ totals.meta_blocks)
         → d.keeps_model → IsFound a.content (record { tables = t; enough_clean = enough })
     unfolding tables_held
-    log_found fits t says same keeps = record {
+    log_found fits {t} says same keeps = record {
       tables = tables_held fits t says same keeps;
       clean = subst (λ (x : Content). (enough ≡ true) ↔ EnoughClean (view x k)) one.untouched.content
           (holds (three.carries.kept_before keeps)).clean;
@@ -202,7 +202,7 @@ module _ (a b c d : DeviceState) (one : Looks a b) (two : Looks b c) (three : Lo
         durable (two.carries.kept_before (three.carries.kept_before keeps)) x (two.untouched.crash x (three.untouched.crash x left))
 
 -- ---- the log that was found
-module _ (old new : DeviceState) (found : FoundLog) (holds : new.keeps_model → IsFound old.content found) where
+module _ (old new : DeviceState) {found : FoundLog} (holds : new.keeps_model → IsFound old.content found) where
   pub few_clean : found.enough_clean ≡ false → IsRefusedLog old new (fault.Damaged 15)
   few_clean off keeps =
       let log = holds keeps in

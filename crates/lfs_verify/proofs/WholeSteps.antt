@@ -14,15 +14,15 @@ use Rattle.lfs_verify.proofs.Bounds.{bounded_of}
 use Rattle.lfs_verify.proofs.CodeSteps.{nine_stages, passed_none}
 
 -- the sectors that were read are whole
-pub sized_content : (d d' : DeviceState) → IsLawful d → (c : Content) → ReadsContent d d' c → IsSized c
-sized_content d d' lawful c reads = are_sized c (subst (AllByRecursion IsSector) reads.content lawful.now)
+pub sized_content : {d d' : DeviceState} → IsLawful d → (c : Content) → ReadsContent d d' c → IsSized c
+sized_content lawful c reads = are_sized c (subst (AllByRecursion IsSector) reads.content lawful.now)
 
 -- what a lawful device holds leads nowhere past the bounds, so that a walk over it can begin
-pub passed_start : (d d' : DeviceState) → IsLawful d → (c : Content) → ReadsContent d d' c → (k : CheckpointValue) → FitsCheckpoint k
+pub passed_start : {d d' : DeviceState} → IsLawful d → {c : Content} → ReadsContent d d' c → {k : CheckpointValue} → FitsCheckpoint k
     → (marks : List ℕ) → length marks ≡ 2 + 64 * k.segments → ((a : ℕ) → get_or marks a 0 ≡ 0) → Passed (view c k) marks 0 1
-passed_start d d' lawful c reads k fits marks size empty =
+passed_start lawful {c} reads {k} fits marks size empty =
     let all = subst (AllByRecursion IsSector) reads.content lawful.now in
-    passed_none (view c k) marks (bounded_of c (are_sized c all) k fits.map_length fits.usage_length) size empty
+    passed_none marks (bounded_of c (are_sized c all) k fits.map_length fits.usage_length) size empty
 
 -- what the walk says at its end
 pub walk_end : (v : View) (enough : Bool) → HoldsBelow v 10 × ((enough ≡ true) ↔ EnoughClean v)

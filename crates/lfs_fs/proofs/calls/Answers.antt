@@ -49,9 +49,9 @@ module _ {D : Type 0} (state : D → DeviceState) where
       → (e ≡ fault.Log log.Full → ⊥) → Why e → Serves state v (seen (with_store f store)) call (Refuse (refusal_of (error_of_entry e)))
 
   -- ---- a call has begun, or it walked a path too
-  pub begun_by : (old f : Fs D) → Begins old f → IsBegun state (seen old) f
-  begun_by old f begins =
-      record { still = begun_still state old f begins; ready = begun_ready state old f begins; drafted = begins.drafted }
+  pub begun_by : {old : Fs D} (f : Fs D) → Begins old f → IsBegun state (seen old) f
+  begun_by {old} f begins =
+      record { still = begun_still state f begins; ready = begun_ready state f begins; drafted = begins.drafted }
 
   pub begun_with : {v : Mounted D} {f : Fs D} {path : List ℕ} {follow : Bool} {n : ℕ} → ReachesObject state v f path follow n
       → IsBegun state v f
@@ -61,12 +61,12 @@ module _ {D : Type 0} {state : D → DeviceState} (lawful : (d : D) → IsLawful
     (begun : IsBegun state v f) where
   -- ---- a volume that was only read since its call began
   module _ {call : Call} (quiet : IsQuiet call) where
-    pub answers : (a : Answer) → IsOrdinary a → In state v f (λ m s. Step (segments_of v) s call a s) → Serves state v (seen f) call a
-    answers a ordinary = step_serves state v (seen f) call (lawful v.log.device) begun.still (was state lawful v f begun) a ordinary
+    pub answers : {a : Answer} → IsOrdinary a → In state v f (λ m s. Step (segments_of v) s call a s) → Serves state v (seen f) call a
+    answers {a} ordinary = step_serves v call (lawful v.log.device) begun.still (was state lawful v f begun) a ordinary
         quiet.leaves quiet.unclean quiet.kept
 
     pub lacks_memory : Serves state v (seen f) call (Refuse NoMemory)
-    lacks_memory = memory_serves state v (seen f) call (lawful v.log.device) begun.still (was state lawful v f begun) quiet.memory
+    lacks_memory = memory_serves (lawful v.log.device) begun.still (was state lawful v f begun) quiet.memory
 
   -- ---- its files are read
   module _ (store : Store D) (reads : ReadsTo state f store) where
@@ -118,7 +118,7 @@ module _ {D : Type 0} {state : D → DeviceState} (lawful : (d : D) → IsLawful
 module _ {D : Type 0} {state : D → DeviceState} (lawful : (d : D) → IsLawful (state d)) {old f : Fs D} (begins : Begins old f)
     (store : Store D) (reads : ReadsTo state f store) where
   begun : IsBegun state (seen old) f
-  begun = begun_by state old f begins
+  begun = begun_by state f begins
 
   pub finds_object : {path : List ℕ} {follow : Bool} {n : ℕ}
       → Tells (files_of state f.store) (files_of state store) HasTree (ResolvesTo path follow n)
@@ -128,7 +128,7 @@ module _ {D : Type 0} {state : D → DeviceState} (lawful : (d : D) → IsLawful
     ready = after.ready;
     drafted = after.drafted;
     walk = λ k m0 m s keeps is. subst (λ (t : Tree). Resolve t path follow (At n)) (sym is.log.is)
-        (known lawful begun store reads tells k m0 m s keeps is (tree_of_volume state (seen old) k m0 m s is));
+        (known lawful begun store reads tells k m0 m s keeps is (tree_of_volume is));
   }
 
   pub refuses_path : (path : List ℕ) (follow : Bool) {fault : FsError} (e : WalkFault) → fault ≡ error_of_walk e
@@ -136,9 +136,9 @@ module _ {D : Type 0} {state : D → DeviceState} (lawful : (d : D) → IsLawful
       → (e ≡ walk.Log log.Halted → (files_of state f.store).halted ≡ true) → (e ≡ walk.Log log.Full → ⊥)
       → RefusesPath state old (with_store f store) path follow fault
   refuses_path path follow {fault = fault} e is ends halted other call free unclean memory steps =
-      later_refused state lawful (seen old) f (with_store f store) begun.still begins.running begins.empty
-      (only state lawful (seen old) f begun store reads) (EndsResolve path follow) call free unclean memory
-      (λ k m0 m s keeps is. steps (segments_of (seen old)) s) e fault is
+      later_refused lawful begun.still begins.running begins.empty
+      (only state lawful (seen old) f begun store reads) (EndsResolve path follow) free unclean memory
+      (λ k m0 m s keeps is. steps (segments_of (seen old)) s) is
       (ends_refused state f.store store (EndsResolve path follow) e ends) halted other
 
 -- ---- the object is looked at
@@ -154,8 +154,8 @@ module _ {D : Type 0} {state : D → DeviceState} (lawful : (d : D) → IsLawful
     {follow : Bool} {n : ℕ} (reached : ReachesObject state v f path follow n) where
   -- it is there
   pub object_there : In state v f (λ m s. HasObject n m)
-  object_there k m0 m s keeps is none = resolved_there (segments_of v) s is.log.sound path follow n (reached.walk k m0 m s keeps is)
-      (no_header_none (segments_of v) m s is.log n none)
+  object_there k m0 m s keeps is none = resolved_there s is.log.sound path follow n (reached.walk k m0 m s keeps is)
+      (no_header_none is.log n none)
 
   module _ (store : Store D) (reads : ReadsTo state f store) where
     pub looked : (head : Header) → Tells (files_of state f.store) (files_of state store) (λ m. Unit {0}) (HasHeader n head)

@@ -21,18 +21,18 @@ IsOrdinary _ = Unit {0}
 pub not_halted : (a : Answer) → IsOrdinary a → a ≡ Refuse Halted → ⊥
 not_halted a ordinary e = subst IsOrdinary e ordinary
 
-pub not_stuck : (a : Answer) → IsOrdinary a → a ≡ Refuse Stuck → ⊥
-not_stuck a ordinary e = subst IsOrdinary e ordinary
+pub not_stuck : {a : Answer} → IsOrdinary a → a ≡ Refuse Stuck → ⊥
+not_stuck ordinary e = subst IsOrdinary e ordinary
 
-pub not_memory : (a : Answer) → IsOrdinary a → a ≡ Refuse NoMemory → ⊥
-not_memory a ordinary e = subst IsOrdinary e ordinary
+pub not_memory : {a : Answer} → IsOrdinary a → a ≡ Refuse NoMemory → ⊥
+not_memory ordinary e = subst IsOrdinary e ordinary
 
 -- an answer that isn't a refusal is none
-pub ok_refuses_none : (a : Answer) (r : Refusal) → is_ok a ≡ true → a ≡ Refuse r → ⊥
-ok_refuses_none a r ok e = absurd (let both : false ≡ true = sym (ap (λ (x : Answer). is_ok x) e) ∙ ok in cc)
+pub ok_refuses_none : {a : Answer} {r : Refusal} → is_ok a ≡ true → a ≡ Refuse r → ⊥
+ok_refuses_none ok e = absurd (let both : false ≡ true = sym (ap (λ (x : Answer). is_ok x) e) ∙ ok in cc)
 
-pub not_both : (b : Bool) → b ≡ true → b ≡ false → ⊥
-not_both b on off = absurd (let both : true ≡ false = sym on ∙ off in cc)
+pub not_both : {b : Bool} → b ≡ true → b ≡ false → ⊥
+not_both on off = absurd (let both : true ≡ false = sym on ∙ off in cc)
 
 -- a call that changes something may write
 pub change_writes : (call : Call) → changes call ≡ true → IsTrue (may_write call)
@@ -148,13 +148,13 @@ module _ {D : Type 0} (state : D → DeviceState) where
     quiet = λ e. still.reads.looks.untouched;
     number = λ e. still.reads.number;
     few = (let same = still.reads.number in omega (arith, same));
-    memory = λ takes e. absurd (not_both (takes_no_memory call) takes free);
+    memory = λ takes e. absurd (not_both takes free);
     stuck = λ e. absurd (cc);
     told = tells_none old.log new.log (most_orders call (segments_of old)) still.reads.looks.told;
     one_commit = λ unclean clean. tells_none old.log new.log commit_orders still.reads.looks.told;
   }
 
-  module _ (old new : Mounted D) (call : Call) (a : Answer) where
+  module _ {old new : Mounted D} (call : Call) (a : Answer) where
     -- nothing but reads
     pub still_behaves : IsStill state old new → IsOrdinary a → Behaves state old new call a
     still_behaves still ordinary = record {
@@ -164,8 +164,8 @@ module _ {D : Type 0} (state : D → DeviceState) where
       quiet = λ e. still.reads.looks.untouched;
       number = λ e. still.reads.number;
       few = (let same = still.reads.number in omega (arith, same));
-      memory = λ takes e. absurd (not_memory a ordinary e);
-      stuck = λ e. absurd (not_stuck a ordinary e);
+      memory = λ takes e. absurd (not_memory ordinary e);
+      stuck = λ e. absurd (not_stuck ordinary e);
       told = tells_none old.log new.log (most_orders call (segments_of old)) still.reads.looks.told;
       one_commit = λ unclean clean. tells_none old.log new.log commit_orders still.reads.looks.told;
     }
@@ -177,8 +177,8 @@ module _ {D : Type 0} (state : D → DeviceState) where
       refused = λ r e. table;
       handles = λ e. table;
       first_halted = λ e. inr may;
-      quiet = λ e. absurd (not_both (may_write call) may e);
-      number = λ e. absurd (not_both (may_write call) may e);
+      quiet = λ e. absurd (not_both may e);
+      number = λ e. absurd (not_both may e);
       few = bounded.few;
       memory = memory;
       stuck = none;
@@ -191,14 +191,14 @@ module _ {D : Type 0} (state : D → DeviceState) where
       -- it only reads
       pub opens_behaves : Reads state old.log new.log → Behaves state old new call a
       opens_behaves reads = record {
-        refused = λ r e. absurd (ok_refuses_none a r ok e);
-        handles = λ e. absurd (not_both (changes_handles call) moves e);
-        first_halted = λ e. absurd (ok_refuses_none a Halted ok e);
+        refused = λ r e. absurd (ok_refuses_none ok e);
+        handles = λ e. absurd (not_both moves e);
+        first_halted = λ e. absurd (ok_refuses_none ok e);
         quiet = λ e. reads.looks.untouched;
         number = λ e. reads.number;
         few = (let same = reads.number in omega (arith, same));
-        memory = λ takes e. absurd (ok_refuses_none a NoMemory ok e);
-        stuck = λ e. absurd (ok_refuses_none a Stuck ok e);
+        memory = λ takes e. absurd (ok_refuses_none ok e);
+        stuck = λ e. absurd (ok_refuses_none ok e);
         told = tells_none old.log new.log (most_orders call (segments_of old)) reads.looks.told;
         one_commit = λ unclean clean. tells_none old.log new.log commit_orders reads.looks.told;
       }
@@ -206,14 +206,14 @@ module _ {D : Type 0} (state : D → DeviceState) where
       -- it may write
       pub makes_behaves : IsTrue (may_write call) → IsBounded old new call → Behaves state old new call a
       makes_behaves may bounded = record {
-        refused = λ r e. absurd (ok_refuses_none a r ok e);
-        handles = λ e. absurd (not_both (changes_handles call) moves e);
+        refused = λ r e. absurd (ok_refuses_none ok e);
+        handles = λ e. absurd (not_both moves e);
         first_halted = λ e. inr may;
-        quiet = λ e. absurd (not_both (may_write call) may e);
-        number = λ e. absurd (not_both (may_write call) may e);
+        quiet = λ e. absurd (not_both may e);
+        number = λ e. absurd (not_both may e);
         few = bounded.few;
-        memory = λ takes e. absurd (ok_refuses_none a NoMemory ok e);
-        stuck = λ e. absurd (ok_refuses_none a Stuck ok e);
+        memory = λ takes e. absurd (ok_refuses_none ok e);
+        stuck = λ e. absurd (ok_refuses_none ok e);
         told = bounded.told;
         one_commit = bounded.one_commit;
       }

@@ -14,9 +14,9 @@ adds_fit state a b h k few none is = grown_asks (draft_of a) (draft_of b) h k fe
 -- ---- bytes of files: a draft has room that was begun empty
 
 -- a fault of memory comes of a draft that asks for more
-pub never_large : (fault : StoreFault) (e : FsError) (n : ℕ) → e ≡ error_of_store fault → n ≤ 456 → (fault ≡ store.NoMemory → 456 < n)
+pub never_large : (fault : StoreFault) {e : FsError} (n : ℕ) → e ≡ error_of_store fault → n ≤ 456 → (fault ≡ store.NoMemory → 456 < n)
     → e ≡ error.NoMemory → ⊥
-never_large store.NoMemory e n is low large memory = let high = large refl in omega (arith, low, high)
-never_large (store.Log log.Full) e n is low large memory = let other : e ≡ error.Device = is in cc
-never_large (store.Log log.Device) e n is low large memory = let other : e ≡ error.Device = is in cc
-never_large (store.Log log.Halted) e n is low large memory = let other : e ≡ error.Halted = is in cc
+never_large store.NoMemory n is low large memory = let high = large refl in omega (arith, low, high)
+never_large (store.Log log.Full) {e} n is low large memory = let other : e ≡ error.Device = is in cc
+never_large (store.Log log.Device) {e} n is low large memory = let other : e ≡ error.Device = is in cc
+never_large (store.Log log.Halted) {e} n is low large memory = let other : e ≡ error.Halted = is in cc

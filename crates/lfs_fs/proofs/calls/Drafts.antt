@@ -28,8 +28,8 @@ module _ {D : Type 0} (state : D → DeviceState) where
     pub totals : new.log.totals ≡ old.log.totals
     pub table : new.table ≡ old.table
 
-  pub counted_still : (old new : Mounted D) (m : LogMap) → IsRest old new → AreTotals m old.log.totals → AreTotals m new.log.totals
-  counted_still old new m rest = subst (λ (t : BlockTotals). AreTotals m t) (sym rest.totals)
+  pub counted_still : {old new : Mounted D} (m : LogMap) → IsRest old new → AreTotals m old.log.totals → AreTotals m new.log.totals
+  counted_still m rest = subst (λ (t : BlockTotals). AreTotals m t) (sym rest.totals)
 
   module _ (old new : Mounted D) (call : Call) (lawful : IsLawful (state old.log.device)) (after : IsLawful (state new.log.device))
       (carries : Carries (state old.log.device) (state new.log.device))
@@ -44,11 +44,11 @@ module _ {D : Type 0} (state : D → DeviceState) where
       pub moment : LeavesOnly (state old.log.device) (state new.log.device) (StandsForOn k.segments m0 (dropped m))
       pub saves : acknowledges call a ≡ true → LeavesOne (state new.log.device) (drop_nameless next)
 
-    pub runs_on : (a : Answer) → (a ≡ Refuse Halted → ⊥) → Behaves state old new call a → new.log.halted ≡ false
+    pub runs_on : {a : Answer} → (a ≡ Refuse Halted → ⊥) → Behaves state old new call a → new.log.halted ≡ false
         → ((p : Point) → (state new.log.device).keeps_model → IsAt state old p → (k : CheckpointValue) (m0 m : LogMap)
         → IsIn state old k m0 m p.state → EndsAt a p k m0 m)
         → Serves state old new call a
-    runs_on a fine behaves running each = record {
+    runs_on {a} fine behaves running each = record {
       carries = carries;
       segments = λ e. segments;
       orderly = λ e. absurd (let is = was in cc);
@@ -57,8 +57,8 @@ module _ {D : Type 0} (state : D → DeviceState) where
       model = λ p keeps at. (
           let r = at.running was in
           let end = each p keeps at r.checkpoint r.saved r.present r.is in
-          goes_on_at state old new keeps lawful after carries r.checkpoint r.saved r.present p.state r.is call a p at refl was running later
-          behaves fine end.next end.runs end.steps end.moment end.saves);
+          goes_on_at state new keeps lawful after carries r.is call a p at refl was running later
+          behaves fine end.runs end.steps end.moment end.saves);
     }
 
     -- ---- a draft is staged
@@ -75,11 +75,11 @@ module _ {D : Type 0} (state : D → DeviceState) where
 
       pub accepts_by : Behaves state old new call a → ((p : Point) → (state new.log.device).keeps_model → IsAt state old p
           → (k : CheckpointValue) (m0 m : LogMap) → IsIn state old k m0 m p.state → Drafts p m) → Serves state old new call a
-      accepts_by behaves each = runs_on a fine behaves (done.halted ∙ was) (λ p keeps at k m0 m is. (
+      accepts_by behaves each = runs_on fine behaves (done.halted ∙ was) (λ p keeps at k m0 m is. (
           let drafts = each p keeps at k m0 m is in
-          let log = map_dropped state old new keeps lawful after carries k m0 m p.state is in record {
+          let log = map_dropped state new keeps lawful after carries is in record {
             next = drafts.next;
-            runs = runs_over state old new k m0 m p.state is (with_draft d m) drafts.next
+            runs = runs_over new k m is drafts.next
                 (done.holds k m0 m keeps is.holds drafts.fits log) segments drafts.map drafts.handles drafts.counted
                 (λ e. (done.enough, (let o = done.saves.few in let size = segments in omega (arith, o, low, size))));
             steps = drafts.steps;
@@ -104,41 +104,39 @@ module _ {D : Type 0} (state : D → DeviceState) where
           }
 
       -- what a stop leaves then is the state without its nodes of no name
-      left_one : (k : CheckpointValue) (m0 m : LogMap) (s : State) → IsIn state old k m0 m s → (state new.log.device).keeps_model
+      left_one : (k : CheckpointValue) (m0 m : LogMap) {s : State} → IsIn state old k m0 m s → (state new.log.device).keeps_model
           → IsLogMap (dropped m) → LeavesOne (state new.log.device) (drop_nameless s)
-      left_one k m0 m s is keeps log c left = stands_dropped k.segments c m s
+      left_one k m0 m {s} is keeps log c left = stands_dropped c m s
           (subst (λ (n : ℕ). IsLogOf n m s) (sym is.holds.segments) is.log) (done.left k m0 m keeps is.holds log c left)
 
       pub commits_by : (a : Answer) → (a ≡ Refuse Halted → ⊥) → Behaves state old new call a
           → ((p : Point) → (state new.log.device).keeps_model → IsAt state old p
           → StepsOr (segments_of old) call p a (point_of state new p.state)) → Serves state old new call a
-      commits_by a fine behaves each = runs_on a fine behaves done.running (λ p keeps at k m0 m is. (
-          let log = map_dropped state old new keeps lawful after carries k m0 m p.state is in record {
+      commits_by a fine behaves each = runs_on fine behaves done.running (λ p keeps at k m0 m is. (
+          let log = map_dropped state new keeps lawful after carries is in record {
             next = p.state;
-            runs = runs_over state old new k m0 m p.state is m p.state (over k m0 m keeps is.holds log) segments
-                (map_of_volume state old k m0 m p.state is)
-                (is.handles ∙ sym rest.table) (counted_still old new m rest is.counted) (λ e. absurd (let s = done.saved in cc));
+            runs = runs_over new k m is p.state (over k m0 m keeps is.holds log) segments (map_of_volume is)
+                (is.handles ∙ sym rest.table) (counted_still m rest is.counted) (λ e. absurd (let s = done.saved in cc));
             steps = each p keeps at;
             moment = done.moment k m0 m keeps is.holds log;
-            saves = λ e. left_one k m0 m p.state is keeps log;
+            saves = λ e. left_one k m0 m is keeps log;
           }))
 
     -- ---- it isn't
     module _ (d : Draft) (rest : IsRest old new) (declines : Declines state old.log new.log d)
-        (low : old.log.number < 2 ^ 62) (r : Refusal) (fine : r ≡ Halted → ⊥) where
+        (low : old.log.number < 2 ^ 62) {r : Refusal} (fine : r ≡ Halted → ⊥) where
       not_halted : Refuse r ≡ Refuse Halted → ⊥
       not_halted e = fine (cc)
 
       pub declines_by : Behaves state old new call (Refuse r) → ((p : Point) → (state new.log.device).keeps_model → IsAt state old p
           → (k : CheckpointValue) (m0 m : LogMap) → IsIn state old k m0 m p.state
           → Fits d m × StepsOr (segments_of old) call p (Refuse r) (point_of state new p.state)) → Serves state old new call (Refuse r)
-      declines_by behaves each = runs_on (Refuse r) not_halted behaves (declines.halted ∙ was) (λ p keeps at k m0 m is. (
+      declines_by behaves each = runs_on not_halted behaves (declines.halted ∙ was) (λ p keeps at k m0 m is. (
           let both = each p keeps at k m0 m is in
-          let log = map_dropped state old new keeps lawful after carries k m0 m p.state is in record {
+          let log = map_dropped state new keeps lawful after carries is in record {
             next = p.state;
-            runs = runs_over state old new k m0 m p.state is m p.state (declines.holds k m0 m keeps is.holds both.0 log) segments
-                (map_of_volume state old k m0 m p.state is)
-                (is.handles ∙ sym rest.table) (counted_still old new m rest is.counted)
+            runs = runs_over new k m is p.state (declines.holds k m0 m keeps is.holds both.0 log) segments (map_of_volume is)
+                (is.handles ∙ sym rest.table) (counted_still m rest is.counted)
                 (λ e. (
                   declines.saves.ready (λ f. (is.ready f).0) e,
                   (let o = declines.saves.few in let size = segments in

@@ -23,22 +23,21 @@ module _ {D : Type 0} (state : D → DeviceState) where
   point_of v s = record { state = s; halted = v.log.halted; number = v.log.number; failures = (state v.log.device).failures }
 
   -- a log that was only read has as many clean segments
-  pub clean_still : (a b : LogState D) → Reads state a b → HasClean a → HasClean b
-  clean_still a b reads clean = subst (λ (n : ℕ). HasReserve n b.clean) (sym reads.segments)
+  pub clean_still : {a b : LogState D} → Reads state a b → HasClean a → HasClean b
+  clean_still {a} {b} reads clean = subst (λ (n : ℕ). HasReserve n b.clean) (sym reads.segments)
       (subst (λ (n : ℕ). HasReserve a.segments n) (sym reads.clean) clean)
 
-  pub still_in : (old new : Mounted D) (k : CheckpointValue) (m0 m : LogMap) (s : State) → IsStill state old new → IsIn state old k m0 m s
+  pub still_in : {old new : Mounted D} {k : CheckpointValue} {m0 m : LogMap} {s : State} → IsStill state old new → IsIn state old k m0 m s
       → IsIn state new k m0 m s
-  still_in old new k m0 m s still is = record {
-    holds = held_still state old.log new.log k m0 m still.reads is.holds;
+  still_in {old} {new} {k} {m0} {m} {s} still is = record {
+    holds = held_still state still.reads is.holds;
     map = is.map;
     log = subst (λ (n : ℕ). IsLogOf n m s) same is.log;
     handles = is.handles ∙ sym still.table;
     counted = subst (λ (t : BlockTotals). AreTotals m t) (sym still.reads.totals) is.counted;
     acknowledged = subst (λ (n : ℕ). IsTree n m0) same is.acknowledged;
     ready = λ e. (
-        let r = is.ready (sym still.reads.saved ∙ e) in (
-          clean_still old.log new.log still.reads r.0,
+        let r = is.ready (sym still.reads.saved ∙ e) in ( clean_still still.reads r.0,
           (let low = r.1 in let number = still.reads.number in omega (arith, low, number, same)),
         ));
   }
@@ -47,16 +46,16 @@ module _ {D : Type 0} (state : D → DeviceState) where
       same = sym still.reads.segments
 
   -- what is left before a call is left by it
-  left_still : (d d' : DeviceState) (ss : List State) → IsLawful d → LeavesSome state d → Looks d d' → LeavesStates d d' ss
-  left_still d d' ss lawful some looks =
+  left_still : {d d' : DeviceState} (ss : List State) → IsLawful d → LeavesSome state d → Looks d d' → LeavesStates d d' ss
+  left_still {d} {d'} ss lawful some looks =
       let P : _ = λ c. (s : State) × Stands c s × (Left d s ⊎ Contains ss s) in
-      goes_on d d d' P (started d P lawful was) looks.carries looks.time (λ c left. was c (looks.untouched.crash c left))
+      goes_on P (started P lawful was) looks.carries looks.time (λ c left. was c (looks.untouched.crash c left))
     where
       was : AllLeft d (λ c. (s : State) × Stands c s × (Left d s ⊎ Contains ss s))
       was c left = let is = some c left in (is.0, is.1, inl (record { content = c; may_leave = left; stands = is.1 }))
 
   -- ---- calls that leave the state
-  module _ (old new : Mounted D) (call : Call) (a : Answer) (lawful : IsLawful (state old.log.device)) (still : IsStill state old new)
+  module _ (old new : Mounted D) {call : Call} {a : Answer} (lawful : IsLawful (state old.log.device)) (still : IsStill state old new)
       (was : old.log.halted ≡ false) (fine : a ≡ Refuse Halted → ⊥)
       (behaves : Behaves state old new call a) where
     now : new.log.halted ≡ false
@@ -78,7 +77,7 @@ module _ {D : Type 0} (state : D → DeviceState) where
           checkpoint = r.checkpoint;
           saved = r.saved;
           present = r.present;
-          is = still_in old new r.checkpoint r.saved r.present p.state still r.is;
+          is = still_in still r.is;
         });
         leaves = λ c left. is.leaves c (still.reads.looks.untouched.crash c left);
       };
@@ -93,8 +92,7 @@ module _ {D : Type 0} (state : D → DeviceState) where
         few = (let n = is.number in let same = still.reads.number in omega (arith, n, same));
         quiet = λ e. still.reads.number ∙ sym is.number;
       };
-      leaves = left_still (state old.log.device) (state new.log.device) (drop_nameless p.state ∷ drop_nameless p.state ∷ []) lawful
-          is.leaves still.reads.looks;
+      leaves = left_still (drop_nameless p.state ∷ drop_nameless p.state ∷ []) lawful is.leaves still.reads.looks;
       saves = λ e. absurd (none e);
     }
 
@@ -110,19 +108,19 @@ module _ {D : Type 0} (state : D → DeviceState) where
       model = λ p keeps is. (let r = is.running was in still_at p keeps is (steps p keeps is r.checkpoint r.saved r.present r.is) none);
     }
 
-  pub served_still : (old new : Mounted D) (call : Call) (a : Answer) → IsLawful (state old.log.device) → (still : IsStill state old new)
+  pub served_still : {old new : Mounted D} (call : Call) {a : Answer} → IsLawful (state old.log.device) → (still : IsStill state old new)
       → old.log.halted ≡ false → IsOrdinary a
       → ((p : Point) → (state new.log.device).keeps_model → IsAt state old p → (k : CheckpointValue) (m0 m : LogMap)
       → IsIn state old k m0 m p.state → StepsOr (segments_of old) call p a (point_of new p.state))
       → (acknowledges call a ≡ true → ⊥) → Serves state old new call a
-  served_still old new call a lawful still was ordinary =
-      served_by old new call a lawful still was (not_halted a ordinary) (still_behaves state old new call a still ordinary)
+  served_still {old} {new} call {a} lawful still was ordinary =
+      served_by old new lawful still was (not_halted a ordinary) (still_behaves state call a still ordinary)
 
   -- ---- a volume that was halted
   pub served_halted : (v : Mounted D) (call : Call) → IsLawful (state v.log.device) → v.log.halted ≡ true
       → Serves state v v call (Refuse Halted)
   served_halted v call lawful was = record {
-    carries = carries_none (state v.log.device);
+    carries = carries_none;
     segments = λ e. refl;
     orderly = λ e. (refl, refl);
     halts = λ e. was;
@@ -147,13 +145,13 @@ module _ {D : Type 0} (state : D → DeviceState) where
   }
     where
       left_none : (d : DeviceState) (ss : List State) → IsLawful d → LeavesSome state d → LeavesStates d d ss
-      left_none d ss lawful some = started d (λ c. (s : State) × Stands c s × (Left d s ⊎ Contains ss s)) lawful
+      left_none d ss lawful some = started (λ c. (s : State) × Stands c s × (Left d s ⊎ Contains ss s)) lawful
           (λ c left. (let is = some c left in (is.0, is.1, inl (record { content = c; may_leave = left; stands = is.1 }))))
 
   -- ---- calls that may change the state, or save it
-  module _ (old new : Mounted D) (keeps : (state new.log.device).keeps_model) (lawful : IsLawful (state old.log.device))
+  module _ {old : Mounted D} (new : Mounted D) (keeps : (state new.log.device).keeps_model) (lawful : IsLawful (state old.log.device))
       (after : IsLawful (state new.log.device))
-      (carries : Carries (state old.log.device) (state new.log.device)) (k : CheckpointValue) (m0 m : LogMap) (s : State)
+      (carries : Carries (state old.log.device) (state new.log.device)) {k : CheckpointValue} {m0 m : LogMap} {s : State}
       (is : IsIn state old k m0 m s) where
     abbrev N : ℕ
     N = segments_of old
@@ -170,9 +168,8 @@ module _ {D : Type 0} (state : D → DeviceState) where
     pub leaves_by : (ss : List State) → LeavesOnly (state old.log.device) (state new.log.device) (StandsForOn k.segments m0 (dropped m))
         → LeavesStates (state old.log.device) (state new.log.device) (drop_nameless s ∷ ss)
     leaves_by ss leaves =
-        leaves_states (state old.log.device) lawful (carries.kept_before keeps) k m0 (settled state old.log k m0 m is.holds)
-        (subst (λ (n : ℕ). IsTree n m0) same_count is.acknowledged)
-        (state new.log.device) m s log_by ss leaves
+        leaves_states lawful (carries.kept_before keeps) k m0 (settled state is.holds)
+        (subst (λ (n : ℕ). IsTree n m0) same_count is.acknowledged) m s log_by ss leaves
 
     -- what is left at the end is left meanwhile
     pub some_left : (ss : List State) → LeavesStates (state old.log.device) (state new.log.device) ss
@@ -183,7 +180,7 @@ module _ {D : Type 0} (state : D → DeviceState) where
     -- the volume runs on, in this state
     module _ (call : Call) (a : Answer) (p : Point) (at : IsAt state old p) (here : p.state ≡ s) (was : old.log.halted ≡ false)
         (running : new.log.halted ≡ false) (later : old.log.number ≤ new.log.number)
-        (behaves : Behaves state old new call a) (fine : a ≡ Refuse Halted → ⊥) (next : State) (runs : Runs state new next)
+        (behaves : Behaves state old new call a) (fine : a ≡ Refuse Halted → ⊥) {next : State} (runs : Runs state new next)
         (steps : StepsOr N call p a (point_of new next))
         (moment : LeavesOnly (state old.log.device) (state new.log.device) (StandsForOn k.segments m0 (dropped m)))
         (saves : acknowledges call a ≡ true → LeavesOne (state new.log.device) (drop_nameless next)) where

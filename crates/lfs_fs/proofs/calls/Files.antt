@@ -45,29 +45,27 @@ module _ {D : Type 0} (state : D → DeviceState) where
     pub ready : IsReady f
     pub drafted : drafted_of f.store ≡ (seen f).log.totals
 
-  pub begun_at : (v : Mounted D) (f : Fs D) (path : List ℕ) (d : ℕ) (piece : Option Last) → Reaches state v f path d piece → IsReady f
+  pub begun_at : {v : Mounted D} {f : Fs D} {path : List ℕ} {d : ℕ} {piece : Option Last} → Reaches state v f path d piece → IsReady f
       → IsBegun v f
-  begun_at v f path d piece reached ready = record { still = reached.still; ready = ready; drafted = reached.drafted }
+  begun_at reached ready = record { still = reached.still; ready = ready; drafted = reached.drafted }
 
   -- so it is where it just began
-  pub here_begun : (lawful : (d : D) → IsLawful (state d)) (f : Fs D) → IsReady f → drafted_of f.store ≡ (seen f).log.totals
+  pub here_begun : (lawful : (d : D) → IsLawful (state d)) {f : Fs D} → IsReady f → drafted_of f.store ≡ (seen f).log.totals
       → IsBegun (seen f) f
-  here_begun lawful f ready drafted = record { still = still_none state lawful (seen f); ready = ready; drafted = drafted }
+  here_begun lawful {f} ready drafted = record { still = still_none state lawful (seen f); ready = ready; drafted = drafted }
 
 -- ---- the path of a call has no last piece
-module _ {D : Type 0} (state : D → DeviceState) (lawful : (d : D) → IsLawful (state d)) (v : Mounted D) (f : Fs D) (path : List ℕ) (d : ℕ)
+module _ {D : Type 0} {state : D → DeviceState} (lawful : (d : D) → IsLawful (state d)) {v : Mounted D} {f : Fs D} {path : List ℕ} (d : ℕ)
     (reached : Reaches state v f path d None) (running : (seen f).log.halted ≡ false) where
   pub nameless : (call : Call) → cleans call ≡ false → (r : Refusal) → IsOrdinary (Refuse r)
       → ((s : State) → Sound (segments_of v) s → Parent s.tree path (At d) → no_last path ≡ true
       → Step (segments_of v) s call (Refuse r) s)
       → Serves state v (seen f) call (Refuse r)
   nameless call unclean r ordinary steps =
-      served_still state v (seen f) call (Refuse r) (lawful v.log.device) reached.still
-      (sym reached.still.reads.halted ∙ running) ordinary
+      served_still state call (lawful v.log.device) reached.still (sym reached.still.reads.halted ∙ running) ordinary
       (λ p keeps here k m0 m is. (
       let step = steps p.state is.log.sound (reached.walk k m0 m p.state keeps is) (last_says path None reached.last) in
-      inl (step, refused_not_worn (segments_of v) call p r p.state step unclean)))
-      (not_acknowledged call r)
+      inl (step, refused_not_worn (segments_of v) p step unclean))) (not_acknowledged call r)
 
 module _ {D : Type 0} (state : D → DeviceState) (lawful : (d : D) → IsLawful (state d)) (v : Mounted D) (f : Fs D)
     (begun : IsBegun state v f) where
@@ -75,20 +73,20 @@ module _ {D : Type 0} (state : D → DeviceState) (lawful : (d : D) → IsLawful
   was = sym begun.still.reads.halted ∙ begun.ready.running
 
   -- the log map of a state, with the draft, which is empty
-  pub has_now : (k : CheckpointValue) (m0 m : LogMap) (s : State) → IsIn state v k m0 m s → (files_of state f.store).has m m
-  has_now k m0 m s is = record {
+  pub has_now : {k : CheckpointValue} {m0 m : LogMap} {s : State} → IsIn state v k m0 m s → (files_of state f.store).has m m
+  has_now {k} {m0} {m} {s} is = record {
     checkpoint = k;
     acknowledged = m0;
-    holds = (still_in state v (seen f) k m0 m s begun.still is).holds;
+    holds = (still_in state begun.still is).holds;
     draft = sym (empty_draft (draft_of f.store) m begun.ready.empty).0;
   }
 
   pub fits_now : (m : LogMap) → (files_of state f.store).fits m
   fits_now m = (empty_draft (draft_of f.store) m begun.ready.empty).1
 
-  pub counted_now : (k : CheckpointValue) (m0 m : LogMap) (s : State) → IsIn state v k m0 m s
+  pub counted_now : {k : CheckpointValue} {m0 m : LogMap} {s : State} → IsIn state v k m0 m s
       → AreCounted m (files_of state f.store).drafted
-  counted_now k m0 m s is =
+  counted_now {m} is =
       subst (λ t. IsCounted m t.data_blocks t.meta_blocks) (sym begun.drafted)
       (subst (λ (t : BlockTotals). IsCounted m t.data_blocks t.meta_blocks) (sym begun.still.reads.totals) is.counted)
 
@@ -97,11 +95,11 @@ module _ {D : Type 0} (state : D → DeviceState) (lawful : (d : D) → IsLawful
   apart_now n = empty_apart (draft_of f.store) n begun.ready.empty
 
   -- in a state, at the last piece of the path
-  pub reached_in : (path : List ℕ) (d : ℕ) (l : Last) → Reaches state v f path d (Some l) → (state (seen f).log.device).keeps_model
-      → (k : CheckpointValue) (m0 m : LogMap) (s : State) → IsIn state v k m0 m s → IsReached (segments_of v) m s path d l
-  reached_in path d l reached keeps k m0 m s is = record {
-    map = map_of_volume state v k m0 m s is;
-    headers = headers_of_volume state v k m0 m s is;
+  pub reached_in : {path : List ℕ} {d : ℕ} {l : Last} → Reaches state v f path d (Some l) → (state (seen f).log.device).keeps_model
+      → {k : CheckpointValue} {m0 m : LogMap} {s : State} → IsIn state v k m0 m s → IsReached (segments_of v) m s path d l
+  reached_in reached keeps {k} {m0} {m} {s} is = record {
+    map = map_of_volume is;
+    headers = headers_of_volume is;
     walk = reached.walk k m0 m s keeps is;
     last = reached.last;
     bytes = reached.bytes;
@@ -115,7 +113,7 @@ module _ {D : Type 0} (state : D → DeviceState) (lawful : (d : D) → IsLawful
 
     -- what is told of files holds in a state
     pub told : (P : LogMap → Type 0) → telling.InEach (files_of state f.store) (files_of state store) P → InEach (λ m s. P m)
-    told P each k m0 m s keeps is = each m m keeps (has_now k m0 m s is)
+    told P each k m0 m s keeps is = each m m keeps (has_now is)
 
     abbrev pub after : Fs D
     after = with_store f store
@@ -126,7 +124,7 @@ module _ {D : Type 0} (state : D → DeviceState) (lawful : (d : D) → IsLawful
 
     module _ (still : IsStill state (seen f) (seen after)) where
       pub still_after : IsStill state v (seen after)
-      still_after = still_more state lawful v (seen f) (seen after) begun.still still
+      still_after = still_more state lawful v begun.still still
 
       -- where something is so, a call of the device failed
       pub rose_where : (P : LogMap → Type 0) → telling.InEach (files_of state f.store) (files_of state store)
@@ -134,7 +132,7 @@ module _ {D : Type 0} (state : D → DeviceState) (lawful : (d : D) → IsLawful
           → InEach (λ m s. P m → Rose)
       rose_where P fails k m0 m s keeps is holds =
           let rose : (state (seen f).log.device).failures < (state (volume_of store).device).failures =
-          fails m m keeps (has_now k m0 m s is) holds in
+          fails m m keeps (has_now is) holds in
           let before = begun.still.reads.looks.carries.failures in
           omega (arith, rose, before)
 
@@ -143,7 +141,7 @@ module _ {D : Type 0} (state : D → DeviceState) (lawful : (d : D) → IsLawful
           → (e ≡ log.Halted → (files_of state f.store).halted ≡ true) → (e ≡ log.Full → ⊥) → InEach (λ m s. Rose)
           → Serves state v (seen after) call (Refuse (refusal_of (error_of_log e)))
       unanswered call free log.Device halted other each =
-          failed_serves state v (seen after) call (lawful v.log.device) still_after was free each
+          failed_serves v call (lawful v.log.device) still_after was free each
       unanswered call free log.Halted halted other each = absurd (let on = halted refl in let off = begun.ready.running in cc)
       unanswered call free log.Full halted other each = absurd (other refl)
 
@@ -153,11 +151,10 @@ module _ {D : Type 0} (state : D → DeviceState) (lawful : (d : D) → IsLawful
         pub refused_after : (r : Refusal) → IsOrdinary (Refuse r) → InEach (λ m s. Step (segments_of v) s call (Refuse r) s)
             → Serves state v (seen after) call (Refuse r)
         refused_after r ordinary steps =
-            served_still state v (seen after) call (Refuse r) (lawful v.log.device) still_after was ordinary
+            served_still state call (lawful v.log.device) still_after was ordinary
             (λ p keeps here k m0 m is. (
             let step = steps k m0 m p.state keeps is in
-            inl (step, refused_not_worn (segments_of v) call p r p.state step unclean)))
-            (not_acknowledged call r)
+            inl (step, refused_not_worn (segments_of v) p step unclean))) (not_acknowledged call r)
 
         -- ---- no answer, or no draft
         pub fault_serves : (e : EntryFault) → (e ≡ fault.Log log.Halted → (files_of state f.store).halted ≡ true)
@@ -174,16 +171,16 @@ module _ {D : Type 0} (state : D → DeviceState) (lawful : (d : D) → IsLawful
         fault_serves fault.TooManyLinks halted other each = refused_after refusals.TooManyLinks tt each
         fault_serves fault.DirFull halted other each = refused_after refusals.DirFull tt each
         fault_serves fault.NoMemory halted other each =
-            memory_serves state v (seen after) call (lawful v.log.device) still_after was memory
+            memory_serves {call = call} (lawful v.log.device) still_after was memory
         fault_serves (fault.Log e) halted other each =
             unanswered call free e (λ same. halted (ap fault.Log same)) (λ same. other (ap fault.Log same)) each
 
         -- a draft is given up
-        pub gives_up : (new : Fs D) (e : EntryFault) (result : Result (Unit {0}) FsError) → GivesUp state after new e result
+        pub gives_up : {new : Fs D} {e : EntryFault} {result : Result (Unit {0}) FsError} → GivesUp state after new e result
             → (e ≡ fault.Log log.Halted → (files_of state f.store).halted ≡ true) → (e ≡ fault.Log log.Full → ⊥)
             → InEach (λ m s. Explains call (segments_of v) s Rose e) → (a : Answer)
             → Serves state v (seen new) call (answer_by (λ _. a) result)
-        gives_up new e result gives halted other each a =
+        gives_up {new} {e} gives halted other each a =
             subst (λ r. Serves state v (seen new) call (answer_by (λ _. a) r)) (sym gives.is)
             (subst (λ (w : Mounted D). Serves state v w call (Refuse (refusal_of (error_of_entry e)))) (sym gives.same)
             (fault_serves e halted other each))
@@ -196,21 +193,21 @@ module _ {D : Type 0} (state : D → DeviceState) (lawful : (d : D) → IsLawful
           explained (fault.Log why) failed k m0 m s keeps is = rose_where P failed k m0 m s keeps is (holds k m0 m s keeps is)
           explained other failed k m0 m s keeps is = absurd failed
 
-          pub gives_up_where : (new : Fs D) (e : EntryFault) (result : Result (Unit {0}) FsError) → GivesUp state after new e result
+          pub gives_up_where : {new : Fs D} {e : EntryFault} {result : Result (Unit {0}) FsError} → GivesUp state after new e result
               → telling.FailsWhere (files_of state f.store) (files_of state store) P e
               → (e ≡ fault.Log log.Halted → (files_of state f.store).halted ≡ true) → (e ≡ fault.Log log.Full → ⊥) → (a : Answer)
               → Serves state v (seen new) call (answer_by (λ _. a) result)
-          gives_up_where new e result gives failed halted other a = gives_up new e result gives halted other (explained e failed) a
+          gives_up_where {new} {e} {result} gives failed halted other a = gives_up gives halted other (explained e failed) a
 
     -- ---- the files were only read
     module _ (reads : files.Reads (files_of state f.store) (files_of state store)) where
       pub only : OnlyReads state f after
-      only = path_read state f store reads
+      only = path_read state store reads
 
       pub begun_after : IsBegun state v after
       begun_after = record {
         still = still_after only.still;
-        ready = ready_after state f after begun.ready only;
+        ready = ready_after state begun.ready only;
         drafted = only.drafted ∙ begun.drafted ∙ sym only.still.reads.totals;
       }
 
@@ -261,10 +258,10 @@ module _ {D : Type 0} (state : D → DeviceState) (lawful : (d : D) → IsLawful
               (is : IsIn state v k m0 m s) → ((makes k m0 m s keeps is).answer ≡ x) × ((makes k m0 m s keeps is).next.handles ≡ table)
 
           -- it is staged, or it isn't; the open files stay
-          pub finish_ends : is_ok a ≡ true → EndsWith a v.table → (result : Result (Unit {0}) FsError) → EndsDraft state after new result
+          pub finish_ends : is_ok a ≡ true → EndsWith a v.table → {result : Result (Unit {0}) FsError} → EndsDraft state after new result
               → Serves state v (seen new) call (answer_by (λ _. a) result)
           unfolding drafts
-          finish_ends ok ends result finishes = draft_ends state lawful v after new call a (still_after still_ready) was rest change free
+          finish_ends ok ends {result} finishes = draft_ends state lawful v after new call a (still_after still_ready) was rest change free
               memory unclean drafts ok (λ keeps k m0 m s is. ends k m0 m s keeps is) result finishes.done finishes.refused
 
           -- it isn't
@@ -283,8 +280,8 @@ module _ {D : Type 0} (state : D → DeviceState) (lawful : (d : D) → IsLawful
               change free drafts a ok table (λ keeps k m0 m s is. ends k m0 m s keeps is) behaves stages
 
 -- a volume whose call came to the last piece of a path, and then read
-pub begun_read : {D : Type 0} (state : D → DeviceState) (lawful : (d : D) → IsLawful (state d)) (v : Mounted D) (f : Fs D) (path : List ℕ)
-    (d : ℕ) (piece : Option Last) → Reaches state v f path d piece → IsReady f → (store : Store D)
+pub begun_read : {D : Type 0} {state : D → DeviceState} (lawful : (d : D) → IsLawful (state d)) {v : Mounted D} {f : Fs D} {path : List ℕ}
+    {d : ℕ} {piece : Option Last} → Reaches state v f path d piece → IsReady f → (store : Store D)
     → files.Reads (files_of state f.store) (files_of state store) → IsBegun state v (with_store f store)
-begun_read state lawful v f path d piece reached ready store reads =
-    begun_after state lawful v f (begun_at state v f path d piece reached ready) store reads
+begun_read {state} lawful {v} {f} {path} {d} {piece} reached ready store reads =
+    begun_after state lawful v f (begun_at state reached ready) store reads

@@ -11,27 +11,26 @@ use Rattle.lfs_fs.proofs.calls.Exits.{served_by, served_still}
 
 -- ---- faults
 
-module _ {D : Type 0} (state : D → DeviceState) (old new : Mounted D) (call : Call) (lawful : IsLawful (state old.log.device))
+module _ {D : Type 0} {state : D → DeviceState} {old new : Mounted D} {call : Call} (lawful : IsLawful (state old.log.device))
     (still : IsStill state old new) (was : old.log.halted ≡ false) where
   -- memory was refused
   pub memory_serves : takes_no_memory call ≡ false → Serves state old new call (Refuse NoMemory)
   memory_serves takes =
-      served_by state old new call (Refuse NoMemory) lawful still was (λ e. absurd (cc)) (memory_behaves state old new call still takes)
+      served_by state old new lawful still was (λ e. absurd (cc)) (memory_behaves state old new call still takes)
       (λ p keeps here k m0 m is. inr (NoMemory, refl, takes, refl)) (not_acknowledged call NoMemory)
 
   -- a refusal of the model's, where nothing has changed
-  pub refused_serves : (r : Refusal) → IsOrdinary (Refuse r) → cleans call ≡ false
+  pub refused_serves : {r : Refusal} → IsOrdinary (Refuse r) → cleans call ≡ false
       → InEach state old (λ m s. Step (segments_of old) s call (Refuse r) s) → Serves state old new call (Refuse r)
-  refused_serves r ordinary unclean steps =
-      served_still state old new call (Refuse r) lawful still was ordinary (λ p keeps here k m0 m is. (
+  refused_serves {r} ordinary unclean steps =
+      served_still state call lawful still was ordinary (λ p keeps here k m0 m is. (
       let step = steps k m0 m p.state (still.reads.looks.carries.kept_before keeps) is in
-      inl (step, refused_not_worn (segments_of old) call p r p.state step unclean)))
-      (not_acknowledged call r)
+      inl (step, refused_not_worn (segments_of old) p step unclean))) (not_acknowledged call r)
 
   -- an answer of the model's to a call that changes nothing, and commits nothing
-  pub told_serves : (a : Answer) → IsOrdinary a → changes call ≡ false → cleans call ≡ false → commits call ≡ false
+  pub told_serves : {a : Answer} → IsOrdinary a → changes call ≡ false → cleans call ≡ false → commits call ≡ false
       → InEach state old (λ m s. Step (segments_of old) s call a s) → Serves state old new call a
-  told_serves a ordinary leaves unclean free steps = served_still state old new call a lawful still was ordinary (λ p keeps here k m0 m is.
+  told_serves {a} ordinary leaves unclean free steps = served_still state call {a = a} lawful still was ordinary (λ p keeps here k m0 m is.
       inl (steps k m0 m p.state (still.reads.looks.carries.kept_before keeps) is, never_worn (segments_of old) call p leaves unclean))
       (λ e. (let no = free in absurd (none (commits call) free e)))
     where
@@ -41,7 +40,7 @@ module _ {D : Type 0} (state : D → DeviceState) (old new : Mounted D) (call : 
 
 -- ---- space
 
-module _ {D : Type 0} (state : D → DeviceState) (old new : Mounted D) (lawful : IsLawful (state old.log.device))
+module _ {D : Type 0} (state : D → DeviceState) {old new : Mounted D} (lawful : IsLawful (state old.log.device))
     (still : IsStill state old new) (was : old.log.halted ≡ false) where
   abbrev stored : ℕ
   stored = old.log.totals.data_blocks
@@ -51,7 +50,5 @@ module _ {D : Type 0} (state : D → DeviceState) (old new : Mounted D) (lawful 
 
   pub space_serves : TotalsOfTree
       → Serves state old new Space (Room stored above (stored + 7 * above + 720) (47 * segments_of old))
-  space_serves totals = told_serves state old new Space lawful still was
-      (Room stored above (stored + 7 * above + 720) (47 * segments_of old)) tt refl refl refl (λ k m0 m s keeps is.
-      space_step (segments_of old) m s (map_of_volume state old k m0 m s is) totals (headers_of_volume state old k m0 m s is) stored above
-      is.counted)
+  space_serves totals = told_serves lawful still was tt refl refl refl (λ k m0 m s keeps is.
+      space_step m s (map_of_volume is) totals (headers_of_volume is) above is.counted)

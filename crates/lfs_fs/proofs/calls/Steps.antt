@@ -29,9 +29,9 @@ pub never_worn : (N : ℕ) (call : Call) (p : Point) → changes call ≡ false 
 never_worn N call p still unclean past = ⊎_elim (λ on. let no = unclean in cc) (λ on. let yes_changes = on.0 in let no = still in cc) past.1
 
 -- nor one that the model refuses
-pub refused_not_worn : (N : ℕ) (call : Call) (p : Point) (r : Refusal) (s' : State) → Step N p.state call (Refuse r) s'
+pub refused_not_worn : (N : ℕ) {call : Call} (p : Point) {r : Refusal} {s' : State} → Step N p.state call (Refuse r) s'
     → cleans call ≡ false → IsPastLast N call p → ⊥
-refused_not_worn N call p r s' step unclean past = ⊎_elim
+refused_not_worn N p {r} step unclean past = ⊎_elim
     (λ on. let no = unclean in cc)
     (λ on.
     let would = on.1 in
@@ -41,9 +41,9 @@ refused_not_worn N call p r s' step unclean past = ⊎_elim
     past.1
 
 -- a change that would be done is
-pub worn : (N : ℕ) (call : Call) (p q : Point) → 2 ^ 62 ≤ p.number → changes call ≡ true → (a : Answer) (s' : State)
+pub worn : (N : ℕ) {call : Call} (p q : Point) → 2 ^ 62 ≤ p.number → changes call ≡ true → {a : Answer} {s' : State}
     → Step N p.state call a s' → is_ok a ≡ true → IsExcused N call p q Worn
-worn N call p q high change a s' step ok = (high, inr (change, (a, s', step, ok)))
+worn N p q high change {a} {s'} step ok = (high, inr (change, (a, s', step, ok)))
 
 -- ---- reads
 
@@ -54,11 +54,11 @@ part_clipped b o n =
     ∙ ap (λ (k : ℕ). take k (drop o b)) (let l = length-drop o b in omega (arith, l))
     ∙ take_min n (drop o b)
 
-module _ (N : ℕ) (m : LogMap) (s : State) (is : IsMapOf N m s) where
+module _ {N : ℕ} (m : LogMap) (s : State) (is : IsMapOf N m s) where
   module _ (h n off count : ℕ) (opens : find nat_cmp h s.handles ≡ Some n) (head : Header) (there : m.header n ≡ Some (as_header head))
       (few : count ≤ 65536) (out : List ℕ) where
     was : IsFileOf m s.tree n
-    was = opened_file N m s is.log h n opens
+    was = opened_file is.log h opens
 
     head_is : was.head ≡ as_header head
     head_is = let both : Some was.head ≡ Some (as_header head) = sym was.there ∙ there in cc
@@ -66,8 +66,7 @@ module _ (N : ℕ) (m : LogMap) (s : State) (is : IsMapOf N m s) where
     pub pread_step : out ≡ part (object m n (as_header head)) off count → Step N s (Pread h off count) (Data out) s
     pread_step read =
         subst (λ (b : List ℕ). Step N s (Pread h off count) (Data b) s)
-        (ap (λ (x : entry.Header). part (object m n x) off count) head_is ∙ sym read)
-        (read_done N s h off count n opens few (object m n was.head) was.bytes)
+        (ap (λ (x : entry.Header). part (object m n x) off count) head_is ∙ sym read) (read_done N s h off count n opens few was.bytes)
 
     -- its ends moved back to that of the file
     pub pread_clipped : out ≡ part (object m n (as_header head)) (min off head.size) (min (off + count) head.size - min off head.size)
@@ -78,27 +77,28 @@ module _ (N : ℕ) (m : LogMap) (s : State) (is : IsMapOf N m s) where
         ∙ part_clipped (object m n (as_header head)) off count)
 
   -- ---- what is told
-  pub stat_step : (p : List ℕ) (follow : Bool) (n : ℕ) → Resolve s.tree p follow (At n) → (h : entry.Header) → m.header n ≡ Some h
+  pub stat_step : (p : List ℕ) (follow : Bool) (n : ℕ) → Resolve s.tree p follow (At n) → {h : entry.Header} → m.header n ≡ Some h
       → IsHeaderOf n h
       → Step N s (stat_call follow p) (Status (record { number = n; kind = h.kind; links = h.links; size = h.size })) s
-  stat_step p follow n walk h there fits =
-      subst (λ (x : Stat). Step N s (stat_call follow p) (Status x) s) (stat_is N m s is.log n h there fits) (stat_done N s p follow n walk)
+  stat_step p follow n walk {h} there fits =
+      subst (λ (x : Stat). Step N s (stat_call follow p) (Status x) s) (stat_is is.log n there fits) (stat_done N s p follow n walk)
 
   -- ---- room
   module _ (totals : TotalsOfTree) where
-    pub space_step : ((n : ℕ) (h : entry.Header) → m.header n ≡ Some h → IsHeaderOf n h) → (blocks others : ℕ) → IsCounted m blocks others
+    pub space_step : ((n : ℕ) (h : entry.Header) → m.header n ≡ Some h → IsHeaderOf n h) → {blocks : ℕ} (others : ℕ)
+        → IsCounted m blocks others
         → Step N s Space (Room blocks others (blocks + 7 * others + 720) (47 * N)) s
-    space_step fits blocks others counted =
-        subst (λ (a : Answer). Step N s Space a s) (room_counted totals N m s is fits blocks others counted) (space_done N s)
+    space_step fits {blocks} others counted =
+        subst (λ (a : Answer). Step N s Space a s) (room_counted totals N m s is fits counted) (space_done N s)
 
-    module _ (shaped : IsShaped m) (m' : LogMap) (blocks others : ℕ) (counted : IsCounted m' blocks others) where
+    module _ (shaped : IsShaped m) {m' : LogMap} {blocks others : ℕ} (counted : IsCounted m' blocks others) where
       -- a write of some bytes
-      module _ (h n : ℕ) (opens : find nat_cmp h s.handles ≡ Some n) (head : Header) (there : m.header n ≡ Some (as_header head)) (at : ℕ)
+      module _ (h n : ℕ) (opens : find nat_cmp h s.handles ≡ Some n) {head : Header} (there : m.header n ≡ Some (as_header head)) (at : ℕ)
           (w : List ℕ)
           (writes : WritesFile m m' n head (resized head (max head.size (at + length w))) at w) (some : 0 < length w)
           (few : length w ≤ 65536) (end : at + length w ≤ 8511488) where
         needs : need (written N s h at w) ≡ blocks + 7 * others + 720
-        needs = written_need N m m' s h n is opens head there at w writes end totals shaped blocks others counted
+        needs = written_need m m' s h n is opens head there w writes end totals shaped counted
 
         pwrite_full : 47 * N < blocks + 7 * others + 720 → Step N s (Pwrite h at w) (Refuse NoSpace) s
         pwrite_full lacks = write_no_space N s h at w n opens few some end (let same = needs in omega (arith, same, lacks))
@@ -111,7 +111,7 @@ module _ (N : ℕ) (m : LogMap) (s : State) (is : IsMapOf N m s) where
           pwrite_step = write_done N s h at w n opens few some end fits_in
 
           pwrite_map : AreBytes w → IsMapOf N m' (with_tree s (written N s h at w))
-          pwrite_map bytes = written_map N m m' s h n is opens head there at w writes end bytes fits_in
+          pwrite_map bytes = written_map m m' s h n is opens head there w writes end bytes fits_in
 
         -- with room it is done, and without refused
         pub pwrite_ends : (47 * N < blocks + 7 * others + 720

@@ -24,7 +24,7 @@ module _ {D : Type 0} (state : D → DeviceState) (a b : Store D) where
   -- ---- calls that only read
   module _ (reads : files.Reads (files_of state a) (files_of state b)) where
     pub log_reads : Reads state (volume_of a) (volume_of b)
-    log_reads = reads_staged state (volume_of a) (volume_of b) reads.looks reads.staged
+    log_reads = reads_staged reads.looks reads.staged
 
     pub same_drafted : drafted_of b ≡ drafted_of a
     same_drafted = ap totals_of reads.drafted
@@ -48,16 +48,16 @@ module _ {D : Type 0} (state : D → DeviceState) (a b : Store D) where
       by walk.NoMemory ends = tt
       by (walk.Log fault) ends = each (λ m. (state (volume_of a).device).failures < (state (volume_of b).device).failures) ends
 
-  pub ends_parent : (path chain : List ℕ) (d : ℕ) → d ≡ here chain → Tells (files_of state a) (files_of state b) HasTree
+  pub ends_parent : (path chain : List ℕ) {d : ℕ} → d ≡ here chain → Tells (files_of state a) (files_of state b) HasTree
       (IsParent path chain) → WalksTo state (volume_of a) (volume_of b) (draft_of a) (EndsParent path) (At d)
-  ends_parent path chain d same tells k m0 m keeps holds tree =
+  ends_parent path chain same tells k m0 m keeps holds tree =
       subst (λ (n : ℕ). EndsParent path (tree_in (with_draft (draft_of a) m)) (At n)) (sym same)
       (tells m (with_draft (draft_of a) m) keeps record { checkpoint = k; acknowledged = m0; holds = holds; draft = refl } tree).ends
 
   -- ---- calls that change the draft
   module _ (redrafts : files.Redrafts (files_of state a) (files_of state b)) where
     pub log_redrafts : Reads state (volume_of a) (volume_of b)
-    log_redrafts = reads_staged state (volume_of a) (volume_of b) redrafts.looks redrafts.staged
+    log_redrafts = reads_staged redrafts.looks redrafts.staged
 
 -- a volume whose store was changed no more than its draft, from where it has the same log and totals
 pub still_drafted : {D : Type 0} (state : D → DeviceState) (old : Fs D) (a b : Store D) → volume_of a ≡ (seen old).log

@@ -40,7 +40,7 @@ module _ {D : Type 0} (state : D → DeviceState) (lawful : (d : D) → IsLawful
     failed : (why : EntryFault) → DraftTold headers blocks P Q (Err why) → (result : Result (Unit {0}) FsError)
         → Finishes state (with_store f store) new (Err why) result → Serves state v (seen new) call (answer_by (λ _. Done) result)
     failed why draft result finishes =
-        gives_up state lawful v f begun store (still_ready state lawful v f begun store redrafts) call free unclean memory new why result
+        gives_up state lawful v f begun store (still_ready state lawful v f begun store redrafts) call free unclean memory
         finishes (λ e. draft.only.halted (ap Err e)) (λ e. draft.only.other (ap Err e)) (explains why draft.failed) Done
       where
         explains : (why : EntryFault) → FailsAt s s' why → InEach state lawful v f begun store
@@ -60,7 +60,7 @@ module _ {D : Type 0} (state : D → DeviceState) (lawful : (d : D) → IsLawful
         → (result : Result (Unit {0}) FsError) → Finishes state (with_store f store) new draft result
         → Serves state v (seen new) call (answer_by (λ _. Done) result)
     told_ends ends (Ok u) draft result finishes = finish_ends state lawful v f begun store redrafts call change free memory unclean
-        (makes draft.done draft.counted) new rest Done refl (ends draft.done draft.counted) result finishes
+        (makes draft.done draft.counted) new rest Done refl (ends draft.done draft.counted) finishes
     told_ends ends (Err why) draft result finishes = failed why draft result finishes
 
     -- or the call was to open the file: it is refused,

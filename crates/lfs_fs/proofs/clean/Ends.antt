@@ -26,17 +26,17 @@ module _ {D : Type 0} (state : D → DeviceState) (lawful : (d : D) → IsLawful
       → TellsAtMost state old new (once_orders old.segments)
       → TellsAtMost state old new (room_orders old.segments)
   once_tells old new count tells =
-      let within = once_within old.segments count in
+      let within = once_within count in
       more (once_orders old.segments) (room_orders old.segments) within tells
     where
       more : (few many : ℕ) → few ≤ many → TellsAtMost state old new few → TellsAtMost state old new many
       more few many le tells = omega (arith, le, tells)
 
   -- past the last number nothing is cleaned
-  pub worn_serves : (v : Mounted D) → v.log.halted ≡ false → (fault : FsError) → fault ≡ error.Worn → 2 ^ 62 ≤ v.log.number
+  pub worn_serves : (v : Mounted D) → v.log.halted ≡ false → {fault : FsError} → fault ≡ error.Worn → 2 ^ 62 ≤ v.log.number
       → Serves state v v Clean (Refuse (refusal_of fault))
-  worn_serves v was fault is high = subst (λ (e : FsError). Serves state v v Clean (Refuse (refusal_of e))) (sym is)
-      (served_still state v v Clean (Refuse Worn) (lawful v.log.device) (still_none state lawful v) was tt (λ p keeps here k m0 m is.
+  worn_serves v was is high = subst (λ (e : FsError). Serves state v v Clean (Refuse (refusal_of e))) (sym is)
+      (served_still state Clean {a = Refuse Worn} (lawful v.log.device) (still_none state lawful v) was tt (λ p keeps here k m0 m is.
       inr (Worn, refl, ((let q = here.number in omega (arith, q, high)), inl refl), refl))
       (λ e. cc))
 
@@ -54,43 +54,40 @@ module _ {D : Type 0} (state : D → DeviceState) (lawful : (d : D) → IsLawful
           let size = room.keeps.segments in
           (none.1.clean was.0, omega (arith, low, number, size))
 
-      ends_by : (a : Answer) → (a ≡ Refuse Halted → ⊥) → (a ≡ Refuse Stuck → ⊥)
+      ends_by : {a : Answer} → (a ≡ Refuse Halted → ⊥) → (a ≡ Refuse Stuck → ⊥)
           → ((p : Point) → (state new.log.device).keeps_model → IsAt state old p → (k : CheckpointValue) (m0 m : LogMap)
           → IsIn state old k m0 m p.state → StepsOr (segments_of old) Clean p a (point_of state new p.state))
           → Serves state old new Clean a
-      ends_by a fine none steps =
+      ends_by {a} fine none steps =
           runs_on state old new Clean (lawful old.log.device) (lawful new.log.device) room.keeps.carries room.keeps.segments was
-          room.keeps.later a fine
-          (write_behaves state old new Clean a refl rest.table none (λ never e. absurd (cc))
+          room.keeps.later fine (write_behaves state Clean a refl rest.table none (λ never e. absurd (cc))
           (clean_bounded state old new (let few = room.keeps.number in let most = few_checkpoints old.log in
           omega (arith, few, most)) tells)) room.keeps.running (λ p keeps at k m0 m is. (
-          let log = map_dropped state old new keeps (lawful old.log.device) (lawful new.log.device) room.keeps.carries k m0 m p.state is in
+          let log = map_dropped state new keeps (lawful old.log.device) (lawful new.log.device) room.keeps.carries is in
           record {
             next = p.state;
-            runs = runs_over state old new k m0 m p.state is m p.state
-                (room_holds state old.log new.log room k m0 m keeps is.holds log) room.keeps.segments
-                (map_of_volume state old k m0 m p.state is) (is.handles ∙ sym rest.table)
-                (counted_still state old new m rest is.counted) (λ e. ready e is.ready);
+            runs = runs_over new k m is p.state (room_holds state room k m keeps is.holds log) room.keeps.segments
+                (map_of_volume is) (is.handles ∙ sym rest.table) (counted_still state m rest is.counted) (λ e. ready e is.ready);
             steps = steps p keeps at k m0 m is;
             moment = room.keeps.moment k m0 m keeps is.holds log;
             saves = λ e. absurd (cc);
           }))
 
       pub clean_done_serves : Serves state old new Clean Done
-      clean_done_serves = ends_by Done (λ e. cc) (λ e. cc) (λ p keeps at k m0 m is.
+      clean_done_serves = ends_by (λ e. cc) (λ e. cc) (λ p keeps at k m0 m is.
           inl (clean_done (segments_of old) p.state, not_worn (segments_of old) Clean p (let n = at.number in omega (arith, n, low))))
 
       -- a call of the device failed
       pub clean_failed_serves : IsRoomFault state old.log new.log → Serves state old new Clean (Refuse Device)
-      clean_failed_serves failed = ends_by (Refuse Device) (λ e. cc) (λ e. cc) (λ p keeps at k m0 m is.
+      clean_failed_serves failed = ends_by (λ e. cc) (λ e. cc) (λ p keeps at k m0 m is.
           let rose = failed k m0 m keeps is.holds
-          (map_dropped state old new keeps (lawful old.log.device) (lawful new.log.device) room.keeps.carries k m0 m p.state is) in
+          (map_dropped state new keeps (lawful old.log.device) (lawful new.log.device) room.keeps.carries is) in
           inr (Device, refl, (refl, (let f = at.failures in omega (arith, f, rose))), refl))
 
       -- there is room where the device keeps the model
       pub clean_full_serves : MayNotMakeRoom state old.log new.log → Serves state old new Clean (Refuse Device)
-      clean_full_serves cannot = ends_by (Refuse Device) (λ e. cc) (λ e. cc) (λ p keeps at k m0 m is.
-          absurd (cannot k m0 m keeps (has_room state old (lawful old.log.device) low k m0 m p.state is)))
+      clean_full_serves cannot = ends_by (λ e. cc) (λ e. cc) (λ p keeps at k m0 m is.
+          absurd (cannot k m0 m keeps (has_room (lawful old.log.device) low k m0 m is)))
 
   -- ---- the call
   module _ (old : Fs D) (store : Store D) (was : (seen old).log.halted ≡ false) (totals : (volume_of store).totals ≡ (seen old).log.totals)
@@ -115,14 +112,14 @@ module _ {D : Type 0} (state : D → DeviceState) (lawful : (d : D) → IsLawful
     clean_fault log.Device full device halted =
         let fails = device refl in clean_failed_serves (seen old) (seen new) was rest low tells fails.makes fails.fault
     clean_fault log.Halted full device halted =
-        halts_serves state lawful (seen old) (seen new) Clean was refl refl (most_checkpoints (seen old).log)
+        halts_serves state lawful (seen old) Clean was refl refl
         (few_checkpoints (seen old).log) (λ few. clean_bounded state (seen old) (seen new) few tells) (halted refl)
 
-    pub clean_fails : (fault : LogFault) (e : FsError) → e ≡ error_of_log fault
+    pub clean_fails : (fault : LogFault) {e : FsError} → e ≡ error_of_log fault
         → (fault ≡ log.Full → LacksRoom state (seen old).log (volume_of store))
         → (fault ≡ log.Device → FailsRoom state (seen old).log (volume_of store))
         → (fault ≡ log.Halted → HaltsLater state (seen old).log (volume_of store) (most_checkpoints (seen old).log))
         → Serves state (seen old) (seen new) Clean (Refuse (refusal_of e))
-    clean_fails fault e is full device halted =
+    clean_fails fault is full device halted =
         subst (λ (x : FsError). Serves state (seen old) (seen new) Clean (Refuse (refusal_of x))) (sym is)
         (clean_fault fault full device halted)

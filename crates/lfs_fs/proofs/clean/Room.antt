@@ -5,14 +5,13 @@ use Rattle.lfs_store.specs.cleaner.Room.{MayMakeRoom}
 use Rattle.lfs_steps.proofs.volume.Nodes.{need_counted}
 use Rattle.lfs_fs.proofs.volume.Map.{headers_of_volume, map_of_volume}
 
-module _ {D : Type 0} (state : D → DeviceState) (v : Mounted D) (lawful : IsLawful (state v.log.device))
-    (low : v.log.number < 2 ^ 62) (k : CheckpointValue) (m0 m : LogMap) (s : State) (is : IsIn state v k m0 m s) where
+module _ {D : Type 0} {state : D → DeviceState} {v : Mounted D} (lawful : IsLawful (state v.log.device))
+    (low : v.log.number < 2 ^ 62) (k : CheckpointValue) (m0 m : LogMap) {s : State} (is : IsIn state v k m0 m s) where
   pub has_room : MayMakeRoom state v.log k m0 m
   has_room =
-      let needs = (need_counted totals_of_tree (segments_of v) m s (map_of_volume state v k m0 m s is)
-      (headers_of_volume state v k m0 m s is) v.log.totals.data_blocks v.log.totals.meta_blocks is.counted).0 in
+      let needs = (need_counted totals_of_tree (segments_of v) m s (map_of_volume is) (headers_of_volume is) is.counted).0 in
       let room = is.log.sound.room in
-      let most = (segment_count state v.log k m0 m lawful is.holds).most in
+      let most = (segment_count state lawful is.holds).most in
       let few = few_checkpoints v.log in
       record {
         holds = is.holds;

@@ -32,14 +32,12 @@ module _ {D : Type 0} (state : D → DeviceState) (lawful : (d : D) → IsLawful
   makes drafts counts k m0 m st keeps is =
       let g = may k m0 m st keeps is in
       let at = g.enters.at in
-      let here : s.has m m = has_now state lawful v f begun k m0 m st is in
+      let here : s.has m m = has_now state lawful v f begun is in
       let made : HasFurther s' m m d head n object l.name.now = drafts.has m m keeps here in
       let shape = linked_shape g made.links made.names in
-      let counted = counts m m made.map keeps here made.has at.map.map g.names.there shape.map
-      (counted_now state lawful v f begun k m0 m st is) in
+      let counted = counts m m made.map keeps here made.has at.map.map g.names.there shape.map (counted_now state lawful v f begun is) in
       let needs : need (linked N st a b n d) ≡ need_of after
-      = ap need (sym (linked_tree g made.links made.names))
-      ∙ (need_shaped totals_of_tree made.map shape (drafted_of store).data_blocks (drafted_of store).meta_blocks counted).0 in
+      = ap need (sym (linked_tree g made.links made.names)) ∙ (need_shaped totals_of_tree shape counted).0 in
       let done = λ (room : need_of after ≤ 47 * N).
       link_done N b g.names d at.walk g.enters.taken (few_links g) (omega (arith, needs, room)) in
       record {
@@ -51,8 +49,7 @@ module _ {D : Type 0} (state : D → DeviceState) (lawful : (d : D) → IsLawful
         fits = drafts.fits m m here (fits_now state lawful v f begun m)
             (takes g s (apart_now state lawful v f begun) made.names.file.bytes.size);
         counted = counted;
-        is = λ room. linked_map g made.links made.names
-            (link_keeps N st (with_tree st (linked N st a b n d)) a b Done at.map.log.sound (g.bytes, at.bytes) (done room));
+        is = λ room. linked_map g made.links made.names (link_keeps N st a b Done at.map.log.sound (g.bytes, at.bytes) (done room));
         done = done;
         lacks = λ more. link_no_space N b g.names d at.walk g.enters.taken (few_links g) (omega (arith, needs, more));
       }

@@ -20,22 +20,22 @@ use Rattle.lfs_fs.proofs.paths.Places.{ready_after}
 use Rattle.lfs_fs.proofs.read.Ends.{still_none}
 
 -- ---- the first path names an object
-module _ {D : Type 0} (state : D → DeviceState) (lawful : (d : D) → IsLawful (state d)) {old f : Fs D} {a : List ℕ} {da : ℕ} {la : Last}
+module _ {D : Type 0} {state : D → DeviceState} (lawful : (d : D) → IsLawful (state d)) {old f : Fs D} {a : List ℕ} {da : ℕ} {la : Last}
     (begins : BeginsAt state old f a da la) (store : Store D) (reads : files.Reads (files_of state f.store) (files_of state store))
-    (e : Entry) (has : HasEntry (files_of state f.store) (files_of state store) da la.name.now la.slash e) where
+    {e : Entry} (has : HasEntry (files_of state f.store) (files_of state store) da la.name.now la.slash e) where
   pub names_object : InEach state lawful begins store reads (λ m s. NamesObject m s a da e.object.number.value e.object.header)
   names_object k m0 m s keeps is =
       let g = at state lawful begins store reads k m0 m s keeps is in
       let object = e.object.header in
       let looks : LooksAt m da la.name.now e.holder (Some e.object)
-      = see state lawful begins store reads k m0 m s keeps is (λ x. LooksAt x da la.name.now e.holder (Some e.object)) has.finds.looks in
+      = see state lawful begins store reads keeps is (λ x. LooksAt x da la.name.now e.holder (Some e.object)) has.finds.looks in
       record {
         walk = g.walk;
         named = dots_is g ∙ has.finds.named;
         short = short_is g e.holder looks.looks.header has.finds.short;
-        found = entry_is g e.holder (Some e.object.number.value) looks.looks;
+        found = entry_is g looks.looks;
         ends = slash_is g ∙ has.plain;
-        plain = kind_is g e.holder looks.looks.header la.name.now e.object.number.value (sym looks.looks.gives) object looks.there
+        plain = kind_is g e.holder looks.looks.header la.name.now (sym looks.looks.gives) object looks.there
             ∙ plain_so object.kind has.other;
         there = looks.there;
       }
@@ -46,28 +46,28 @@ Each state old f P = (k : CheckpointValue) (m0 m : LogMap) (s : State) → (stat
     → IsIn state (seen old) k m0 m s → P m s
 
 -- ---- then the second path is walked
-module _ {D : Type 0} (state : D → DeviceState) (lawful : (d : D) → IsLawful (state d)) (old : Fs D) {f : Fs D}
+module _ {D : Type 0} {state : D → DeviceState} (lawful : (d : D) → IsLawful (state d)) (old : Fs D) {f : Fs D}
     (begun : IsBegun state (seen old) f)
     {next : Fs D} (later : OnlyReads state f next) (b : List ℕ) (bytes : AreBytes b) where
-  reaches : (d : ℕ) (piece : Option Last) → FindsPlace state f next b d piece → Reaches state (seen old) next b d piece
-  reaches d piece finds = later_reaches state lawful (seen old) f next begun.still (was state lawful (seen old) f begun) begun.ready.empty
-      later begun.drafted b bytes d piece finds.last finds.walks
+  reaches : (d : ℕ) {piece : Option Last} → FindsPlace state f next b d piece → Reaches state (seen old) next b d piece
+  reaches d {piece} finds = later_reaches lawful begun.still (was state lawful (seen old) f begun) begun.ready.empty
+      later begun.drafted b bytes {d = d} {piece = piece} finds.last finds.walks
 
   ready : IsReady next
-  ready = ready_after state f next begun.ready later
+  ready = ready_after state begun.ready later
 
   pub second_begins : {d : ℕ} {l : Last} → FindsPlace state f next b d (Some l) → BeginsAt state old next b d l
-  second_begins {d} {l} finds = record { reached = reaches d (Some l) finds; ready = ready }
+  second_begins {d} {l} finds = record { reached = reaches d finds; ready = ready }
 
   -- it isn't walked to its end, or has no piece
   module _ (a : List ℕ) (da n : ℕ) (object : Header) (names : Each state old f (λ m s. NamesObject m s a da n object)) where
     names_now : Each state old next (λ m s. NamesObject m s a da n object)
     names_now k m0 m s keeps is = names k m0 m s (later.still.reads.looks.carries.kept_before keeps) is
 
-    unnamed : (d : ℕ) → FindsPlace state f next b d None → Serves state (seen old) (seen next) (LinkTo a b) (Refuse refusals.Exist)
-    unnamed d finds =
-        let reached = reaches d None finds in
-        refused_after state lawful (seen old) next (begun_at state (seen old) next b d None reached ready) next.store
+    unnamed : {d : ℕ} → FindsPlace state f next b d None → Serves state (seen old) (seen next) (LinkTo a b) (Refuse refusals.Exist)
+    unnamed {d} finds =
+        let reached = reaches d finds in
+        refused_after state lawful (seen old) next (begun_at state reached ready) next.store
         (still_none state (seen next)) (LinkTo a b) refl refl refl refusals.Exist tt (λ k m0 m s keeps is.
         new_dots (link_asks (segments_of (seen old)) b (names_now k m0 m s keeps is) d (reached.walk k m0 m s keeps is))
         (ap (λ (x : Bool). x || last_dots b) (last_says b None reached.last)))
@@ -76,12 +76,12 @@ module _ {D : Type 0} (state : D → DeviceState) (lawful : (d : D) → IsLawful
         → Serves state (seen old) (seen next) (LinkTo a b) (Refuse (refusal_of why))
     second_lacks why = ⊎_elim
         (λ fails.
-        later_refused state lawful (seen old) f next begun.still (was state lawful (seen old) f begun) begun.ready.empty later
-        (EndsParent b) (LinkTo a b) refl refl refl
-        (λ k m0 m s keeps is r w. second_refused (segments_of (seen old)) b (names_now k m0 m s keeps is) r w) fails.cause why fails.is
+        later_refused lawful begun.still (was state lawful (seen old) f begun) begun.ready.empty later
+        (EndsParent b) {call = LinkTo a b} refl refl refl
+        (λ k m0 m s keeps is r w. second_refused (segments_of (seen old)) b (names_now k m0 m s keeps is) r w) fails.is
         fails.ends fails.halted fails.other)
         (λ lacks. subst (λ (x : FsError). Serves state (seen old) (seen next) (LinkTo a b) (Refuse (refusal_of x))) (sym lacks.0)
-        (unnamed lacks.1.0 lacks.1.1))
+        (unnamed lacks.1.1))
 
 -- ---- and the rule of a new entry is asked
 module _ {D : Type 0} (state : D → DeviceState) (lawful : (d : D) → IsLawful (state d)) {old f next : Fs D} (later : OnlyReads state f next)
@@ -102,7 +102,7 @@ module _ {D : Type 0} (state : D → DeviceState) (lawful : (d : D) → IsLawful
 
   pub name_refused : (why : EntryFault) → RuleTold (files_of state next.store) (files_of state store) d l false (Err why)
       → Serves state (seen old) (seen (with_store next store)) (LinkTo a b) (Refuse (refusal_of (error_of_entry why)))
-  name_refused why rule = rule_refused state lawful second store rule.only.reads (LinkTo a b) refl refl refl false (asks rule) why rule
+  name_refused why rule = rule_refused state lawful second store rule.only.reads refl refl refl false (asks rule) why rule
 
   module _ (head : Header) (rule : RuleTold (files_of state next.store) (files_of state store) d l false (Ok head)) where
     entering : InEach state lawful second store rule.only.reads (λ m s. Enters N m s b d l false head)

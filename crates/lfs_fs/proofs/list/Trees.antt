@@ -26,11 +26,10 @@ module _ {D : Type 0} (state : D → DeviceState) where
     pub begun : IsBegun state v f
     pub tells : In state v f (λ m s. map row_of rows ++ rows_from s.tree (4096 - a) a ≡ rows_of s.tree)
 
-  pub tree_none : (old f : Fs D) → Begins old f → (rows : List TreeRow) → rows ≡ [] → TreeSoFar (seen old) f 1 rows
-  tree_none old f begins rows none = record {
-    begun = begun_by state old f begins;
-    tells = λ k m0 m s keeps is. ap (λ (l : List TreeRow). map row_of l ++ rows_from s.tree 4095 1) none
-        ∙ all_rows (segments_of (seen old)) m s is.log;
+  pub tree_none : {old f : Fs D} → Begins old f → {rows : List TreeRow} → rows ≡ [] → TreeSoFar (seen old) f 1 rows
+  tree_none {old} {f} begins none = record {
+    begun = begun_by state f begins;
+    tells = λ k m0 m s keeps is. ap (λ (l : List TreeRow). map row_of l ++ rows_from s.tree 4095 1) none ∙ all_rows m s is.log;
   }
 
 module _ {D : Type 0} {state : D → DeviceState} (lawful : (d : D) → IsLawful (state d)) {v : Mounted D} {f : Fs D} {a : ℕ}
@@ -38,7 +37,7 @@ module _ {D : Type 0} {state : D → DeviceState} (lawful : (d : D) → IsLawful
     (so : TreeSoFar state v f a rows) where
   -- all are there
   pub tree_gives : a ≡ 4096 → Serves state v (seen f) ListTree (Rows (map row_of rows))
-  tree_gives last = answers lawful so.begun quiet (Rows (map row_of rows)) tt
+  tree_gives last = answers lawful so.begun quiet tt
       (λ k m0 m s keeps is. subst (λ (x : List ModelRow). Step (segments_of v) s ListTree (Rows x) s)
       (sym (sym (append-nil (map row_of rows)) ∙ ap (λ (l : List ModelRow). map row_of rows ++ l) (sym (rows_end s.tree a last))
       ∙ so.tells k m0 m s keeps is))
@@ -52,8 +51,7 @@ module _ {D : Type 0} {state : D → DeviceState} (lawful : (d : D) → IsLawful
       begun = now lawful so.begun store reads;
       tells = λ k m0 m s keeps is. (
           let one : map row_of more ≡ rows_at s.tree a
-          = shows_rows (map_of_volume state v k m0 m s is) (headers_of_volume state v k m0 m s is) a more
-          (known lawful so.begun store reads has k m0 m s keeps is) in
+          = shows_rows (map_of_volume is) (headers_of_volume is) a more (known lawful so.begun store reads has k m0 m s keeps is) in
           let left = rows_from s.tree (4096 - (a + 1)) (a + 1) in
           ap (λ (l : List TreeRow). map row_of l ++ left) put
           ∙ ap (λ (l : List ModelRow). l ++ left) (map_append row_of rows more)
@@ -65,7 +63,7 @@ module _ {D : Type 0} {state : D → DeviceState} (lawful : (d : D) → IsLawful
 
     pub tree_fails : Fails state v f store ListTree (FailsWhere (files_of state f.store) (files_of state store) AreListable)
     tree_fails = fails_where lawful so.begun store reads quiet
-        (λ k m0 m s keeps is. all_listable (map_of_volume state v k m0 m s is) (headers_of_volume state v k m0 m s is))
+        (λ k m0 m s keeps is. all_listable (map_of_volume is) (headers_of_volume is))
 
     pub tree_full : Serves state v (seen (with_store f store)) ListTree (Refuse NoMemory)
     tree_full = lacks_memory lawful (now lawful so.begun store reads) quiet

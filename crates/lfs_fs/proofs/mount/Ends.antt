@@ -14,18 +14,18 @@ use Rattle.lfs_fs.proofs.mount.State.{found_at, found_running}
 use Rattle.lfs_fs.proofs.calls.Exits.{point_of}
 
 -- ---- the walk, which only read
-module _ (old new : DeviceState) (looks : Looks old new) where
+module _ {old new : DeviceState} (looks : Looks old new) where
   -- the tables lead to what is still there
-  pub tables_there : (t : Tables) → (new.keeps_model → HasTree old.content t) → new.keeps_model → HasTables new.content t
-  tables_there t has keeps = subst (λ (c : Content). HasTables c t) (sym looks.untouched.content) (has keeps).tables
+  pub tables_there : {t : Tables} → (new.keeps_model → HasTree old.content t) → new.keeps_model → HasTables new.content t
+  tables_there {t} has keeps = subst (λ (c : Content). HasTables c t) (sym looks.untouched.content) (has keeps).tables
 
   -- and all of it is durable
   pub only_there : (new.keeps_model → Only old.content new) → new.keeps_model → Only new.content new
   only_there durable keeps = subst (λ (c : Content). Only c new) (sym looks.untouched.content) (durable keeps)
 
 -- a content stands for the tree of its log map
-state_found : (c : Content) (t : Tables) → HasTree c t → (s : State) × Stands c s
-state_found c t has =
+state_found : {c : Content} (t : Tables) → HasTree c t → (s : State) × Stands c s
+state_found t has =
     let m = has.tables.held.log in
     let k = has.tables.held.checkpoint in (
       record { tree = tree_in m; handles = []; version = layout_version k },
@@ -41,7 +41,8 @@ state_found c t has =
     )
 
 -- ---- the volume behind it
-module _ {D : Type 0} (state : D → DeviceState) (d d' : D) (lawful : IsLawful (state d)) (looks : Looks (state d) (state d')) (v : Fs D)
+module _ {D : Type 0} (state : D → DeviceState) (d : D) {d' : D} (lawful : IsLawful (state d)) (looks : Looks (state d) (state d'))
+    (v : Fs D)
     (same : (seen v).log.device ≡ d')
     (mounts : Mounts state d' (seen v).log) (counts : MountsTotals state d' (seen v).log (seen v).log.totals)
     (durable : (state d').keeps_model → Only (state d).content (state d')) where
@@ -72,14 +73,14 @@ module _ {D : Type 0} (state : D → DeviceState) (d d' : D) (lawful : IsLawful 
     }
 
     -- and it stands for one
-    pub finds_state : (t : Tables) → ((state d').keeps_model → HasTree (state d).content t) → FindsState state d v
-    finds_state t has keeps =
-        let found = state_found (state d).content t (has (subst (λ (x : D). (state x).keeps_model) same keeps)) in
+    pub finds_state : {t : Tables} → ((state d').keeps_model → HasTree (state d).content t) → FindsState state d v
+    finds_state {t} has keeps =
+        let found = state_found t (has (subst (λ (x : D). (state x).keeps_model) same keeps)) in
         (found.0, found.1, mounts_fs found.0 keeps found.1)
 
 -- ---- where memory is refused behind the walk
-pub memory_fault : (old new : DeviceState) (f : MountFault) → f ≡ NoMemory → (f ≡ NoMemory → ⊥) → IsMountFault old new f
-memory_fault old new f is other = absurd (other is)
+pub memory_fault : (old new : DeviceState) {f : MountFault} → f ≡ NoMemory → (f ≡ NoMemory → ⊥) → IsMountFault old new f
+memory_fault old new is other = absurd (other is)
 
-pub memory_reason : (old new : DeviceState) (f : MountFault) → f ≡ NoMemory → IsRefused old new f
-memory_reason old new f is = subst (IsRefused old new) (sym is) tt
+pub memory_reason : (old new : DeviceState) {f : MountFault} → f ≡ NoMemory → IsRefused old new f
+memory_reason old new is = subst (IsRefused old new) (sym is) tt

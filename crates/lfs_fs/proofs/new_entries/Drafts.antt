@@ -34,7 +34,7 @@ module _ {D : Type 0} (state : D → DeviceState) (lawful : (d : D) → IsLawful
   begun = read state lawful begins ruled rule.only.reads
 
   may : InEach state lawful v g begun store (IsNew of l head n)
-  may = may_make state lawful begins of ruled head rule few n vacant store redrafts
+  may = may_make lawful begins of ruled head rule few n vacant store redrafts
 
   abbrev s : FilesState StagedLog Draft
   s = files_of state ruled
@@ -56,14 +56,13 @@ module _ {D : Type 0} (state : D → DeviceState) (lawful : (d : D) → IsLawful
       let new = may k m0 m st keeps is in
       let at = new.enters.at in
       let own = asked (λ s. of.own s ≡ false) allowed k m0 m st keeps is in
-      let here : s.has m m = has_now state lawful v g begun k m0 m st is in
+      let here : s.has m m = has_now state lawful v g begun is in
       let made : HasEntry s' m m d head n of.kind l.name.now = drafts.has m m keeps here (lacks new) in
       let shape = new_shape new made.object made.links made.names in
       let counted = counts m m made.map keeps here made.has (lacks new) (known_there new) shape.map
-      (counted_now state lawful v g begun k m0 m st is) in
+      (counted_now state lawful v g begun is) in
       let needs : need (with_new st.tree d path (new_node of.kind)) ≡ need_of after
-      = ap need (sym (new_tree new made.object made.links made.names))
-      ∙ (need_shaped totals_of_tree made.map shape (drafted_of store).data_blocks (drafted_of store).meta_blocks counted).0 in
+      = ap need (sym (new_tree new made.object made.links made.names)) ∙ (need_shaped totals_of_tree shape counted).0 in
       let done = λ (room : need_of after ≤ 47 * segments_of v).
       new_done of st new.same at.walk new.enters.taken own (top_least new) (omega (arith, needs, room)) in
       record {
@@ -101,13 +100,13 @@ module _ {D : Type 0} (state : D → DeviceState) (lawful : (d : D) → IsLawful
     entry_turned =
         told_turned state lawful v g begun store redrafts of.call of.changing of.uncommitted of.remembering of.unclean 4 4 makes new rest
 
-    pub entry_opens : (a : Answer) → is_ok a ≡ true → (table : Handles)
+    pub entry_opens : {a : Answer} → is_ok a ≡ true → (table : Handles)
         → Asked d f.handles head.links (λ s. least s.tree ≡ n → (of.answer s ≡ a) × (of.handles s ≡ table))
         → (IsBounded state v (with_open new table) of.call → Behaves state v (with_open new table) of.call a)
         → (draft : Result (Unit {0}) EntryFault) → EntryTold draft → (u : Unit {0}) → Finishes state after new draft (Ok u)
         → Serves state v (with_open new table) of.call a
     unfolding makes
-    entry_opens a ok table so =
+    entry_opens {a} ok table so =
         told_opens state lawful v g begun store redrafts of.call of.changing of.uncommitted of.remembering of.unclean 4 4 makes new rest a
         ok table
         (λ drafts counts k m0 m st keeps is.

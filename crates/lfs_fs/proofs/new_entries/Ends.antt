@@ -9,9 +9,10 @@ use Rattle.lfs_fs.proofs.calls.Reads.{refused_serves}
 
 module _ {D : Type 0} (state : D → DeviceState) where
   -- one volume after another that were only read
-  pub still_more : (a b c : Mounted D) → IsLawful (state a.log.device) → IsStill state a b → IsStill state b c → IsStill state a c
-  still_more a b c lawful one two = record {
-    reads = reads_more state a.log b.log c.log lawful one.reads two.reads;
+  pub still_more : (a : Mounted D) {b c : Mounted D} → IsLawful (state a.log.device) → IsStill state a b → IsStill state b c
+      → IsStill state a c
+  still_more a {b} {c} lawful one two = record {
+    reads = reads_more state lawful one.reads two.reads;
     table = two.table ∙ one.table;
   }
 
@@ -22,10 +23,10 @@ bytes_of (x ∷ xs) fits = (let first = (fits 0).fits in omega (arith, first), b
 
 -- ---- a link's text that is refused
 
-module _ {D : Type 0} (state : D → DeviceState) (lawful : (d : D) → IsLawful (state d)) (old begun : Fs D) (begins : Begins old begun) where
-  pub text_ends : (text path : List ℕ) (r : Refusal) → text_refusal text ≡ Some r
+module _ {D : Type 0} {state : D → DeviceState} (lawful : (d : D) → IsLawful (state d)) {old begun : Fs D} (begins : Begins old begun) where
+  pub text_ends : (text path : List ℕ) {r : Refusal} → text_refusal text ≡ Some r
       → Serves state (seen begun) (seen begun) (Symlink text path) (Refuse r)
-  text_ends text path r bad =
-      refused_serves state (seen begun) (seen begun) (Symlink text path) (lawful (seen begun).log.device) (only_none state begun).still
-      (ap (λ (v : Mounted D). v.log.halted) begins.same ∙ begins.running) r (text_ordinary text r bad) refl
+  text_ends text path {r} bad =
+      refused_serves (lawful (seen begun).log.device) (only_none state begun).still
+      (ap (λ (v : Mounted D). v.log.halted) begins.same ∙ begins.running) (text_ordinary text r bad) refl
       (λ k m0 m s keeps is. symlink_bad_text (segments_of (seen begun)) s path text is.log.sound.named r bad)

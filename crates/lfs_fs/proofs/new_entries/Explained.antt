@@ -30,25 +30,24 @@ module _ {S D : Type 0} (a b : FilesState S D) {N : ℕ} {m : LogMap} {s : State
     is_taken = record {
       named = dots_is g ∙ takes.named;
       short = short_is g head new_looks.header takes.is_name.short;
-      new = there_is g head None new_looks;
+      new = there_is g new_looks;
       plain = slashed ∙ takes.plain;
       free = free_is g head new_looks.header takes.room;
     }
 
   -- ---- it takes none
-  looks_at : (found : Option ℕ) (gives : Gives a b d l.name.now found) → LooksUp m d l.name.now gives.head found
-  looks_at found gives = see (λ x. LooksUp x d l.name.now gives.head found) gives.looks
+  looks_at : {found : Option ℕ} (gives : Gives a b d l.name.now found) → LooksUp m d l.name.now gives.head found
+  looks_at {found} gives = see (λ x. LooksUp x d l.name.now gives.head found) gives.looks
 
-  not_long : (found : Option ℕ) → Gives a b d l.name.now found → is_long s.tree d p ≡ false
-  not_long found gives = short_is g gives.head (looks_at found gives).header gives.short
+  not_long : {found : Option ℕ} → Gives a b d l.name.now found → is_long s.tree d p ≡ false
+  not_long {found} gives = short_is g gives.head (looks_at gives).header gives.short
 
   -- the pieces of a path are names, but for dots
-  is_named : is_dots l.name.now ≡ false → (found : Option ℕ) (gives : Gives a b d l.name.now found)
+  is_named : is_dots l.name.now ≡ false → {found : Option ℕ} (gives : Gives a b d l.name.now found)
       → IsName (name_len gives.head.form) l.name.now
-  is_named named found gives =
-      subst (IsName (name_len gives.head.form)) (piece_is g)
-      (last_is_name N s g.map.log.sound p d (name_len gives.head.form)
-      (limit_in_directory N m s g.map d (dir g) gives.head (looks_at found gives).header) g.bytes g.walk (dots_is g ∙ named)
+  is_named named {found} gives =
+      subst (IsName (name_len gives.head.form)) (piece_is g) (last_is_name N s g.map.log.sound p d
+      (limit_in_directory N m s g.map d (dir g) gives.head (looks_at gives).header) g.bytes g.walk (dots_is g ∙ named)
       (let same = ap length (piece_is g) in let short = gives.short in omega (arith, same, short)))
 
   pub new_explained : (rose : Type 0) → (TellsFault a b (IsHolder d) → rose) → {call : Call} → ChecksNew N s p d call is_mkdir
@@ -58,16 +57,15 @@ module _ {S D : Type 0} (a b : FilesState S D) {N : ℕ} {m : LogMap} {s : State
       (λ some.
       let gives = some.1.gives in
       let found = Some some.1.number in
-      new_there checks (dots_is g ∙ some.0) (not_long found gives) (there_is g gives.head found (looks_at found gives)))
-      why
+      new_there checks (dots_is g ∙ some.0) (not_long gives) (there_is g (looks_at gives))) why
   new_explained rose rises checks fault.NameTooLong why =
       new_long checks (dots_is g ∙ why.0) (long_is g why.1.head (see (HasHeader d why.1.head) why.1.header) why.1.long)
-  new_explained rose rises checks fault.Inval why = absurd (why.1.none (is_named why.0 why.1.found why.1.gives))
+  new_explained rose rises checks fault.Inval why = absurd (why.1.none (is_named why.0 why.1.gives))
   new_explained rose rises checks fault.NoEntry why =
-      new_slash checks (dots_is g ∙ why.0) (not_long None why.2) (there_is g why.2.head None (looks_at None why.2)) (slashed ∙ why.1)
+      new_slash checks (dots_is g ∙ why.0) (not_long why.2) (there_is g (looks_at why.2)) (slashed ∙ why.1)
   new_explained rose rises checks fault.DirFull why =
       let gives = why.2.gives in
-      new_full checks (dots_is g ∙ why.0) (not_long None gives) (there_is g gives.head None (looks_at None gives)) (slashed ∙ why.1)
-      (full_is g gives.head (looks_at None gives).header why.2.full)
+      new_full checks (dots_is g ∙ why.0) (not_long gives) (there_is g (looks_at gives)) (slashed ∙ why.1)
+      (full_is g gives.head (looks_at gives).header why.2.full)
   new_explained rose rises checks (fault.Log f) why = rises why
   new_explained rose rises checks other why = absurd why

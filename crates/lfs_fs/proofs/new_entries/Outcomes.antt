@@ -16,7 +16,7 @@ use Rattle.lfs_steps.proofs.new_entries.Steps.{new_no_number, new_own}
 use Rattle.lfs_steps.proofs.volume.Directories.{least_number, no_least}
 use Rattle.lfs_fs.proofs.volume.Map.{map_of_volume, version_of_volume}
 
-module _ {D : Type 0} (state : D → DeviceState) (lawful : (d : D) → IsLawful (state d)) {old f : Fs D} {path : List ℕ} {d : ℕ} {l : Last}
+module _ {D : Type 0} {state : D → DeviceState} (lawful : (d : D) → IsLawful (state d)) {old f : Fs D} {path : List ℕ} {d : ℕ} {l : Last}
     (begins : BeginsAt state old f path d l) (of : NewCall (seen old).log.version (segments_of (seen old)) path d) (store : Store D) where
   abbrev N : ℕ
   N = segments_of (seen old)
@@ -25,11 +25,9 @@ module _ {D : Type 0} (state : D → DeviceState) (lawful : (d : D) → IsLawful
   pub entry_refused : (why : EntryFault) → RuleTold (files_of state f.store) (files_of state store) d l of.is_mkdir (Err why)
       → Serves state (seen old) (seen (with_store f store)) of.call (Refuse (refusal_of (error_of_entry why)))
   entry_refused why rule =
-      rule_refused state lawful begins store rule.only.reads of.call of.uncommitted of.unclean of.remembering of.is_mkdir
+      rule_refused state lawful begins store rule.only.reads of.uncommitted of.unclean of.remembering of.is_mkdir
       (λ k m0 m s keeps is.
-      checks_new of s (version_of_volume state (seen old) k m0 m s is)
-      (at state lawful begins store rule.only.reads k m0 m s keeps is).walk)
-      why rule
+      checks_new of s (version_of_volume is) (at state lawful begins store rule.only.reads k m0 m s keeps is).walk) why rule
 
   -- it does
   module _ (head : Header) (rule : RuleTold (files_of state f.store) (files_of state store) d l of.is_mkdir (Ok head)) where
@@ -53,21 +51,19 @@ module _ {D : Type 0} (state : D → DeviceState) (lawful : (d : D) → IsLawful
         → Serves state (seen old) (seen (with_store f store)) of.call (Refuse of.why)
     own_refused ordinary own = refused of.why ordinary (λ k m0 m s keeps is.
         let g = entering k m0 m s keeps is in
-        new_own of s (version_of_volume state (seen old) k m0 m s is) g.at.walk g.taken
-        (asked (λ s. of.own s ≡ true) own k m0 m s keeps is))
+        new_own of s (version_of_volume is) g.at.walk g.taken (asked (λ s. of.own s ≡ true) own k m0 m s keeps is))
 
     holds_in : (k : CheckpointValue) (m0 m : LogMap) (s : State) → IsIn state (seen old) k m0 m s → Holds state (volume_of store) k m0 m
     holds_in k m0 m s is =
-        (still_in state (seen old) (seen (with_store f store)) k m0 m s (read state lawful begins store reads).still is).holds
+        (still_in state (read state lawful begins store reads).still is).holds
 
     -- no number is free
     pub number_refused : Asked d f.handles head.links (λ s. of.own s ≡ false) → HasAll state (volume_of store)
         → Serves state (seen old) (seen (with_store f store)) of.call (Refuse refusals.NoNumber)
     number_refused allowed all = refused refusals.NoNumber tt (λ k m0 m s keeps is.
         let g = entering k m0 m s keeps is in
-        new_no_number of s (version_of_volume state (seen old) k m0 m s is) g.at.walk g.taken
-        (asked (λ s. of.own s ≡ false) allowed k m0 m s keeps is)
-        (no_least N m s (map_of_volume state (seen old) k m0 m s is) (all k m0 m (holds_in k m0 m s is))))
+        new_no_number of s (version_of_volume is) g.at.walk g.taken (asked (λ s. of.own s ≡ false) allowed k m0 m s keeps is)
+        (no_least N m s (map_of_volume is) (all k m0 m (holds_in k m0 m s is))))
 
     -- the call makes the object
     pub may_make : (makes_directory of.kind ≡ true → head.links < MOST_LINKS) → (n : ℕ) → IsVacant state (volume_of store) n
@@ -77,10 +73,10 @@ module _ {D : Type 0} (state : D → DeviceState) (lawful : (d : D) → IsLawful
         let holds = holds_in k m0 m s is in
         record {
           enters = entering k m0 m s (redrafts.looks.carries.kept_before after) is;
-          same = version_of_volume state (seen old) k m0 m s is;
+          same = version_of_volume is;
           links = few;
           free = vacant.free k m0 m holds;
-          first = least_number N m s (map_of_volume state (seen old) k m0 m s is) n vacant.some vacant.few (vacant.free k m0 m holds)
+          first = least_number N m s (map_of_volume is) n vacant.some vacant.few (vacant.free k m0 m holds)
               (λ q low below. vacant.least k m0 m holds q low below);
           top = (let most = vacant.few in omega (arith, most));
         }

@@ -32,18 +32,17 @@ module _ {D : Type 0} (state : D → DeviceState) (lawful : (d : D) → IsLawful
     makes : calls.InEach state lawful v f begun store (Makes state lawful v f begun store redrafts call change free memory unclean)
     makes k m0 m st keeps is =
         let go = may k m0 m st keeps is in
-        let here : s.has m m = has_now state lawful v f begun k m0 m st is in
+        let here : s.has m m = has_now state lawful v f begun is in
         let dropped : HasDropped s' m m d e is_open l.name.now = drafts.has m m keeps here (has_old go).both in
         let table : st.handles ≡ f.handles = is.handles ∙ sym begun.still.table in
         let opens_in : is_open ≡ true → opened st.handles e.object.number.value ≢ 0 = subst (λ hs. is_open ≡ true
         → opened hs e.object.number.value ≢ 0) (sym table) opens in
         let shut_in : is_open ≡ false → is_directory e.object.header.kind ≡ false → opened st.handles e.object.number.value ≡ 0 =
         subst (λ hs. is_open ≡ false → is_directory e.object.header.kind ≡ false → opened hs e.object.number.value ≡ 0) (sym table) shut in
-        let map = gone_map go s' is_open opens_in shut_in dropped in
+        let map = gone_map go s' opens_in shut_in dropped in
         let counted = counts m m dropped.map keeps here dropped.has (has_old go).both (go.shaped.long d) map.map
-        (counted_now state lawful v f begun k m0 m st is) in
-        let room = room_shaped totals_of_tree (segments_of v) dropped.map (gone st path d) map
-        (gone_shape go s' is_open opens_in shut_in dropped) (drafted_of store).data_blocks (drafted_of store).meta_blocks counted in
+        (counted_now state lawful v f begun is) in
+        let room = room_shaped totals_of_tree (segments_of v) map (gone_shape go s' opens_in shut_in dropped) counted in
         record {
           next = gone st path d;
           answer = Done;
@@ -67,9 +66,9 @@ module _ {D : Type 0} (state : D → DeviceState) (lawful : (d : D) → IsLawful
   unfolding makes
   drop_ends new rest (Ok done) result finishes drafts counts failed halted other =
       finish_ends state lawful v f begun store redrafts call change free memory unclean (makes drafts counts) new rest Done refl
-      (λ k m0 m st keeps is. (refl, is.handles)) result finishes
+      (λ k m0 m st keeps is. (refl, is.handles)) finishes
   drop_ends new rest (Err why) result finishes drafts counts failed halted other =
-      gives_up state lawful v f begun store (still_ready state lawful v f begun store redrafts) call free unclean memory new why result
+      gives_up state lawful v f begun store (still_ready state lawful v f begun store redrafts) call free unclean memory
       finishes (λ same. halted (ap Err same)) (λ same. other (ap Err same)) (explains why failed) Done
     where
       explains : (why : EntryFault) → FailsWhere s s' (HasOld d e l.name.now) why → calls.InEach state lawful v f begun store (λ m st.

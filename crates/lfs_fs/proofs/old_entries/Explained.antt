@@ -17,28 +17,24 @@ module _ {S D : Type 0} (a b : FilesState S D) {N : ℕ} {m : LogMap} {s : State
     (rises : TellsFault a b (IsHolder d) → rose) (call : Call) (checks : ChecksOld N s p d call) where
   pub old_explained : (why : EntryFault) → RefusesOld a b d l.name.now l.slash why → Explains call N s rose why
   old_explained fault.Perm why = ⊎_elim
-      (λ dots. old_dots N s p d call checks (dots_is g ∙ dots))
+      (λ dots. old_dots checks (dots_is g ∙ dots))
       (λ some.
       let gives = some.1 in
       let at : LooksAt m d l.name.now gives.entry.holder (Some gives.entry.object) =
       see (λ x. LooksAt x d l.name.now gives.entry.holder (Some gives.entry.object)) gives.looks in
-      old_directory N s p d call checks (dots_is g ∙ some.0) (short_is g gives.entry.holder at.looks.header gives.short)
-      (there_is g gives.entry.holder _ at.looks)
-      (gives_is g gives.entry.holder gives.entry.object.number.value at.looks gives.entry.object.header at.there
-      ∙ ap is_directory gives.is))
-      why
+      old_directory checks (dots_is g ∙ some.0) (short_is g gives.entry.holder at.looks.header gives.short) (there_is g at.looks)
+      (gives_is g at.looks gives.entry.object.header at.there ∙ ap is_directory gives.is)) why
   old_explained fault.NameTooLong why =
-      old_long N s p d call checks (dots_is g ∙ why.0) (long_is g why.1.head (see (HasHeader d why.1.head) why.1.header) why.1.long)
+      old_long checks (dots_is g ∙ why.0) (long_is g why.1.head (see (HasHeader d why.1.head) why.1.header) why.1.long)
   old_explained fault.NoEntry why =
       let at : LooksUp m d l.name.now why.1.head None = see (λ x. LooksUp x d l.name.now why.1.head None) why.1.looks in
-      old_missing N s p d call checks (dots_is g ∙ why.0) (short_is g why.1.head at.header why.1.short) (there_is g why.1.head None at)
+      old_missing checks (dots_is g ∙ why.0) (short_is g why.1.head at.header why.1.short) (there_is g at)
   old_explained fault.NotDir why =
       let gives = why.2 in
       let at : LooksAt m d l.name.now gives.entry.holder (Some gives.entry.object) =
       see (λ x. LooksAt x d l.name.now gives.entry.holder (Some gives.entry.object)) gives.looks in
-      old_slash N s p d call checks (dots_is g ∙ why.0) (short_is g gives.entry.holder at.looks.header gives.short)
-      (there_is g gives.entry.holder _ at.looks) (slash_is g ∙ why.1)
-      (gives_is g gives.entry.holder gives.entry.object.number.value at.looks gives.entry.object.header at.there
+      old_slash checks (dots_is g ∙ why.0) (short_is g gives.entry.holder at.looks.header gives.short)
+      (there_is g at.looks) (slash_is g ∙ why.1) (gives_is g at.looks gives.entry.object.header at.there
       ∙ plain_so gives.entry.object.header.kind gives.is)
   old_explained (fault.Log f) why = rises why
   old_explained other why = absurd why

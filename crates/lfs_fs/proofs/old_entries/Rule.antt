@@ -10,19 +10,18 @@ use Rattle.lfs_fs.proofs.calls.Files.{IsBegun, Rose, begun_at, fault_serves, nam
 use Rattle.lfs_fs.proofs.old_entries.Explained.{old_explained}
 use Rattle.lfs_steps.proofs.old_entries.Steps.{OldCall}
 
-module _ {D : Type 0} (state : D → DeviceState) (lawful : (d : D) → IsLawful (state d)) (v : Mounted D) (f : Fs D) (path : List ℕ) (d : ℕ)
-    (call : Call) (of : OldCall (segments_of v) path d call) (memory : takes_no_memory call ≡ false) where
+module _ {D : Type 0} {state : D → DeviceState} (lawful : (d : D) → IsLawful (state d)) {v : Mounted D} {f : Fs D} {path : List ℕ} {d : ℕ}
+    {call : Call} (of : OldCall (segments_of v) path d call) (memory : takes_no_memory call ≡ false) where
   -- a path without a piece
   pub no_piece_perm : Reaches state v f path d None → (seen f).log.halted ≡ false → Serves state v (seen f) call (Refuse refusals.Perm)
-  no_piece_perm reached running = nameless state lawful v f path d reached running call of.unclean refusals.Perm tt
-      (λ s sound walk says. old_dots (segments_of v) s path d call (of.checks s sound walk)
-      (ap (λ (b : Bool). b || last_dots path) says))
+  no_piece_perm reached running = nameless lawful d reached running call of.unclean refusals.Perm tt
+      (λ s sound walk says. old_dots (of.checks s sound walk) (ap (λ (b : Bool). b || last_dots path) says))
 
   -- the rule takes no entry
-  module _ (l : Last) (reached : Reaches state v f path d (Some l)) (ready : IsReady f) (store : Store D)
+  module _ {l : Last} (reached : Reaches state v f path d (Some l)) (ready : IsReady f) (store : Store D)
       (reads : files.Reads (files_of state f.store) (files_of state store)) where
     begun : IsBegun state v f
-    begun = begun_at state v f path d (Some l) reached ready
+    begun = begun_at state reached ready
 
     pub entry_refused : (why : EntryFault) → (why ≡ fault.Log log.Halted → (files_of state f.store).halted ≡ true)
         → (why ≡ fault.Log log.Full → ⊥) → RefusesOld (files_of state f.store) (files_of state store) d l.name.now l.slash why
@@ -30,7 +29,7 @@ module _ {D : Type 0} (state : D → DeviceState) (lawful : (d : D) → IsLawful
     entry_refused why halted other refuses =
         fault_serves state lawful v f begun store (only state lawful v f begun store reads).still call of.uncommitted of.unclean memory why
         halted other (λ k m0 m s keeps is. (
-        let g = reached_in state lawful v f begun path d l reached (reads.looks.carries.kept_before keeps) k m0 m s is in
+        let g = reached_in state lawful v f begun reached (reads.looks.carries.kept_before keeps) is in
         old_explained (files_of state f.store) (files_of state store) g (λ P all. told state lawful v f begun store P all k m0 m s keeps is)
         (Rose state lawful v f begun store)
         (λ fails. rose_where state lawful v f begun store (only state lawful v f begun store reads).still (IsHolder d) fails k m0 m s keeps

@@ -10,13 +10,13 @@ use Rattle.lfs_store.proofs.of_memory.Removed.{is_without}
 use Rattle.lfs_steps.proofs.volume.KeptMaps.{gone_kept, gone_tree, shifts_gone}
 use Rattle.lfs_steps.proofs.volume.MovedNames.{nothing_at, links_left}
 
-module _ (N : ℕ) (m : LogMap) (s : State) (is : IsMapOf N m s) (h n : ℕ) (opens : find nat_cmp h s.handles ≡ Some n) where
+module _ {N : ℕ} (m : LogMap) {s : State} (is : IsMapOf N m s) (h n : ℕ) (opens : find nat_cmp h s.handles ≡ Some n) where
   file : IsFileOf m s.tree n
-  file = opened_file N m s is.log h n opens
+  file = opened_file is.log h opens
 
   -- a file has as many names as its header says links
-  pub names_by : (g : Header) → m.header n ≡ Some g → names s.tree n ≡ g.links
-  names_by g there = sym (ap (links_at s.tree n) file.node) ∙ ap (λ (t : Tree). links t n) is.log.is ∙ sym (is.log.links n g there)
+  pub names_by : {g : Header} → m.header n ≡ Some g → names s.tree n ≡ g.links
+  names_by {g} there = sym (ap (links_at s.tree n) file.node) ∙ ap (λ (t : Tree). links t n) is.log.is ∙ sym (is.log.links n g there)
 
   -- the file stays
   pub closed_map : (names s.tree n == 0 && opened (rest N s h) n == 0) ≡ false → IsMapOf N m (closed N s h s.tree)
@@ -24,7 +24,7 @@ module _ (N : ℕ) (m : LogMap) (s : State) (is : IsMapOf N m s) (h n : ℕ) (op
     map = is.map;
     long = is.long;
     log = record {
-      sound = close_keeps N s (closed N s h s.tree) h Done is.log.sound (close_stays N s h n opens stays);
+      sound = close_keeps N s h Done is.log.sound (close_stays N s h n opens stays);
       is = is.log.is;
       version = is.log.version;
       formed = is.log.formed;
@@ -45,12 +45,11 @@ module _ (N : ℕ) (m : LogMap) (s : State) (is : IsMapOf N m s) (h n : ℕ) (op
         let no : is_dir (node s.tree 1) ≡ false = ap (λ (q : ℕ). is_dir (node s.tree q)) (sym root) ∙ ap is_dir file.node in cc
 
     pub gone_map : IsShaped m → IsMapOf N m' (closed N s h (without nat_cmp n s.tree))
-    gone_map shaped = map_by (gone_kept m m' n shaped it_is not_root)
-        (close_keeps N s (closed N s h (without nat_cmp n s.tree)) h Done is.log.sound
+    gone_map shaped = map_by (gone_kept m shaped it_is not_root) (close_keeps N s h Done is.log.sound
         (close_goes N s h n opens nameless shut)) is.log.version
-        (gone_tree m m' n shaped it_is not_root ∙ ap (without nat_cmp n) (sym is.log.is))
+        (gone_tree m shaped it_is not_root ∙ ap (without nat_cmp n) (sym is.log.is))
         (λ k g there. (
-        let shift = shifts_gone m m' n 0 it_is k g there in
+        let shift = shifts_gone m' n 0 it_is k g there in
         let same = shift.2 in
         let none = nothing_at n k in
         let was : shift.0.links ≡ links s.tree k = is.log.links k shift.0 shift.1

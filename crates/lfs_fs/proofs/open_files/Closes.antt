@@ -36,9 +36,9 @@ use Rattle.lfs_fs.proofs.write.Exits.{unopened}
 -- ---- fsync
 
 -- through an open handle a sync's step is an fsync's
-fsync_step : (N : ℕ) (s : State) (h n : ℕ) → find nat_cmp h s.handles ≡ Some n → (a : Answer) (s' : State) → Step N s Sync a s'
+fsync_step : (N : ℕ) {s : State} (h n : ℕ) → find nat_cmp h s.handles ≡ Some n → (a : Answer) {s' : State} → Step N s Sync a s'
     → Step N s (Fsync h) a s'
-fsync_step N s h n opens a s' step =
+fsync_step N {s} h n opens a step =
     let done = fsync_done N s h n opens in
     record {
       first_end = done.first_end;
@@ -76,11 +76,11 @@ fsync_excused N h p q DirFull e = absurd e
 fsync_steps : (N h n : ℕ) (p : Point) (a : Answer) (q : Point) → find nat_cmp h p.state.handles ≡ Some n → StepsOr N Sync p a q
     → StepsOr N (Fsync h) p a q
 fsync_steps N h n p a q opens steps = ⊎_elim
-    (λ done. inl (fsync_step N p.state h n opens a q.state done.0, never_worn N (Fsync h) p refl refl))
+    (λ done. inl (fsync_step N h n opens a done.0, never_worn N (Fsync h) p refl refl))
     (λ excused. inr (excused.0, excused.1, fsync_excused N h p q excused.0 excused.2, excused.3))
     steps
 
-module _ {D : Type 0} (state : D → DeviceState) (old new : Mounted D) (was : old.log.halted ≡ false) (h n : ℕ)
+module _ {D : Type 0} {state : D → DeviceState} {old new : Mounted D} (was : old.log.halted ≡ false) (h : ℕ) {n : ℕ}
     (opens : find nat_cmp h old.table ≡ Some n) (a : Answer) where
   fsync_at : (p : Point) → IsAt state old p → ServesAt state old new Sync a p → ServesAt state old new (Fsync h) a p
   fsync_at p at sync = record {
@@ -125,7 +125,7 @@ module _ {D : Type 0} (state : D → DeviceState) (old new : Mounted D) (was : o
 
 -- ---- calls that change no more than memory
 
-module _ {D : Type 0} (state : D → DeviceState) (lawful : (d : D) → IsLawful (state d)) (old new : Mounted D) (was : old.log.halted ≡ false)
+module _ {D : Type 0} {state : D → DeviceState} (lawful : (d : D) → IsLawful (state d)) (old new : Mounted D) (was : old.log.halted ≡ false)
     (alters : Alters state old.log new.log 0 false) (call : Call) (a : Answer) where
   -- What such a call makes of a state that the volume is in.
   pub record Alterations (p : Point) (k : CheckpointValue) (m0 : LogMap) : Type 0 where
@@ -148,7 +148,7 @@ module _ {D : Type 0} (state : D → DeviceState) (lawful : (d : D) → IsLawful
       → IsIn state old k m0 m p.state → Alterations p k m0) → Serves state old new call a
   altered_serves behaves fine none each =
       runs_on state old new call (lawful old.log.device) (lawful new.log.device) alters.looks.carries alters.segments was
-      (let same = alters.number in omega (arith, same)) a fine behaves (alters.halted ∙ was) (λ p keeps here k m0 m is. (
+      (let same = alters.number in omega (arith, same)) fine behaves (alters.halted ∙ was) (λ p keeps here k m0 m is. (
       let does = each p keeps here k m0 m is in record {
         next = does.next;
         runs = record {
@@ -171,21 +171,21 @@ module _ {D : Type 0} (state : D → DeviceState) (lawful : (d : D) → IsLawful
           };
         };
         steps = does.steps;
-        moment = quiet state old new (lawful old.log.device) (lawful new.log.device) was alters.looks k m0 m p.state is;
+        moment = quiet old new (lawful old.log.device) (lawful new.log.device) was alters.looks k m0 m is;
         saves = λ e. absurd (none e);
       }))
 
   -- one that opens or closes a file
   pub closes_behaves : changes_handles call ≡ true → is_ok a ≡ true → Behaves state old new call a
   closes_behaves moves ok = record {
-    refused = λ r e. absurd (ok_refuses_none a r ok e);
+    refused = λ r e. absurd (ok_refuses_none ok e);
     handles = λ e. absurd (let both : true ≡ false = sym moves ∙ e in cc);
-    first_halted = λ e. absurd (ok_refuses_none a Halted ok e);
+    first_halted = λ e. absurd (ok_refuses_none ok e);
     quiet = λ e. alters.looks.untouched;
     number = λ e. alters.number;
     few = (let same = alters.number in omega (arith, same));
-    memory = λ takes e. absurd (ok_refuses_none a NoMemory ok e);
-    stuck = λ e. absurd (ok_refuses_none a Stuck ok e);
+    memory = λ takes e. absurd (ok_refuses_none ok e);
+    stuck = λ e. absurd (ok_refuses_none ok e);
     told = tells_none state old.log new.log (most_orders call (segments_of old)) alters.looks.told;
     one_commit = λ unclean clean. tells_none state old.log new.log commit_orders alters.looks.told;
   }
@@ -199,23 +199,23 @@ module _ {D : Type 0} (state : D → DeviceState) (lawful : (d : D) → IsLawful
     quiet = λ e. alters.looks.untouched;
     number = λ e. alters.number;
     few = (let same = alters.number in omega (arith, same));
-    memory = λ takes e. absurd (not_memory a ordinary e);
-    stuck = λ e. absurd (not_stuck a ordinary e);
+    memory = λ takes e. absurd (not_memory ordinary e);
+    stuck = λ e. absurd (not_stuck ordinary e);
     told = tells_none state old.log new.log (most_orders call (segments_of old)) alters.looks.told;
     one_commit = λ unclean clean. tells_none state old.log new.log commit_orders alters.looks.told;
   }
 
 -- ---- close
 
-module _ {D : Type 0} (state : D → DeviceState) (lawful : (d : D) → IsLawful (state d)) where
+module _ {D : Type 0} {state : D → DeviceState} (lawful : (d : D) → IsLawful (state d)) where
   -- the handle gives no file
   pub close_unopened : (v : Mounted D) → v.log.halted ≡ false → (h : ℕ) (fault : FsError) → GivesNone v.table h fault
       → Serves state v v (Close h) (Refuse (refusal_of fault))
-  close_unopened v was h = unopened state lawful v was (Close h) h refl (λ N s none. close_bad_handle N s h none)
+  close_unopened v was h = unopened lawful v was h refl (λ N s none. close_bad_handle N s h none)
 
   pub fsync_unopened : (v : Mounted D) → v.log.halted ≡ false → (h : ℕ) (fault : FsError) → GivesNone v.table h fault
       → Serves state v v (Fsync h) (Refuse (refusal_of fault))
-  fsync_unopened v was h = unopened state lawful v was (Fsync h) h refl (λ N s none. fsync_bad_handle N s h none)
+  fsync_unopened v was h = unopened lawful v was h refl (λ N s none. fsync_bad_handle N s h none)
 
   module _ (old new : Mounted D) (was : old.log.halted ≡ false) (h n : ℕ)
       (opens : find nat_cmp h old.table ≡ Some n) where
@@ -232,11 +232,10 @@ module _ {D : Type 0} (state : D → DeviceState) (lawful : (d : D) → IsLawful
           → (names s.tree n == 0 && opened (without nat_cmp h s.handles) n == 0) ≡ false)
           → Serves state old new (Close h) Done
       close_keeps reads stays =
-          table_serves state old new (lawful old.log.device) (lawful new.log.device) was (Close h) Done reads refl refl
+          table_serves old new (lawful old.log.device) (lawful new.log.device) was (Close h) Done reads refl refl
           (λ e. cc) (λ p keeps here k m0 m is. record {
             next = closed (segments_of old) p.state h p.state.tree;
-            map = closed_map (segments_of old) m p.state (map_of_volume state old k m0 m p.state is) h n (opened_in p.state is.handles)
-                (stays k m0 m p.state keeps is);
+            map = closed_map m (map_of_volume is) h n (opened_in p.state is.handles) (stays k m0 m p.state keeps is);
             handles = closed_handles p.state is.handles;
             steps = inl (
               close_stays (segments_of old) p.state h n (opened_in p.state is.handles) (stays k m0 m p.state keeps is),
@@ -253,16 +252,14 @@ module _ {D : Type 0} (state : D → DeviceState) (lawful : (d : D) → IsLawful
             → IsLogMap (without_file n m) → AreTotals m old.log.totals → AreTotals (without_file n m) new.log.totals)
             → Serves state old new (Close h) Done
         close_removes gone counted =
-            altered_serves state lawful old new was gone.alters (Close h) Done (closes_behaves state lawful old new was gone.alters
+            altered_serves lawful old new was gone.alters (Close h) Done (closes_behaves lawful old new was gone.alters
             (Close h) Done refl refl) (λ e. cc) (λ e. cc) (λ p keeps here k m0 m is. (
-            let map = map_of_volume state old k m0 m p.state is in
+            let map = map_of_volume is in
             let open_is = opened_in p.state is.handles in
             let header = there k m0 m p.state keeps is in
-            let no_name : names p.state.tree n ≡ 0 = names_by (segments_of old) m p.state map h n open_is header.0 header.1 ∙ header.2
-            ∙ nameless in
+            let no_name : names p.state.tree n ≡ 0 = names_by m map h n open_is header.1 ∙ header.2 ∙ nameless in
             let no_other : opened (rest (segments_of old) p.state h) n ≡ 0 = ap (λ hs. opened (without nat_cmp h hs) n) is.handles ∙ shut in
-            let next_map = gone_map (segments_of old) m p.state map h n open_is no_name no_other
-            (shape_of_volume state old k m0 m p.state is) in
+            let next_map = gone_map m map h n open_is no_name no_other (shape_of_volume is) in
             let hidden : is_nameless m n ≡ true = ap is_unlinked header.1 ∙ eq-eqb header.0.links 0 (header.2 ∙ nameless) in
             record {
               next = closed (segments_of old) p.state h (without nat_cmp n p.state.tree);
@@ -280,13 +277,13 @@ module _ {D : Type 0} (state : D → DeviceState) (lawful : (d : D) → IsLawful
     pub close_fails : IsKept state old.log new.log → IsReadFault state old.log new.log → new.log.totals ≡ old.log.totals
         → new.table ≡ old.table → Serves state old new (Close h) (Refuse Device)
     close_fails kept fault totals table =
-        altered_serves state lawful old new was kept.alters (Close h) (Refuse Device) (kept_behaves state lawful old new was
+        altered_serves lawful old new was kept.alters (Close h) (Refuse Device) (kept_behaves lawful old new was
         kept.alters (Close h) (Refuse Device) table tt) (λ e. cc) (λ e. cc) (λ p keeps here k m0 m is. record {
           next = p.state;
           present = m;
           saved = kept.saved;
           holds = kept.holds k m0 m keeps is.holds;
-          map = map_of_volume state old k m0 m p.state is;
+          map = map_of_volume is;
           handles = is.handles ∙ sym table;
           counted = subst (λ (t : BlockTotals). AreTotals m t) (sym totals) is.counted;
           steps = (let rose = fault k m0 m keeps is.holds in
@@ -308,8 +305,7 @@ module _ {D : Type 0} (state : D → DeviceState) (lawful : (d : D) → IsLawful
   pub close_shared : (handles : Handles) → IsClosed handles → (opened (without nat_cmp h old.handles) n ≡ 0 → ⊥)
       → Serves state (seen old) (seen (with_parts old.store handles)) (Close h) Done
   close_shared handles table some =
-      close_keeps state lawful (seen old) (seen (with_parts old.store handles)) was h n opens table
-      (reads_none state (seen old).log)
+      close_keeps lawful (seen old) (seen (with_parts old.store handles)) was h n opens table (reads_none state (seen old).log)
       (λ k m0 m s keeps is. open_stays (names s.tree n) (opened (without nat_cmp h s.handles) n)
       (subst (λ hs. opened (without nat_cmp h hs) n ≡ 0 → ⊥) (sym is.handles) some))
 
@@ -324,7 +320,7 @@ module _ {D : Type 0} (state : D → DeviceState) (lawful : (d : D) → IsLawful
     -- the file is there
     object : In state (seen old) old (λ m s. HasObject n m)
     object k m0 m s keeps is none =
-        let there = (opened_file (segments_of (seen old)) m s is.log h n (ap (find nat_cmp h) is.handles ∙ opens)).there in absurd (cc)
+        let there = (opened_file is.log h (ap (find nat_cmp h) is.handles ∙ opens)).there in absurd (cc)
 
     pub close_unread : (e : LogFault) → (e ≡ log.Halted → (files_of state old.store).halted ≡ true) → (e ≡ log.Full → ⊥)
         → TellsFault (files_of state old.store) (files_of state read) (HasObject n)
@@ -339,10 +335,9 @@ module _ {D : Type 0} (state : D → DeviceState) (lawful : (d : D) → IsLawful
       pub close_named : (handles : Handles) → IsClosed handles → 0 < head.links
           → Serves state (seen old) (seen (with_parts read handles)) (Close h) Done
       close_named handles table some =
-          close_keeps state lawful (seen old) (seen (with_parts read handles)) was h n opens table still.reads
+          close_keeps lawful (seen old) (seen (with_parts read handles)) was h n opens table still.reads
           (λ k m0 m s keeps is. (
-          let names_is = names_by (segments_of (seen old)) m s (map_of_volume state (seen old) k m0 m s is) h n
-          (ap (find nat_cmp h) is.handles ∙ opens) (as_header head) (there k m0 m s keeps is) in
+          let names_is = names_by m (map_of_volume is) h n (ap (find nat_cmp h) is.handles ∙ opens) (there k m0 m s keeps is) in
           named_stays (names s.tree n) (opened (without nat_cmp h s.handles) n) (λ none. omega (arith, names_is, none, some))))
 
       -- it has none, and goes
@@ -354,28 +349,26 @@ module _ {D : Type 0} (state : D → DeviceState) (lawful : (d : D) → IsLawful
             → Serves state (seen old) (seen (with_parts store handles)) (Close h) Done
         close_last handles table none shut gone counts =
             let all =
-            removed_more state (seen old).log (seen mid).log (volume_of store) n (lawful (seen old).log.device) still.reads gone in
-            close_removes state lawful (seen old) (seen (with_parts store handles)) was h n opens
-            table head.links (omega (arith, none)) shut
+            removed_more (lawful (seen old).log.device) still.reads gone in
+            close_removes lawful (seen old) (seen (with_parts store handles)) was h n opens table head.links (omega (arith, none)) shut
             (λ k m0 m s keeps is. (as_header head, there k m0 m s (gone.alters.looks.carries.kept_before keeps) is, refl))
             all
             (λ k m0 m keeps holds map map' counted.
-            counts k m0 m keeps (held_still state (seen old).log (seen mid).log k m0 m still.reads holds) map map'
+            counts k m0 m keeps (held_still state still.reads holds) map map'
             (subst (λ (t : BlockTotals). AreTotals m t) (sym still.reads.totals) counted))
 
         -- a call of the device failed
-        pub close_faults : (fault : LogFault) (e : FsError) → e ≡ error_of_log fault → IsKept state (seen mid).log (volume_of store)
+        pub close_faults : (fault : LogFault) {e : FsError} → e ≡ error_of_log fault → IsKept state (seen mid).log (volume_of store)
             → IsReadFault state (seen mid).log (volume_of store) → (volume_of store).totals ≡ (seen mid).log.totals
             → (fault ≡ log.Halted → (seen mid).log.halted ≡ true) → (fault ≡ log.Full → ⊥)
             → Serves state (seen old) (seen (with_parts store old.handles)) (Close h) (Refuse (refusal_of e))
-        close_faults fault e is kept failed totals halted full =
+        close_faults fault is kept failed totals halted full =
             subst (λ (x : FsError). Serves state (seen old) (seen (with_parts store old.handles)) (Close h) (Refuse (refusal_of x)))
             (sym is) (by fault halted full)
           where
             device : Serves state (seen old) (seen (with_parts store old.handles)) (Close h) (Refuse Device)
-            device = close_fails state lawful (seen old) (seen (with_parts store old.handles)) was h n opens
-                (kept_more state (seen old).log (seen mid).log (volume_of store) (lawful (seen old).log.device) still.reads kept)
-                (fault_more state (seen old).log (seen mid).log (volume_of store) still.reads failed)
+            device = close_fails lawful (seen old) (seen (with_parts store old.handles)) was h n opens
+                (kept_more (lawful (seen old).log.device) still.reads kept) (fault_more state (volume_of store) still.reads failed)
                 (totals ∙ still.reads.totals) still.table
 
             by : (x : LogFault) → (x ≡ log.Halted → (seen mid).log.halted ≡ true) → (x ≡ log.Full → ⊥)

@@ -46,8 +46,8 @@ module _ (h : ℕ) (fs : Places) where
       (cases_eq k h))
 
   -- in a table that is written back whole
-  pub closed_back : (ms : Places) → ms ≡ fs → handles_of (refill (length fs) fs (slice_set ms h None)) ≡ rest
-  closed_back ms same = ap handles_of (written_back fs ms h None same) ∙ close_handle
+  pub closed_back : {ms : Places} → ms ≡ fs → handles_of (refill (length fs) fs (slice_set ms h None)) ≡ rest
+  closed_back {ms} same = ap handles_of (written_back fs h None same) ∙ close_handle
 
   -- ---- other places of the same file
   module _ (n : ℕ) where

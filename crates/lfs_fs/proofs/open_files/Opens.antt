@@ -18,7 +18,7 @@ open_quiet path = record { free = refl; memory = refl; leaves = refl; unclean = 
 -- ---- a file gets a handle
 
 module _ {D : Type 0} (state : D → DeviceState) (lawful : (d : D) → IsLawful (state d)) where
-  module _ (old new : Mounted D) (reads : Reads state old.log new.log) (was : old.log.halted ≡ false)
+  module _ (old : Mounted D) {new : Mounted D} (reads : Reads state old.log new.log) (was : old.log.halted ≡ false)
       (p : List ℕ) (n : ℕ) (walks : (k : CheckpointValue) (m0 m : LogMap) (s : State) → (state new.log.device).keeps_model
       → IsIn state old k m0 m s → Resolve s.tree p true (At n))
       (files : (k : CheckpointValue) (m0 m : LogMap) (s : State) → (state new.log.device).keeps_model → IsIn state old k m0 m s
@@ -26,16 +26,16 @@ module _ {D : Type 0} (state : D → DeviceState) (lawful : (d : D) → IsLawful
     open_gives : (h : ℕ) → h < 64 → least_handle old.table ≡ h
         → new.table ≡ put nat_cmp h n old.table → Serves state old new (Open p) (Handle h)
     open_gives h some first table =
-        table_serves state old new (lawful old.log.device) (lawful new.log.device) was (Open p)
+        table_serves old new (lawful old.log.device) (lawful new.log.device) was (Open p)
         (Handle h) reads refl refl (λ e. cc) (λ q keeps here k m0 m is. (
         let walk = walks k m0 m q.state keeps is in
-        let map = map_of_volume state old k m0 m q.state is in
+        let map = map_of_volume is in
         let file = files k m0 m q.state keeps is in
         let first_is : least_handle q.state.handles ≡ h = ap least_handle is.handles ∙ first in
         let few = subst (λ (x : ℕ). x < 64) (sym first_is) some in
         record {
           next = with_handle (segments_of old) q.state p n walk;
-          map = opened_map (segments_of old) m q.state map p n walk file few;
+          map = opened_map (segments_of old) m map p n walk file few;
           handles = ap (λ (x : ℕ). put nat_cmp x n q.state.handles) first_is ∙ ap (put nat_cmp h n) is.handles ∙ sym table;
           steps = inl (
             subst (λ (x : ℕ). Step (segments_of old) q.state (Open p) (Handle x) (with_handle (segments_of old) q.state p n walk)) first_is
@@ -48,23 +48,22 @@ module _ {D : Type 0} (state : D → DeviceState) (lawful : (d : D) → IsLawful
 module _ {D : Type 0} {state : D → DeviceState} (lawful : (d : D) → IsLawful (state d)) {v : Mounted D} {f : Fs D} {path : List ℕ} {n : ℕ}
     {head : Header} (looked : IsLooked state v f path true n head) where
   pub opens_directory : head.kind ≡ kind.Directory → Serves state v (seen f) (Open path) (Refuse IsDir)
-  opens_directory dir = answers lawful looked.begun (open_quiet path) (Refuse IsDir) tt
+  opens_directory dir = answers lawful looked.begun (open_quiet path) tt
       (λ k m0 m s keeps is. open_directory (segments_of v) s path n (looked.walk k m0 m s keeps is)
-      (directory (map_of_volume state v k m0 m s is) (headers_of_volume state v k m0 m s is) (looked.header k m0 m s keeps is) dir))
+      (directory (map_of_volume is) (headers_of_volume is) (looked.header k m0 m s keeps is) dir))
 
   module _ (other : head.kind ≢ kind.Directory) where
     file_is : In state v f (λ m s. is_dir (node s.tree n) ≡ false)
-    file_is k m0 m s keeps is = other_directory (map_of_volume state v k m0 m s is) (headers_of_volume state v k m0 m s is)
-        (looked.header k m0 m s keeps is) other
+    file_is k m0 m s keeps is = other_directory (map_of_volume is) (headers_of_volume is) (looked.header k m0 m s keeps is) other
 
     pub opens_too_many : 64 ≤ least_handle f.handles → Serves state v (seen f) (Open path) (Refuse TooManyOpen)
-    opens_too_many many = answers lawful looked.begun (open_quiet path) (Refuse TooManyOpen) tt
+    opens_too_many many = answers lawful looked.begun (open_quiet path) tt
         (λ k m0 m s keeps is. open_too_many (segments_of v) s path n (looked.walk k m0 m s keeps is) (file_is k m0 m s keeps is)
         (subst (λ hs. 64 ≤ least_handle hs) (sym (is.handles ∙ sym looked.begun.still.table)) many))
 
-    pub opens_file : (h : ℕ) → h < 64 → least_handle f.handles ≡ h → (table : Handles) → table ≡ put nat_cmp h n f.handles
+    pub opens_file : {h : ℕ} → h < 64 → least_handle f.handles ≡ h → {table : Handles} → table ≡ put nat_cmp h n f.handles
         → Serves state v (record (seen f) { table = table }) (Open path) (Handle h)
-    opens_file h some first table opened = let still = looked.begun.still in
-        open_gives state lawful v (record (seen f) { table = table }) still.reads
+    opens_file {h} some first {table} opened = let still = looked.begun.still in
+        open_gives state lawful v still.reads
         (was state lawful v f looked.begun) path n looked.walk file_is h some (ap least_handle (sym still.table) ∙ first)
         (opened ∙ ap (put nat_cmp h n) still.table)

@@ -8,18 +8,17 @@ use Rattle.lfs_fs.proofs.calls.AnyDevice.{ok_refuses_none, opens_behaves}
 use Rattle.lfs_fs.proofs.calls.Drafts.{runs_on}
 use Rattle.lfs_fs.proofs.calls.Exits.{point_of, still_in}
 
-module _ {D : Type 0} (state : D → DeviceState) (old new : Mounted D) (lawful : IsLawful (state old.log.device))
+module _ {D : Type 0} {state : D → DeviceState} (old new : Mounted D) (lawful : IsLawful (state old.log.device))
     (after : IsLawful (state new.log.device)) (was : old.log.halted ≡ false) where
   -- what a stop leaves while nothing is written is what is saved
-  pub quiet : Looks (state old.log.device) (state new.log.device) → (k : CheckpointValue) (m0 m : LogMap) (s : State)
+  pub quiet : Looks (state old.log.device) (state new.log.device) → (k : CheckpointValue) (m0 m : LogMap) {s : State}
       → IsIn state old k m0 m s → LeavesOnly (state old.log.device) (state new.log.device) (StandsForOn k.segments m0 (dropped m))
-  quiet looks k m0 m s is =
-      goes_on (state old.log.device) (state old.log.device) (state new.log.device) (StandsForOn k.segments m0 (dropped m))
-      (started (state old.log.device) (StandsForOn k.segments m0 (dropped m)) lawful here)
+  quiet looks k m0 m is =
+      goes_on (StandsForOn k.segments m0 (dropped m)) (started (StandsForOn k.segments m0 (dropped m)) lawful here)
       looks.carries looks.time (λ c left. here c (looks.untouched.crash c left))
     where
       here : AllLeft (state old.log.device) (StandsForOn k.segments m0 (dropped m))
-      here c left = inl (acknowledged state old.log k m0 m is.holds c left)
+      here c left = inl (acknowledged state is.holds c left)
 
   -- ---- the table alone
   module _ (call : Call) (a : Answer) (reads : Reads state old.log new.log) where
@@ -43,10 +42,11 @@ module _ {D : Type 0} (state : D → DeviceState) (old new : Mounted D) (lawful 
         → ((p : Point) → (state new.log.device).keeps_model → IsAt state old p → (k : CheckpointValue) (m0 m : LogMap)
         → IsIn state old k m0 m p.state → Turns p m) → Serves state old new call a
     table_serves moves ok none each =
-        runs_on state old new call lawful after reads.looks.carries segments_same was (let same = reads.number in omega (arith, same)) a
-        (ok_refuses_none a Halted ok) (opens_behaves state old new call a moves ok reads) (reads.halted ∙ was) (λ p keeps here k m0 m is. (
+        runs_on state old new call lawful after reads.looks.carries segments_same was (let same = reads.number in omega (arith, same))
+        (ok_refuses_none {a = a} {r = Halted} ok) (opens_behaves state {old = old} {new = new} call a moves ok reads) (reads.halted ∙ was)
+        (λ p keeps here k m0 m is. (
         let turns = each p keeps here k m0 m is in
-        let now = still_in state old mid k m0 m p.state still_mid is in
+        let now = still_in state still_mid is in
         record {
           next = turns.next;
           runs = record {
@@ -64,6 +64,6 @@ module _ {D : Type 0} (state : D → DeviceState) (old new : Mounted D) (lawful 
             };
           };
           steps = turns.steps;
-          moment = quiet reads.looks k m0 m p.state is;
+          moment = quiet reads.looks k m0 m is;
           saves = λ e. absurd (none e);
         }))

@@ -80,14 +80,14 @@ least_at a (suc i) (Some f ∷ fs) taken free =
     let same : eqb a a ≡ true = grind (arith, nat_tests) in
     rw same (least_at (a + 1) i fs (λ k lt. taken (suc k) (omega arith)) free ∙ omega arith)
 
-pub least_is : (h : ℕ) (fs : Places) → ((k : ℕ) → k < h → get_or fs k None ≢ None) → get_or fs h None ≡ None
+pub least_is : {h : ℕ} (fs : Places) → ((k : ℕ) → k < h → get_or fs k None ≢ None) → get_or fs h None ≡ None
     → least_handle (handles_of fs) ≡ h
 unfolding handles_of
-least_is h fs taken free = least_at 0 h fs taken free ∙ omega arith
+least_is {h} fs taken free = least_at 0 h fs taken free ∙ omega arith
 
 -- all places are taken: the least one is past them
 pub least_past : (fs : Places) → ((k : ℕ) → k < length fs → get_or fs k None ≢ None) → least_handle (handles_of fs) ≡ length fs
-least_past fs taken = least_is (length fs) fs taken (get_past fs (length fs) (omega arith))
+least_past fs taken = least_is fs taken (get_past fs (length fs) (omega arith))
 
 -- ---- a file put at a place
 
@@ -125,16 +125,16 @@ put_handle h f fs lt = let at : 0 + h ≡ h = omega arith in
     subst (λ (k : ℕ). handles_from 0 (slice_set fs h (Some f)) ≡ put nat_cmp k f.value (handles_from 0 fs)) at (sym (put_from 0 h f fs lt))
 
 -- a table that is written back whole
-pub written_back : (fs ms : Places) (h : ℕ) (x : Option FileNumber) → ms ≡ fs
+pub written_back : (fs : Places) {ms : Places} (h : ℕ) (x : Option FileNumber) → ms ≡ fs
     → refill (length fs) fs (slice_set ms h x) ≡ slice_set fs h x
-written_back fs ms h x same =
+written_back fs h x same =
     let long = length-set fs h x in
     ap (λ (xs : Places). refill (length fs) fs (slice_set xs h x)) same
     ∙ rw (drop_all (length (slice_set fs h x)) fs (omega arith), append-nil) (take_all (length fs) (slice_set fs h x) (omega arith))
 
-pub put_back : (fs ms : Places) (h : ℕ) (f : FileNumber) → h < length fs → ms ≡ fs
+pub put_back : {fs ms : Places} (h : ℕ) (f : FileNumber) → h < length fs → ms ≡ fs
     → handles_of (refill (length fs) fs (slice_set ms h (Some f))) ≡ put nat_cmp h f.value (handles_of fs)
-put_back fs ms h f lt same = ap handles_of (written_back fs ms h (Some f) same) ∙ put_handle h f fs lt
+put_back {fs} {ms} h f lt same = ap handles_of (written_back fs h (Some f) same) ∙ put_handle h f fs lt
 
 -- ---- all handles
 
@@ -172,8 +172,8 @@ none_open k = by 0 k
 
 -- ---- a place that was read
 
-pub place_read : (fs ms : Places) (h n : ℕ) (x : Option FileNumber) → ms ≡ fs → length fs ≡ n → h < n → x ≡ get_or ms h x
+pub place_read : {fs ms : Places} (h : ℕ) {n : ℕ} {x : Option FileNumber} → ms ≡ fs → length fs ≡ n → h < n → x ≡ get_or ms h x
     → x ≡ get_or fs h None
-place_read fs ms h n x same long lt is =
+place_read {ms} h {n} {x} same long lt is =
     subst (λ (xs : Places). x ≡ get_or xs h None) same
     (get_or_read_under ms h n x None is lt (sym long ∙ ap (λ (xs : Places). length xs) (sym same)))

@@ -61,9 +61,9 @@ text_ordinary text r = by (nat_lt 0 (length text)) (nat_lt 1023 (length text)) (
   where
     by : (some long zero : Bool) → (if some then (if long then Some NameTooLong else (if zero then Some Inval else None)) else Some NoEntry)
         ≡ Some r → IsOrdinary (Refuse r)
-    by false long zero e = subst (λ (x : Refusal). IsOrdinary (Refuse x)) (Some-injective NoEntry r e) tt
-    by true true zero e = subst (λ (x : Refusal). IsOrdinary (Refuse x)) (Some-injective NameTooLong r e) tt
-    by true false true e = subst (λ (x : Refusal). IsOrdinary (Refuse x)) (Some-injective Inval r e) tt
+    by false long zero e = subst (λ (x : Refusal). IsOrdinary (Refuse x)) (Some-injective e) tt
+    by true true zero e = subst (λ (x : Refusal). IsOrdinary (Refuse x)) (Some-injective e) tt
+    by true false true e = subst (λ (x : Refusal). IsOrdinary (Refuse x)) (Some-injective e) tt
     by true false false e = absurd (cc)
 
 module _ (N : ℕ) (s : State) (p : List ℕ) where
@@ -81,8 +81,8 @@ module _ (N : ℕ) (s : State) (p : List ℕ) where
   readlink_refused r walk = record { first_end = Refused r; second_end = At 1; first = walk; second = refl; answer = refl; state = refl }
 
   module _ (n : ℕ) (walk : Resolve s.tree p false (At n)) where
-    step_readlink : (a : Answer) → reads_link s n ≡ (a, s) → Step N s (Readlink p) a s
-    step_readlink a is =
+    step_readlink : {a : Answer} → reads_link s n ≡ (a, s) → Step N s (Readlink p) a s
+    step_readlink is =
         record { first_end = At n; second_end = At 1; first = walk; second = refl; answer = ap (λ r. r.0) is; state = ap (λ r. r.1) is }
 
     abbrev readlink_told : Answer × State
@@ -90,19 +90,18 @@ module _ (N : ℕ) (s : State) (p : List ℕ) where
 
     pub readlink_no_link : is_link (the_node s.tree n) ≡ false → Step N s (Readlink p) (Refuse Inval) s
     readlink_no_link other =
-        step_readlink (Refuse Inval) (refuses s (not (is_link (the_node s.tree n))) (Refuse Inval) [] readlink_told (ap not other))
+        step_readlink (refuses s (Refuse Inval) [] readlink_told (ap not other))
 
     pub readlink_done : is_link (the_node s.tree n) ≡ true → Step N s (Readlink p) (Text (head_of (the_node s.tree n))) s
-    readlink_done link = step_readlink (Text (head_of (the_node s.tree n)))
-        (passes s (not (is_link (the_node s.tree n))) (Refuse Inval) [] readlink_told (ap not link))
+    readlink_done link = step_readlink (passes s (not (is_link (the_node s.tree n))) (Refuse Inval) [] readlink_told (ap not link))
 
   -- ---- readdir
   pub readdir_refused : (r : Refusal) → Resolve s.tree p true (Refused r) → Step N s (Readdir p) (Refuse r) s
   readdir_refused r walk = record { first_end = Refused r; second_end = At 1; first = walk; second = refl; answer = refl; state = refl }
 
   module _ (n : ℕ) (walk : Resolve s.tree p true (At n)) where
-    step_readdir : (a : Answer) → lists s n ≡ (a, s) → Step N s (Readdir p) a s
-    step_readdir a is =
+    step_readdir : {a : Answer} → lists s n ≡ (a, s) → Step N s (Readdir p) a s
+    step_readdir is =
         record { first_end = At n; second_end = At 1; first = walk; second = refl; answer = ap (λ r. r.0) is; state = ap (λ r. r.1) is }
 
     abbrev readdir_told : Answer × State
@@ -110,19 +109,18 @@ module _ (N : ℕ) (s : State) (p : List ℕ) where
 
     pub readdir_no_directory : is_dir (node s.tree n) ≡ false → Step N s (Readdir p) (Refuse NotDir) s
     readdir_no_directory other =
-        step_readdir (Refuse NotDir) (refuses s (not (is_dir (node s.tree n))) (Refuse NotDir) [] readdir_told (ap not other))
+        step_readdir (refuses s (Refuse NotDir) [] readdir_told (ap not other))
 
     pub readdir_done : is_dir (node s.tree n) ≡ true → Step N s (Readdir p) (Entries (map (entry_of s.tree) (names_in s.tree n))) s
-    readdir_done dir = step_readdir (Entries (map (entry_of s.tree) (names_in s.tree n)))
-        (passes s (not (is_dir (node s.tree n))) (Refuse NotDir) [] readdir_told (ap not dir))
+    readdir_done dir = step_readdir (passes s (not (is_dir (node s.tree n))) (Refuse NotDir) [] readdir_told (ap not dir))
 
   -- ---- open
   pub open_refused : (r : Refusal) → Resolve s.tree p true (Refused r) → Step N s (Open p) (Refuse r) s
   open_refused r walk = record { first_end = Refused r; second_end = At 1; first = walk; second = refl; answer = refl; state = refl }
 
   module _ (n : ℕ) (walk : Resolve s.tree p true (At n)) where
-    step_open : (a : Answer) (s' : State) → opens s n ≡ (a, s') → Step N s (Open p) a s'
-    step_open a s' is =
+    step_open : {a : Answer} {s' : State} → opens s n ≡ (a, s') → Step N s (Open p) a s'
+    step_open is =
         record { first_end = At n; second_end = At 1; first = walk; second = refl; answer = ap (λ r. r.0) is; state = ap (λ r. r.1) is }
 
     abbrev pub with_handle : State
@@ -132,17 +130,15 @@ module _ (N : ℕ) (s : State) (p : List ℕ) where
     open_done = (Handle (least_handle s.handles), with_handle)
 
     pub open_directory : is_dir (node s.tree n) ≡ true → Step N s (Open p) (Refuse IsDir) s
-    open_directory dir = step_open (Refuse IsDir) s (refuses s (is_dir (node s.tree n)) (Refuse IsDir) (no_handle s ∷ []) open_done dir)
+    open_directory dir = step_open (refuses s (Refuse IsDir) (no_handle s ∷ []) open_done dir)
 
     pub open_too_many : is_dir (node s.tree n) ≡ false → 64 ≤ least_handle s.handles → Step N s (Open p) (Refuse TooManyOpen) s
-    open_too_many file many = step_open (Refuse TooManyOpen) s
-        (passes s (is_dir (node s.tree n)) (Refuse IsDir) (no_handle s ∷ []) open_done file
-        ∙ refuses s (nat_le 64 (least_handle s.handles)) (Refuse TooManyOpen) [] open_done (at_most 64 (least_handle s.handles) many))
+    open_too_many file many = step_open (passes s (is_dir (node s.tree n)) (Refuse IsDir) (no_handle s ∷ []) open_done file
+        ∙ refuses s (Refuse TooManyOpen) [] open_done (at_most 64 (least_handle s.handles) many))
 
     pub open_file : is_dir (node s.tree n) ≡ false → least_handle s.handles < 64
         → Step N s (Open p) (Handle (least_handle s.handles)) with_handle
-    open_file file some = step_open (Handle (least_handle s.handles)) with_handle
-        (passes s (is_dir (node s.tree n)) (Refuse IsDir) (no_handle s ∷ []) open_done file
+    open_file file some = step_open (passes s (is_dir (node s.tree n)) (Refuse IsDir) (no_handle s ∷ []) open_done file
         ∙ passes s (nat_le 64 (least_handle s.handles)) (Refuse TooManyOpen) [] open_done (not_at_most 64 (least_handle s.handles) some))
 
   -- ---- create

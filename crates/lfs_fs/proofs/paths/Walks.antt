@@ -15,11 +15,11 @@ use Rattle.lfs_fs.proofs.volume.Map.{headers_of_volume}
 use Rattle.lfs_fs.proofs.calls.Exits.{served_still}
 use Rattle.lfs_fs.proofs.calls.Reads.{memory_serves}
 
-module _ {D : Type 0} (state : D → DeviceState) (v : Mounted D) (k : CheckpointValue) (m0 m : LogMap) (s : State)
+module _ {D : Type 0} {state : D → DeviceState} {v : Mounted D} {k : CheckpointValue} {m0 m : LogMap} {s : State}
     (is : IsIn state v k m0 m s) where
   -- a volume's log map is one that is walked
   pub tree_of_volume : HasTree m
-  tree_of_volume = tree_maps.sound (segments_of v) s m is.log.sound is.log.is (headers_of_volume state v k m0 m s is) is.log.formed
+  tree_of_volume = tree_maps.sound (segments_of v) s m is.log.sound is.log.is (headers_of_volume is) is.log.formed
 
   -- with nothing drafted it is the same
   pub walked_drafted : (d : Draft) → IsEmpty d → HasTree (with_draft d m)
@@ -28,14 +28,14 @@ module _ {D : Type 0} (state : D → DeviceState) (v : Mounted D) (k : Checkpoin
   pub tree_drafted : (d : Draft) → IsEmpty d → tree_in (with_draft d m) ≡ s.tree
   tree_drafted d none = ap (λ (x : LogMap). tree_in x) (empty_draft d m none).0 ∙ sym is.log.is
 
-module _ {D : Type 0} (state : D → DeviceState) (old new : Mounted D) (lawful : IsLawful (state old.log.device))
+module _ {D : Type 0} {state : D → DeviceState} {old new : Mounted D} (lawful : IsLawful (state old.log.device))
     (still : IsStill state old new) (was : old.log.halted ≡ false)
     (d : Draft) (none : IsEmpty d) (W : Tree → End → Type 0) where
   -- a walk of the log map is one of the state
-  pub walked : (e : End) → WalksTo state old.log new.log d W e → (k : CheckpointValue) (m0 m : LogMap) (s : State)
+  pub walked : (e : End) → WalksTo state old.log new.log d W e → (k : CheckpointValue) (m0 m : LogMap) {s : State}
       → (state new.log.device).keeps_model → IsIn state old k m0 m s → W s.tree e
-  walked e walks k m0 m s keeps is = subst (λ (t : Tree). W t e) (tree_drafted state old k m0 m s is d none)
-      (walks k m0 m keeps is.holds (walked_drafted state old k m0 m s is d none))
+  walked e walks k m0 m {s} keeps is = subst (λ (t : Tree). W t e) (tree_drafted is d none)
+      (walks k m0 m keeps is.holds (walked_drafted is d none))
 
   -- a walk without an end refuses the call
   module _ (call : Call) (free : never_for_device call ≡ false) (unclean : cleans call ≡ false) (memory : takes_no_memory call ≡ false)
@@ -43,10 +43,9 @@ module _ {D : Type 0} (state : D → DeviceState) (old new : Mounted D) (lawful 
       → (r : Refusal) → W s.tree (Refused r) → Step (segments_of old) s call (Refuse r) s) where
     walk_refused : (r : Refusal) → IsOrdinary (Refuse r) → WalksTo state old.log new.log d W (Refused r)
         → Serves state old new call (Refuse r)
-    walk_refused r ordinary walks = served_still state old new call (Refuse r) lawful still was ordinary (λ p keeps here k m0 m is. (
-        let step = steps k m0 m p.state keeps is r (walked (Refused r) walks k m0 m p.state keeps is) in
-        inl (step, refused_not_worn (segments_of old) call p r p.state step unclean)))
-        (not_acknowledged call r)
+    walk_refused r ordinary walks = served_still state call lawful still was ordinary (λ p keeps here k m0 m is. (
+        let step = steps k m0 m p.state keeps is r (walked (Refused r) walks k m0 m keeps is) in
+        inl (step, refused_not_worn (segments_of old) p step unclean))) (not_acknowledged call r)
 
     pub walk_ends : (fault : WalkFault) → (fault ≡ walk.Log log.Halted → old.log.halted ≡ true) → (fault ≡ walk.Log log.Full → ⊥)
         → EndsRefused state old.log new.log d W fault
@@ -56,11 +55,11 @@ module _ {D : Type 0} (state : D → DeviceState) (old new : Mounted D) (lawful 
     walk_ends walk.NameTooLong halted other ends = walk_refused refusals.NameTooLong tt ends
     walk_ends walk.Inval halted other ends = walk_refused refusals.Inval tt ends
     walk_ends walk.Loop halted other ends = walk_refused refusals.Loop tt ends
-    walk_ends walk.NoMemory halted other ends = memory_serves state old new call lawful still was memory
+    walk_ends walk.NoMemory halted other ends = memory_serves {call = call} lawful still was memory
     walk_ends (walk.Log log.Halted) halted other ends = absurd (let a = halted refl in let b = was in cc)
     walk_ends (walk.Log log.Full) halted other ends = absurd (other refl)
     walk_ends (walk.Log log.Device) halted other ends =
-        served_still state old new call (Refuse Device) lawful still was tt (λ p keeps here k m0 m is. (
-        let rose = ends k m0 m keeps is.holds (walked_drafted state old k m0 m p.state is d none) in
+        served_still state call lawful still was tt (λ p keeps here k m0 m is. (
+        let rose = ends k m0 m keeps is.holds (walked_drafted is d none) in
         inr (Device, refl, (free, (let f = here.failures in omega (arith, f, rose))), refl)))
         (not_acknowledged call Device)

@@ -46,7 +46,7 @@ module _ {D : Type 0} {state : D → DeviceState} (lawful : (d : D) → IsLawful
   -- ---- pread
   module _ {old f : Fs D} (begins : Begins old f) where
     begun : IsBegun state (seen old) f
-    begun = begun_by state old f begins
+    begun = begun_by state f begins
 
     -- the handle in a state
     handle_is : (h : ℕ) → In state (seen old) f (λ m s. find nat_cmp h s.handles ≡ find nat_cmp h f.handles)
@@ -56,7 +56,7 @@ module _ {D : Type 0} {state : D → DeviceState} (lawful : (d : D) → IsLawful
         → Serves state (seen old) (seen f) (Pread h off count) (Refuse (refusal_of e))
     pread_without {h = h} {off = off} {count = count} e none =
         subst (λ (x : FsError). Serves state (seen old) (seen f) (Pread h off count) (Refuse (refusal_of x)))
-        (sym none.0) (answers lawful begun (pread_quiet h off count) (Refuse BadHandle) tt (λ k m0 m s keeps is.
+        (sym none.0) (answers lawful begun (pread_quiet h off count) {a = Refuse BadHandle} tt (λ k m0 m s keeps is.
         read_bad_handle (segments_of (seen old)) s h off count (handle_is h k m0 m s keeps is ∙ none.1)))
 
     module _ (h : ℕ) {n : ℕ} (opens : find nat_cmp h f.handles ≡ Some n) where
@@ -64,14 +64,14 @@ module _ {D : Type 0} {state : D → DeviceState} (lawful : (d : D) → IsLawful
       opens_in k m0 m s keeps is = handle_is h k m0 m s keeps is ∙ opens
 
       pub pread_too_much : {off count : ℕ} → 65536 < count → Serves state (seen old) (seen f) (Pread h off count) (Refuse Inval)
-      pread_too_much {off = off} {count = count} much = answers lawful begun (pread_quiet h off count) (Refuse Inval) tt
+      pread_too_much {off = off} {count = count} much = answers lawful begun (pread_quiet h off count) tt
           (λ k m0 m s keeps is. read_too_much (segments_of (seen old)) s h off count n (opens_in k m0 m s keeps is) much)
 
       module _ (store : Store D) (reads : ReadsTo state f store) {off count : ℕ} where
-        pub pread_gives : count ≤ 65536 → (bytes : List ℕ) → ReadsObject (files_of state f.store) (files_of state store) n off count bytes
+        pub pread_gives : count ≤ 65536 → {bytes : List ℕ} → ReadsObject (files_of state f.store) (files_of state store) n off count bytes
             → Serves state (seen old) (seen (with_store f store)) (Pread h off count) (Data bytes)
-        pread_gives few bytes read = answers lawful (now lawful begun store reads) (pread_quiet h off count) (Data bytes) tt
-            (λ k m0 m s keeps is. pread_clipped (segments_of (seen old)) m s (map_of_volume state (seen old) k m0 m s is) h n off count
+        pread_gives few {bytes} read = answers lawful (now lawful begun store reads) (pread_quiet h off count) tt
+            (λ k m0 m s keeps is. pread_clipped m s (map_of_volume is) h n off count
             (opens_in k m0 m s (reads.looks.carries.kept_before keeps) is) read.head
             (known lawful begun store reads read.header k m0 m s keeps is) few bytes
             (known lawful begun store reads read.is k m0 m s keeps is))
@@ -79,17 +79,16 @@ module _ {D : Type 0} {state : D → DeviceState} (lawful : (d : D) → IsLawful
         pub pread_fails : Fails state (seen old) f store (Pread h off count)
             (FailsWhere (files_of state f.store) (files_of state store) (HasObject n))
         pread_fails = fails_where lawful begun store reads (pread_quiet h off count)
-            (λ k m0 m s keeps is none. let file = opened_file (segments_of (seen old)) m s is.log h n (opens_in k m0 m s keeps is) in
+            (λ k m0 m s keeps is none. let file = opened_file is.log h (opens_in k m0 m s keeps is) in
             let both : None ≡ Some file.head = sym none ∙ file.there in cc)
 
   -- ---- stat, lstat
   pub stat_gives : {v : Mounted D} {f : Fs D} {path : List ℕ} {follow : Bool} {n : ℕ} {head : Header}
       → IsLooked state v f path follow n head → Serves state v (seen f) (stat_call follow path) (Status (told_by n head))
   stat_gives {v = v} {path = path} {follow = follow} {n = n} {head = head} looked =
-      answers lawful looked.begun (stat_quiet follow path) (Status _) tt
+      answers lawful looked.begun (stat_quiet follow path) tt
       (λ k m0 m s keeps is. let at = looked.header k m0 m s keeps is in
-      stat_step (segments_of v) m s (map_of_volume state v k m0 m s is) path follow n (looked.walk k m0 m s keeps is) (as_header head)
-      at (headers_of_volume state v k m0 m s is n (as_header head) at))
+      stat_step m s (map_of_volume is) path follow n (looked.walk k m0 m s keeps is) at (headers_of_volume is n (as_header head) at))
 
   -- ---- readlink
   module _ {v : Mounted D} {f : Fs D} {path : List ℕ} {n : ℕ} (reached : ReachesObject state v f path false n) (store : Store D)
@@ -97,12 +96,12 @@ module _ {D : Type 0} {state : D → DeviceState} (lawful : (d : D) → IsLawful
     is_begun : IsBegun state v f
     is_begun = begun_with state reached
 
-    pub readlink_gives : (text : List ℕ) → ReadsText (files_of state f.store) (files_of state store) n text
+    pub readlink_gives : {text : List ℕ} → ReadsText (files_of state f.store) (files_of state store) n text
         → Serves state v (seen (with_store f store)) (Readlink path) (Text text)
-    readlink_gives text read = answers lawful (now lawful is_begun store reads) (readlink_quiet path) (Text text) tt
+    readlink_gives {text} read = answers lawful (now lawful is_begun store reads) (readlink_quiet path) tt
         (λ k m0 m s keeps is.
-        let map_is = map_of_volume state v k m0 m s is in
-        let headers = headers_of_volume state v k m0 m s is in
+        let map_is = map_of_volume is in
+        let headers = headers_of_volume is in
         let at = known lawful is_begun store reads read.header k m0 m s keeps is in
         subst (λ (x : List ℕ). Step (segments_of v) s (Readlink path) (Text x) s)
         (text_is map_is headers at text read.link (known lawful is_begun store reads read.is k m0 m s keeps is))
@@ -116,7 +115,7 @@ module _ {D : Type 0} {state : D → DeviceState} (lawful : (d : D) → IsLawful
             → IsWhy lawful is_begun store reads (readlink_quiet path) e
         by fault.Inval none k m0 m s keeps is =
             readlink_no_link (segments_of v) s path n (reached.walk k m0 m s (reads.looks.carries.kept_before keeps) is)
-            (other_link (map_of_volume state v k m0 m s is) (headers_of_volume state v k m0 m s is)
+            (other_link (map_of_volume is) (headers_of_volume is)
             (known lawful is_begun store reads none.header k m0 m s keeps is) none.other)
         by fault.NoMemory any k m0 m s keeps is = tt
         by (fault.Log x) failed k m0 m s keeps is =
@@ -126,20 +125,18 @@ module _ {D : Type 0} {state : D → DeviceState} (lawful : (d : D) → IsLawful
   -- ---- readdir
   module _ {v : Mounted D} {f : Fs D} {path : List ℕ} {n : ℕ} {head : Header} (looked : IsLooked state v f path true n head) where
     pub no_directory : head.kind ≢ kind.Directory → Serves state v (seen f) (Readdir path) (Refuse NotDir)
-    no_directory other = answers lawful looked.begun (readdir_quiet path) (Refuse NotDir) tt
+    no_directory other = answers lawful looked.begun (readdir_quiet path) tt
         (λ k m0 m s keeps is. readdir_no_directory (segments_of v) s path n (looked.walk k m0 m s keeps is)
-        (other_directory (map_of_volume state v k m0 m s is) (headers_of_volume state v k m0 m s is) (looked.header k m0 m s keeps is)
-        other))
+        (other_directory (map_of_volume is) (headers_of_volume is) (looked.header k m0 m s keeps is) other))
 
     module _ (dir : head.kind ≡ kind.Directory) (store : Store D) (reads : ReadsTo state f store) where
       pub readdir_gives : (entries : List ListedEntry)
           → telling.InEach (files_of state f.store) (files_of state store) (λ m. AreTold (IsListed m) (names_at m n head) entries)
           → Serves state v (seen (with_store f store)) (Readdir path) (Entries (map entry_of entries))
-      readdir_gives entries listed = answers lawful (now lawful looked.begun store reads) (readdir_quiet path)
-          (Entries (map entry_of entries)) tt
+      readdir_gives entries listed = answers lawful (now lawful looked.begun store reads) (readdir_quiet path) tt
           (λ k m0 m s keeps is.
-          let map_is = map_of_volume state v k m0 m s is in
-          let headers = headers_of_volume state v k m0 m s is in
+          let map_is = map_of_volume is in
+          let headers = headers_of_volume is in
           let before = reads.looks.carries.kept_before keeps in
           let there = looked.header k m0 m s before is in
           subst (λ (x : List call.DirectoryEntry). Step (segments_of v) s (Readdir path) (Entries x) s)
@@ -149,5 +146,4 @@ module _ {D : Type 0} {state : D → DeviceState} (lawful : (d : D) → IsLawful
       pub readdir_fails : Fails state v f store (Readdir path)
           (FailsWhere (files_of state f.store) (files_of state store) (IsListable n head))
       readdir_fails = fails_where lawful looked.begun store reads (readdir_quiet path)
-          (λ k m0 m s keeps is. all_listable (map_of_volume state v k m0 m s is) (headers_of_volume state v k m0 m s is) n head
-          (looked.header k m0 m s keeps is) dir)
+          (λ k m0 m s keeps is. all_listable (map_of_volume is) (headers_of_volume is) n head (looked.header k m0 m s keeps is) dir)

@@ -20,30 +20,30 @@ module _ {D : Type 0} (state : D → DeviceState) where
   still_none v = record { reads = reads_none state v.log; table = refl }
 
   -- a call of a halted volume doesn't begin
-  pub halted_serves : (old new : Fs D) (call : Call) (fault : FsError) → IsLawful (state (seen old).log.device) → new ≡ old
+  pub halted_serves : {old new : Fs D} (call : Call) {fault : FsError} → IsLawful (state (seen old).log.device) → new ≡ old
       → (seen old).log.halted ≡ true → fault ≡ error.Halted
       → Serves state (seen old) (seen new) call (Refuse (refusal_of fault))
-  halted_serves old new call fault lawful same halted is =
+  halted_serves {old} {new} call lawful same halted is =
       subst (λ (f : FsError). Serves state (seen old) (seen new) call (Refuse (refusal_of f))) (sym is)
       (subst (λ (v : Fs D). Serves state (seen old) (seen v) call (Refuse Halted)) (sym same)
       (served_halted state (seen old) call lawful halted))
 
   -- one that began does what it does then
-  pub begun_serves : (old mid : Fs D) (new : Mounted D) (call : Call) (a : Answer) → Begins old mid → Serves state (seen mid) new call a
+  pub begun_serves : {old mid : Fs D} {new : Mounted D} {call : Call} {a : Answer} → Begins old mid → Serves state (seen mid) new call a
       → Serves state (seen old) new call a
-  begun_serves old mid new call a begun = subst (λ (v : Mounted D). Serves state v new call a) begun.same
+  begun_serves {new} {call} {a} begun = subst (λ (v : Mounted D). Serves state v new call a) begun.same
 
   -- then it isn't halted
-  pub begun_running : (old mid : Fs D) → Begins old mid → (seen mid).log.halted ≡ false
-  begun_running old mid begun = ap (λ (v : Mounted D). v.log.halted) begun.same ∙ begun.running
+  pub begun_running : {old mid : Fs D} → Begins old mid → (seen mid).log.halted ≡ false
+  begun_running begun = ap (λ (v : Mounted D). v.log.halted) begun.same ∙ begun.running
 
-  pub begun_space : (old mid : Fs D) → IsLawful (state (seen mid).log.device) → Begins old mid → (r : space.Space)
+  pub begun_space : {old mid : Fs D} → IsLawful (state (seen mid).log.device) → Begins old mid → (r : space.Space)
       → r.data_blocks ≡ (drafted_of mid.store).data_blocks → r.meta_blocks ≡ (drafted_of mid.store).meta_blocks
       → r.need ≡ (drafted_of mid.store).data_blocks + 7 * (drafted_of mid.store).meta_blocks + 720
       → r.limit ≡ 47 * (seen mid).log.segments → Serves state (seen old) (seen mid) Space (room_of r)
-  begun_space old mid lawful begun r stored above need limit = begun_serves old mid (seen mid) Space (room_of r) begun
+  begun_space {old} {mid} lawful begun r stored above need limit = begun_serves begun
       (subst (λ (a : Answer). Serves state (seen mid) (seen mid) Space a) (λ i. Room (stored_is i) (above_is i) (need_is i) (sym limit i))
-      (space_serves state (seen mid) (seen mid) lawful (still_none (seen mid)) (begun_running old mid begun) totals_of_tree))
+      (space_serves state lawful (still_none (seen mid)) (begun_running begun) totals_of_tree))
     where
       blocks : (drafted_of mid.store).data_blocks ≡ (seen mid).log.totals.data_blocks
       blocks = ap (λ t. t.data_blocks) begun.drafted
@@ -60,17 +60,17 @@ module _ {D : Type 0} (state : D → DeviceState) where
       need_is : (seen mid).log.totals.data_blocks + 7 * (seen mid).log.totals.meta_blocks + 720 ≡ r.need
       need_is = omega (arith, need, blocks, others)
 
-  pub begun_version : (old mid : Fs D) → IsLawful (state (seen mid).log.device) → Begins old mid → (version : ℕ)
+  pub begun_version : {old mid : Fs D} → IsLawful (state (seen mid).log.device) → Begins old mid → {version : ℕ}
       → version ≡ (seen mid).log.version → Serves state (seen old) (seen mid) Version (FormatVersion version)
-  begun_version old mid lawful begun version told = begun_serves old mid (seen mid) Version (FormatVersion version) begun
-      (told_serves state (seen mid) (seen mid) Version lawful (still_none (seen mid)) (begun_running old mid begun)
-      (FormatVersion version) tt refl refl refl (λ k m0 m s keeps is.
+  begun_version {old} {mid} lawful begun {version} told = begun_serves begun
+      (told_serves {call = Version} lawful (still_none (seen mid)) (begun_running begun)
+      {a = FormatVersion version} tt refl refl refl (λ k m0 m s keeps is.
       subst (λ (n : ℕ). Step (segments_of (seen mid)) s Version (FormatVersion n) s)
-      (version_of_volume state (seen mid) k m0 m s is ∙ sym told) (version_done (segments_of (seen mid)) s)))
+      (version_of_volume is ∙ sym told) (version_done (segments_of (seen mid)) s)))
 
 -- ---- ends after which nothing has changed
 
-module _ {D : Type 0} (state : D → DeviceState) (old new : Mounted D) (call : Call) (lawful : IsLawful (state old.log.device))
+module _ {D : Type 0} {state : D → DeviceState} (old : Mounted D) {new : Mounted D} (call : Call) (lawful : IsLawful (state old.log.device))
     (still : IsStill state old new) (was : old.log.halted ≡ false) where
   -- What holds of each state that the volume may be in, where its device keeps the model up to the end.
   abbrev pub AfterEach : (LogMap → State → Type 0) → Type 0
@@ -79,7 +79,7 @@ module _ {D : Type 0} (state : D → DeviceState) (old new : Mounted D) (call : 
   -- a step of a call that changes nothing
   pub step_serves : (a : Answer) → IsOrdinary a → changes call ≡ false → cleans call ≡ false → commits call ≡ false
       → AfterEach (λ m s. Step (segments_of old) s call a s) → Serves state old new call a
-  step_serves a ordinary leaves unclean free steps = served_still state old new call a lawful still was ordinary
+  step_serves a ordinary leaves unclean free steps = served_still state call {a = a} lawful still was ordinary
       (λ p keeps here k m0 m is. inl (steps k m0 m p.state keeps is, never_worn (segments_of old) call p leaves unclean))
       (λ e. none (commits call) free e)
     where
@@ -90,7 +90,7 @@ module _ {D : Type 0} (state : D → DeviceState) (old new : Mounted D) (call : 
   -- a call of the device failed
   pub failed_serves : never_for_device call ≡ false → AfterEach (λ m s. (state old.log.device).failures < (state new.log.device).failures)
       → Serves state old new call (Refuse Device)
-  failed_serves free rises = served_still state old new call (Refuse Device) lawful still was tt (λ p keeps here k m0 m is. (
+  failed_serves free rises = served_still state call lawful still was tt (λ p keeps here k m0 m is. (
       let rose = rises k m0 m p.state keeps is in
       inr (Device, refl, (free, (let f = here.failures in omega (arith, f, rose))), refl)))
       (not_acknowledged call Device)

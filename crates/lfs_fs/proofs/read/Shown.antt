@@ -91,13 +91,13 @@ module _ {N : ℕ} {m : LogMap} {s : State} (is : IsMapOf N m s)
     fits = headers n (as_header head) there
 
     is_node : node s.tree n ≡ Some (node_by m head.kind n (as_header head))
-    is_node = node_by_header N m s is.log n (as_header head) fits.number there
+    is_node = node_by_header is.log n fits.number there
 
     is_the_node : the_node s.tree n ≡ node_by m head.kind n (as_header head)
-    is_the_node = the_node_by_header N m s is.log n (as_header head) fits.number there
+    is_the_node = the_node_by_header is.log n fits.number there
 
     pub is_told : stat_of s.tree n ≡ told_by n head
-    is_told = stat_is N m s is.log n (as_header head) there fits
+    is_told = stat_is is.log n there fits
 
     pub directory : head.kind ≡ kind.Directory → is_dir (node s.tree n) ≡ true
     directory dir = ap is_dir is_node ∙ dir_by m head.kind n (as_header head) ∙ ap is_directory dir
@@ -112,16 +112,16 @@ module _ {N : ℕ} {m : LogMap} {s : State} (is : IsMapOf N m s)
     other_link other = ap is_link is_the_node ∙ no_link_by m head.kind n (as_header head) other
 
     -- what is shown of it
-    head_by : (k : Kind) → node s.tree n ≡ Some (node_by m k n (as_header head)) → (out : List ℕ) → ShowsHead m n head k out
+    head_by : (k : Kind) → node s.tree n ≡ Some (node_by m k n (as_header head)) → {out : List ℕ} → ShowsHead m n head k out
         → head_of (node_by m k n (as_header head)) ≡ out
-    head_by kind.File at out shows = sym (shows ∙ bytes_are m n (as_header head) 0 16)
-    head_by kind.Directory at out shows = sym shows
-    head_by kind.Link at out shows =
+    head_by kind.File at shows = sym (shows ∙ bytes_are m n (as_header head) 0 16)
+    head_by kind.Directory at shows = sym shows
+    head_by kind.Link at shows =
         let limits : IsWithinLimits (Link (object m n (as_header head))) = is.log.sound.limits n (Link (object m n (as_header head))) at in
         sym (shows ∙ bytes_are m n (as_header head) 0 1023 ∙ take_all 1023 (object m n (as_header head)) limits.1)
 
     pub head_is : (out : List ℕ) → ShowsHead m n head head.kind out → head_of (the_node s.tree n) ≡ out
-    head_is out shows = ap head_of is_the_node ∙ head_by head.kind is_node out shows
+    head_is out shows = ap head_of is_the_node ∙ head_by head.kind is_node {out = out} shows
 
     -- a link's text
     pub text_is : (out : List ℕ) → head.kind ≡ kind.Link → out ≡ bytes_of m n (as_header head) 0 1023 → head_of (the_node s.tree n) ≡ out
@@ -166,7 +166,7 @@ module _ {N : ℕ} {m : LogMap} {s : State} (is : IsMapOf N m s)
       directory = directory_formed N m s is d (directory there dir) head there (headers d (as_header head) there);
       there = all_there m (names_at m d head)
           (λ name n found none.
-          is.log.sound.named d name n (ap (find byte_cmp name) names_are ∙ found) (no_header_none N m s is.log n none))
+          is.log.sound.named d name n (ap (find byte_cmp name) names_are ∙ found) (no_header_none is.log n none))
           (sorted_names head.form (slots_at m d head));
     }
 
@@ -187,5 +187,5 @@ module _ {N : ℕ} {m : LogMap} {s : State} (is : IsMapOf N m s)
       kinds head there kind.Link is empty = none empty (other_directory there (λ e. let same = is in cc))
 
       by : (found : Option Header) → HeaderAnswer m n found → RowsOf m n rows found → map row_of rows ≡ rows_at s.tree n
-      by None gone empty = none empty (ap is_dir (no_header_none N m s is.log n gone))
+      by None gone empty = none empty (ap is_dir (no_header_none is.log n gone))
       by (Some head) there told = kinds head there head.kind refl told

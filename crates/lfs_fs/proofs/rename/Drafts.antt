@@ -40,7 +40,7 @@ module _ {N : ℕ} {m : LogMap} {s : State} {a b : List ℕ} {l o : Last} {sourc
     between : LogMap
     drafts : DraftsMove m1 between m3 m4 da db source.holder dest.holder (fewer_links source dest) (more_links source dest) (name a)
 
-  module _ (m1 m3 m4 : LogMap) (links : AreRelinked m1 m3 source dest)
+  module _ {m1 m3 m4 : LogMap} (links : AreRelinked m1 m3 source dest)
       (untied : Untied m3 m4 da (first_holder source dest) source.name.now) where
     takes : IsDirectory m3 da (as_header (first_holder source dest)) → TakesName m3 m4 da (first_holder source dest) (name a)
     takes directory = subst (TakesName m3 m4 da (first_holder source dest)) name_a (untied.names directory)
@@ -109,9 +109,9 @@ module _ {N : ℕ} {m : LogMap} {s : State} {a b : List ℕ} {l o : Last} {sourc
           (λ on. subst (IsOpen s.handles) some (held on)) (λ off plain. subst (IsShut s.handles) some (shut off))
 
       -- ---- all of it
-      module _ {S D : Type 0} (files : FilesState S D) (moved : HasMoved files m m source dest is_open) where
+      module _ {S D : Type 0} {files : FilesState S D} (moved : HasMoved files m m source dest is_open) where
         drafted : AreSteps moved.lost moved.linked moved.taken
-        drafted = steps moved.lost moved.linked moved.taken moved.links moved.untied
+        drafted = steps moved.links moved.untied
 
         moved_by : (found : Option Object) → dest.replaced ≡ found → LostFound found is_open m moved.lost
             → NamedFound found moved.taken moved.map db (second_holder source dest) n (name b) → IsMoved N moved.map s a b da db

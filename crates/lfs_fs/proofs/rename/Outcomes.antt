@@ -36,15 +36,15 @@ module _ {D : Type 0} (state : D → DeviceState) (lawful : (d : D) → IsLawful
   N = segments_of v
 
   begun : IsBegun state v f
-  begun = begun_at state v f a da from reached.first ready
+  begun = begun_at state reached.first ready
 
   was : v.log.halted ≡ false
   was = calls.was state lawful v f begun
 
   -- ---- paths without a last piece, or with one that is dots
-  refused : (r : Refusal) → IsOrdinary (Refuse r) → ((s : State) → StopsAt (conditions N s a b da (here chain)) (Refuse r))
+  refused : {r : Refusal} → IsOrdinary (Refuse r) → ((s : State) → StopsAt (conditions N s a b da (here chain)) (Refuse r))
       → Serves state v (seen f) (Rename a b) (Refuse r)
-  refused r ordinary at =
+  refused {r} ordinary at =
       refused_after state lawful v f begun f.store (only_none state f).still (Rename a b) refl refl refl r ordinary
       (λ k m0 m s keeps is. rename_stops N s a b da (here chain) (reached.first.walk k m0 m s keeps is)
       (reached.second.walk k m0 m s keeps is) (at s))
@@ -52,7 +52,7 @@ module _ {D : Type 0} (state : D → DeviceState) (lawful : (d : D) → IsLawful
   pub no_first : from ≡ None → Serves state v (seen f) (Rename a b) (Refuse refusals.Busy)
   no_first none =
       let says : no_last a ≡ true = last_says a None (subst (HasLast a) none reached.first.last) in
-      refused refusals.Busy tt (λ s. inl (ap (λ (x : Bool). x || no_last b) says, refl))
+      refused tt (λ s. inl (ap (λ (x : Bool). x || no_last b) says, refl))
 
   module _ (l : Last) (is_from : from ≡ Some l) where
     says : SaysLast a (Some l)
@@ -61,19 +61,19 @@ module _ {D : Type 0} (state : D → DeviceState) (lawful : (d : D) → IsLawful
     pub no_second : to ≡ None → Serves state v (seen f) (Rename a b) (Refuse refusals.Busy)
     no_second none =
         let none_says : no_last b ≡ true = last_says b None (subst (HasLast b) none reached.second.last) in
-        refused refusals.Busy tt (λ s. inl ((λ i. says.0 i || none_says i), refl))
+        refused tt (λ s. inl ((λ i. says.0 i || none_says i), refl))
 
-    module _ (o : Last) (is_to : to ≡ Some o) where
+    module _ {o : Last} (is_to : to ≡ Some o) where
       other_says : SaysLast b (Some o)
       other_says = last_says b (Some o) (subst (HasLast b) is_to reached.second.last)
 
       pub dots_first : is_dots l.name.now ≡ true → Serves state v (seen f) (Rename a b) (Refuse refusals.Inval)
-      dots_first dots = refused refusals.Inval tt
+      dots_first dots = refused tt
           (λ s. inr ((λ i. says.0 i || other_says.0 i), inl (ap (λ (x : Bool). x || last_dots b) (says.2 ∙ dots), refl)))
 
       pub dots_second : is_dots l.name.now ≡ false → is_dots o.name.now ≡ true
           → Serves state v (seen f) (Rename a b) (Refuse refusals.Inval)
-      dots_second plain dots = refused refusals.Inval tt (λ s. inr (
+      dots_second plain dots = refused tt (λ s. inr (
         (λ i. says.0 i || other_says.0 i),
         inl ((λ i. (says.2 ∙ plain) i || (other_says.2 ∙ dots) i), refl),
       ))
@@ -91,20 +91,18 @@ module _ {D : Type 0} (state : D → DeviceState) (lawful : (d : D) → IsLawful
         here_in k m0 m s keeps is =
             let before = reads.looks.carries.kept_before keeps in
             record {
-              first = reached_in state lawful v f begun a da l
-                  (subst (Reaches state v f a da) is_from reached.first) before k m0 m s is;
-              second = reached_in state lawful v f begun b (here chain) o
-                  (subst (Reaches state v f b (here chain)) is_to reached.second) before k m0 m s is;
+              first = reached_in state lawful v f begun (subst (Reaches state v f a da) is_from reached.first) before is;
+              second = reached_in state lawful v f begun (subst (Reaches state v f b (here chain)) is_to reached.second) before is;
               directories = reached.directories k m0 m s before is;
               plain = plain;
               other_plain = other_plain;
             }
 
-        pub checks_refused : (why : EntryFault)
+        pub checks_refused : {why : EntryFault}
             → RefusesRename (files_of state f.store) (files_of state store) da l.name.now l.slash chain o.name.now o.slash why
             → (why ≡ fault.Log log.Halted → (files_of state f.store).halted ≡ true) → (why ≡ fault.Log log.Full → ⊥)
             → Serves state v (seen now) (Rename a b) (Refuse (refusal_of (error_of_entry why)))
-        checks_refused why refuses halted other =
+        checks_refused {why} refuses halted other =
             fault_serves state lawful v f begun store still (Rename a b) refl refl refl why halted other
             (λ k m0 m s keeps is. rename_explained (files_of state f.store) (files_of state store) (here_in k m0 m s keeps is)
             (λ P all. told state lawful v f begun store P all k m0 m s keeps is)
@@ -120,7 +118,7 @@ module _ {D : Type 0} (state : D → DeviceState) (lawful : (d : D) → IsLawful
           pub same_ends : (r : Result (Unit {0}) FsError) → OnOk r ((volume_of store).number < 2 ^ 62)
               → OnErr r (2 ^ 62 ≤ (volume_of store).number)
               → IfErr r (λ e. e ≡ error.Worn) → Serves state v (seen now) (Rename a b) (answer_by (λ _. Done) r)
-          same_ends (Ok u) young aged is = served_still state v (seen now) (Rename a b) Done (lawful v.log.device)
+          same_ends (Ok u) young aged is = served_still state (Rename a b) {a = Done} (lawful v.log.device)
               (still_after state lawful v f begun store still) was tt
               (λ p keeps at k m0 m inside. inl (
                 stays k m0 m p.state keeps inside,
@@ -130,23 +128,22 @@ module _ {D : Type 0} (state : D → DeviceState) (lawful : (d : D) → IsLawful
               ))
               (λ e. cc)
           same_ends (Err e) young aged is = subst (λ (x : FsError). Serves state v (seen now) (Rename a b) (Refuse (refusal_of x))) (sym is)
-              (served_still state v (seen now) (Rename a b) (Refuse refusals.Worn) (lawful v.log.device)
+              (served_still state (Rename a b) {a = Refuse refusals.Worn} (lawful v.log.device)
               (still_after state lawful v f begun store still) was tt
               (λ p keeps at k m0 m inside. inr (
                 refusals.Worn,
                 refl,
-                worn N (Rename a b) p (point_of state (seen now) p.state)
+                worn N p (point_of state (seen now) p.state)
                     (let number = at.number in let all = (still_after state lawful v f begun store still).reads.number in
-                    omega (arith, number, all, aged)) refl Done p.state (stays k m0 m p.state keeps inside) refl,
+                    omega (arith, number, all, aged)) refl (stays k m0 m p.state keeps inside) refl,
                 refl,
               ))
               (not_acknowledged (Rename a b) refusals.Worn))
 
         -- ---- the draft
-        module _ (source : Source) (dest : Target)
+        module _ {source : Source} {dest : Target}
             (checks : ChecksRename (files_of state f.store) (files_of state store) da l.name.now l.slash chain o.name.now o.slash source
-            dest)
-            (is_open : Bool) (held : is_open ≡ true → IsOpen f.handles dest.replaced)
+            dest) {is_open : Bool} (held : is_open ≡ true → IsOpen f.handles dest.replaced)
             (shut : is_open ≡ false → IsShut f.handles dest.replaced)
             (next : Store D) (redrafts : files.Redrafts (files_of state store) (files_of state next)) where
           abbrev d1 : ℕ
@@ -160,7 +157,7 @@ module _ {D : Type 0} (state : D → DeviceState) (lawful : (d : D) → IsLawful
 
           renames_in : calls.InEach state lawful v f begun store (λ m s. IsRename N m s a b l o source dest)
           renames_in k m0 m s keeps is = renames (files_of state f.store) (files_of state store) (here_in k m0 m s keeps is)
-              (λ P all. told state lawful v f begun store P all k m0 m s keeps is) source dest checks
+              (λ P all. told state lawful v f begun store P all k m0 m s keeps is) checks
 
           -- it is made
           module _ (drafts : DraftsMove (files_of state store) (files_of state next) source dest is_open)
@@ -171,16 +168,16 @@ module _ {D : Type 0} (state : D → DeviceState) (lawful : (d : D) → IsLawful
                 let kept = redrafts.looks.carries.kept_before keeps in
                 let g = renames_in k m0 m s kept is in
                 let pass = passes (files_of state f.store) (files_of state store) (here_in k m0 m s kept is)
-                (λ P all. told state lawful v f begun store P all k m0 m s kept is) source dest checks in
-                let has = has_now state lawful v now begun_now k m0 m s is in
+                (λ P all. told state lawful v f begun store P all k m0 m s kept is) checks in
+                let has = has_now state lawful v now begun_now is in
                 let moved = drafts.has m m keeps has (has_move g) in
                 let table : s.handles ≡ f.handles = is.handles ∙ sym begun.still.table in
                 let map = moved_map g is_open (λ on. subst (λ (hs : Handles). IsOpen hs dest.replaced) (sym table) (held on))
-                (λ off. subst (λ (hs : Handles). IsShut hs dest.replaced) (sym table) (shut off)) (files_of state next) moved in
+                (λ off. subst (λ (hs : Handles). IsShut hs dest.replaced) (sym table) (shut off)) moved in
                 let counted = counts m m moved.map keeps has moved.has (has_move g) (g.shaped.long d1) map.shape.map
-                (counted_now state lawful v now begun_now k m0 m s is) in
+                (counted_now state lawful v now begun_now is) in
                 let needs : need (tree_after s a b d1 d2) ≡ need_of (with_store now next) = ap need (sym map.tree)
-                ∙ (need_shaped totals_of_tree moved.map map.shape next.drafted.data_blocks next.drafted.meta_blocks counted).0 in
+                ∙ (need_shaped totals_of_tree map.shape counted).0 in
                 let done : need_of (with_store now next) ≤ 47 * N → Step N s (Rename a b) Done (renamed s a b d1 d2) =
                 λ room. rename_done N s a b d1 d2 g.first.walk g.second.walk pass
                 (subst (λ (x : ℕ). x ≤ 47 * N) (sym needs) room) in
@@ -211,11 +208,10 @@ module _ {D : Type 0} (state : D → DeviceState) (lawful : (d : D) → IsLawful
           move_ends new rest (Ok done) result finishes drafts counts failed halted other =
               finish_ends state lawful v now begun_now next redrafts (Rename a b) refl refl refl refl
               (makes drafts counts) new rest Done refl
-              (λ k m0 m s keeps is. (refl, is.handles)) result finishes
+              (λ k m0 m s keeps is. (refl, is.handles)) finishes
           move_ends new rest (Err why) result finishes drafts counts failed halted other =
               gives_up state lawful v now begun_now next (still_ready state lawful v now begun_now next redrafts)
-              (Rename a b) refl refl refl
-              new why result finishes (λ same. halted (ap Err same)) (λ same. other (ap Err same)) (explains why failed) Done
+              (Rename a b) refl refl refl finishes (λ same. halted (ap Err same)) (λ same. other (ap Err same)) (explains why failed) Done
             where
               explains : (why : EntryFault) → FailsWhere (files_of state store) (files_of state next) (HasNames source dest) why
                   → calls.InEach state lawful v now begun_now next

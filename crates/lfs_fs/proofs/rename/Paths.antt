@@ -22,14 +22,14 @@ first_refused N s a b whole r walk =
     let some = (step_ends N s whole (Rename a b)).2 in
     rename_refused N s a b r some.second_end some.second walk
 
-module _ {D : Type 0} (state : D → DeviceState) (lawful : (d : D) → IsLawful (state d)) (v : Mounted D) (f : Fs D) (a : List ℕ) (da : ℕ)
-    (from : Option Last) (reached : Reaches state v f a da from) (ready : IsReady f) (store : Store D)
+module _ {D : Type 0} {state : D → DeviceState} (lawful : (d : D) → IsLawful (state d)) (v : Mounted D) {f : Fs D} {a : List ℕ} {da : ℕ}
+    {from : Option Last} (reached : Reaches state v f a da from) (ready : IsReady f) (store : Store D)
     (reads : files.Reads (files_of state f.store) (files_of state store)) (b : List ℕ) where
   begun : IsBegun state v f
-  begun = begun_at state v f a da from reached ready
+  begun = begun_at state reached ready
 
   only : OnlyReads state f (with_store f store)
-  only = path_read state f store reads
+  only = path_read state {old = f} store reads
 
   was : v.log.halted ≡ false
   was = sym reached.still.reads.halted ∙ ready.running
@@ -47,10 +47,10 @@ module _ {D : Type 0} (state : D → DeviceState) (lawful : (d : D) → IsLawful
       last = reached.last;
       walk = λ k m0 m s keeps is. reached.walk k m0 m s (only.still.reads.looks.carries.kept_before keeps) is;
     };
-    second = later_reaches state lawful v f (with_store f store) reached.still was reached.empty only reached.drafted b bytes (here chain)
-        to last (ends_parent state f.store store b chain (here chain) refl tells);
+    second = later_reaches lawful reached.still was reached.empty only reached.drafted b bytes
+        last (ends_parent state f.store store b chain {d = here chain} refl tells);
     directories = λ k m0 m s keeps is. subst (λ (t : Tree). IsChain t chain) (sym is.log.is)
-        (tells m m keeps (has_now state lawful v f begun k m0 m s is) (tree_of_volume state v k m0 m s is)).directories;
+        (tells m m keeps (has_now state lawful v f begun is) (tree_of_volume is)).directories;
   }
 
   -- the second isn't walked to its end
@@ -60,8 +60,7 @@ module _ {D : Type 0} (state : D → DeviceState) (lawful : (d : D) → IsLawful
       → (cause ≡ walk.Log log.Full → ⊥)
       → Serves state v (seen (with_store f store)) (Rename a b) (Refuse (refusal_of e))
   second_ends cause e is ends =
-      later_refused state lawful v f (with_store f store) reached.still was reached.empty only (EndsParent b)
-      (Rename a b) refl refl refl
+      later_refused lawful reached.still was reached.empty only (EndsParent b) refl refl refl
       (λ k m0 m s keeps is r w. rename_refused_next (segments_of v) s a b da r
       (reached.walk k m0 m s (only.still.reads.looks.carries.kept_before keeps) is) w)
-      cause e is (ends_refused state f.store store (EndsParent b) cause ends)
+      {fault = cause} is (ends_refused state f.store store (EndsParent b) cause ends)

@@ -53,7 +53,7 @@ module _ {S D : Type 0} (f f' : FilesState S D) {N : ℕ} {m : LogMap} {s : Stat
   }
 
   -- ---- the first name gives an object
-  module _ (source : Source) (finds : FindsSource f f' da l.name.now l.slash source) where
+  module _ {source : Source} (finds : FindsSource f f' da l.name.now l.slash source) where
     abbrev n : ℕ
     n = source.object.number.value
 
@@ -66,16 +66,16 @@ module _ {S D : Type 0} (f f' : FilesState S D) {N : ℕ} {m : LogMap} {s : Stat
     source_is : NamesSource N s a b da db n on
     source_is = record {
       short = short_is g.first source.holder looks_a.looks.header finds.short;
-      there = there_is g.first source.holder (Some n) looks_a.looks;
-      is = target_is g.first source.holder (Some n) looks_a.looks;
-      kind = gives_is g.first source.holder n looks_a.looks source.object.header looks_a.there;
+      there = there_is g.first looks_a.looks;
+      is = target_is g.first looks_a.looks;
+      kind = gives_is g.first looks_a.looks source.object.header looks_a.there;
       ends = ap (λ (x : Bool). x && not on) (slash_is g.first) ∙ finds.plain;
     }
 
     -- it isn't the root
     inner : n ≢ 1
     inner at =
-        let counts = named_counts s.tree da (name a) n (entry_is g.first source.holder (Some n) looks_a.looks) in
+        let counts = named_counts s.tree da (name a) n (entry_is g.first looks_a.looks) in
         let none : names s.tree n ≡ 0 = ap (names s.tree) at ∙ g.first.map.log.sound.root_unnamed in
         omega (arith, counts, none)
 
@@ -86,7 +86,7 @@ module _ {S D : Type 0} (f f' : FilesState S D) {N : ℕ} {m : LogMap} {s : Stat
     within_not apart = apart_not_within N s g.first.map.log.sound chain g.directories n apart
 
     -- ---- the second may be its name
-    module _ (dest : Target) (also : FindsTarget f f' db o.name.now o.slash source.object.header.kind dest) where
+    module _ {dest : Target} (also : FindsTarget f f' db o.name.now o.slash source.object.header.kind dest) where
       looks_b : LooksAt m db o.name.now dest.holder dest.replaced
       looks_b = see (λ x. LooksAt x db o.name.now dest.holder dest.replaced) also.looks
 
@@ -103,14 +103,14 @@ module _ {S D : Type 0} (f f' : FilesState S D) {N : ℕ} {m : LogMap} {s : Stat
 
         dest_is : NamesTarget N s a b da db r.number.value (is_directory r.header.kind)
         dest_is = record {
-          there = there_is g.second dest.holder (Some r.number.value) looks_r.looks;
-          is = target_is g.second dest.holder (Some r.number.value) looks_r.looks;
-          kind = gives_is g.second dest.holder r.number.value looks_r.looks r.header looks_r.there;
+          there = there_is g.second looks_r.looks;
+          is = target_is g.second looks_r.looks;
+          kind = gives_is g.second looks_r.looks r.header looks_r.there;
         }
 
         kind_r : is_dir (node s.tree r.number.value) ≡ is_directory r.header.kind
         kind_r =
-            kind_is g.second dest.holder looks_r.looks.header o.name.now r.number.value (sym looks_r.looks.gives) r.header looks_r.there
+            kind_is g.second dest.holder looks_r.looks.header o.name.now (sym looks_r.looks.gives) r.header looks_r.there
 
         module _ (other : GivesName (Some r) n ≡ false) where
           not_same : (n == r.number.value) ≡ false
@@ -127,15 +127,13 @@ module _ {S D : Type 0} (f f' : FilesState S D) {N : ℕ} {m : LogMap} {s : Stat
             replaced_explained rose fault.NotDir why = rename_stops N s a b da db g.first.walk g.second.walk
                 (stops_not_dir named source_is may dest_is not_same (within_not apart) why.0 why.1)
             replaced_explained rose fault.NotEmpty why = rename_stops N s a b da db g.first.walk g.second.walk
-                (stops_empty named source_is may dest_is not_same (within_not apart) why.0 why.1
-                (has_entries g.second.map r.number.value r.header
+                (stops_empty named source_is may dest_is not_same (within_not apart) why.0 why.1 (has_entries g.second.map r.header
                 (g.second.headers r.number.value (as_header r.header) looks_r.there) looks_r.there kind_r why.0 why.2))
             replaced_explained rose other why = absurd why
 
             passes_r : FitsFound (Some r) source dest → PassesAll (before_space N s a b da db)
             passes_r fits = passes_replaced named source_is may dest_is not_same (within_not apart) fits.same
-                (no_entries g.second.map r.number.value r.header
-                (g.second.headers r.number.value (as_header r.header) looks_r.there) looks_r.there kind_r
+                (no_entries g.second.map r.header (g.second.headers r.number.value (as_header r.header) looks_r.there) looks_r.there kind_r
                 (λ dir. fits.empty (sym fits.same ∙ dir)))
 
       -- it gives none
@@ -144,7 +142,7 @@ module _ {S D : Type 0} (f f' : FilesState S D) {N : ℕ} {m : LogMap} {s : Stat
         looks_none = (subst (LooksAt m db o.name.now dest.holder) none looks_b).looks
 
         new : is_there s.tree db b ≡ false
-        new = there_is g.second dest.holder None looks_none
+        new = there_is g.second looks_none
 
         within_none : IsAbove chain n → Stops (Refuse refusals.Inval)
         within_none above = stops_within_new named source_is may new (within_is above)
@@ -186,7 +184,7 @@ module _ {S D : Type 0} (f f' : FilesState S D) {N : ℕ} {m : LogMap} {s : Stat
         let looks : LooksUp m da l.name.now why.head None = see (λ x. LooksUp x da l.name.now why.head None) why.looks in
         step (stops_source named (inr (
           short_is g.first why.head looks.header why.short,
-          inl (ap not (there_is g.first why.head None looks), refl),
+          inl (ap not (there_is g.first looks), refl),
         )))
     first_explained fault.NotDir why =
         let head = why.entry.holder in
@@ -194,10 +192,9 @@ module _ {S D : Type 0} (f f' : FilesState S D) {N : ℕ} {m : LogMap} {s : Stat
         let looks : LooksAt m da l.name.now head (Some x) = see (λ y. LooksAt y da l.name.now head (Some x)) why.looks in
         step (stops_source named (inr (
           short_is g.first head looks.looks.header why.short,
-          inr (
-            ap not (there_is g.first head (Some x.number.value) looks.looks),
+          inr ( ap not (there_is g.first looks.looks),
             inl (
-              (λ i. slash_is g.first i && not (gives_is g.first head x.number.value looks.looks x.header looks.there i)) ∙ why.is,
+              (λ i. slash_is g.first i && not (gives_is g.first looks.looks x.header looks.there i)) ∙ why.is,
               refl,
             ),
           ),
@@ -205,15 +202,15 @@ module _ {S D : Type 0} (f f' : FilesState S D) {N : ℕ} {m : LogMap} {s : Stat
     first_explained (fault.Log why) fails = rises (IsHolder da) (holder g.first) fails
     first_explained other why = absurd why
 
-    module _ (source : Source) (finds : FindsSource f f' da l.name.now l.slash source) where
+    module _ {source : Source} (finds : FindsSource f f' da l.name.now l.slash source) where
       next_explained : (why : EntryFault) → RefusesNext f f' db o.name.now o.slash source.object.header.kind why
           → Explains (Rename a b) N s rose why
-      next_explained fault.NameTooLong why = step (stops_next named (source_is source finds)
+      next_explained fault.NameTooLong why = step (stops_next named (source_is finds)
           (inl (long_is g.second why.head (see (HasHeader db why.head) why.header) why.long, refl)))
       next_explained fault.NotDir why =
           let gives = why.1.1 in
           let looks : LooksUp m db o.name.now gives.head why.1.0 = see (λ x. LooksUp x db o.name.now gives.head why.1.0) gives.looks in
-          step (stops_slash named (source_is source finds) (short_is g.second gives.head looks.header gives.short)
+          step (stops_slash named (source_is finds) (short_is g.second gives.head looks.header gives.short)
           (ap (λ (x : Bool). x && not (is_directory source.object.header.kind)) (slash_is g.second) ∙ why.0))
       next_explained (fault.Log why) fails = rises (IsHolder db) (holder g.second)
           (fails (λ len short. subst (IsName len) (piece_is g.second)
@@ -221,29 +218,29 @@ module _ {S D : Type 0} (f f' : FilesState S D) {N : ℕ} {m : LogMap} {s : Stat
           (let same = ap length (piece_is g.second) in omega (arith, same, short)))))
       next_explained other why = absurd why
 
-      module _ (dest : Target) (also : FindsTarget f f' db o.name.now o.slash source.object.header.kind dest)
+      module _ {dest : Target} (also : FindsTarget f f' db o.name.now o.slash source.object.header.kind dest)
           (other : GivesName dest.replaced source.object.number.value ≡ false) where
         within_by : (found : Option Object) → dest.replaced ≡ found → IsAbove chain source.object.number.value
             → Stops (Refuse refusals.Inval)
-        within_by None none above = within_none source finds dest also none above
-        within_by (Some r) some above = within_r source finds dest also r some
+        within_by None none above = within_none finds also none above
+        within_by (Some r) some above = within_r finds also r some
             (subst (λ (x : Option Object). GivesName x source.object.number.value ≡ false) some other) above
 
         target_by : (found : Option Object) → dest.replaced ≡ found → IsNotAbove chain source.object.number.value → (why : EntryFault)
             → RefusesFound found source dest why → Explains (Rename a b) N s rose why
         target_by None none apart why refuses =
-            room_explained source finds dest also none apart rose refuses.0 why refuses.1
-        target_by (Some r) some apart why refuses = replaced_explained source finds dest also r some
+            room_explained finds also none apart rose refuses.0 why refuses.1
+        target_by (Some r) some apart why refuses = replaced_explained finds also r some
             (subst (λ (x : Option Object). GivesName x source.object.number.value ≡ false) some other) apart rose why refuses
 
     pub rename_explained : (why : EntryFault) → RefusesRename f f' da l.name.now l.slash chain o.name.now o.slash why
         → Explains (Rename a b) N s rose why
     rename_explained why (of_first refuses) = first_explained why refuses
-    rename_explained why (of_second source finds refuses) = next_explained source finds why refuses
+    rename_explained why (of_second source finds refuses) = next_explained finds why refuses
     rename_explained why (of_within source dest both other above is) = subst (Explains (Rename a b) N s rose) (sym is)
-        (step (within_by source both.first dest both.second other dest.replaced refl above))
+        (step (within_by both.first both.second other dest.replaced refl above))
     rename_explained why (of_target source dest both other apart refuses) =
-        target_by source both.first dest both.second other dest.replaced refl apart why refuses
+        target_by both.first both.second other dest.replaced refl apart why refuses
 
   -- ---- both names give one object
   pub same_step : HasBothNames f f' da l.name.now l.slash chain o.name.now o.slash → Step N s (Rename a b) Done s
@@ -253,12 +250,11 @@ module _ {S D : Type 0} (f f' : FilesState S D) {N : ℕ} {m : LogMap} {s : Stat
           → Step N s (Rename a b) Done s
       by None none is = absurd (let wrong : false ≡ true = is in cc)
       by (Some r) some is = rename_stops N s a b da db g.first.walk g.second.walk
-          (stops_done named (source_is has.source has.both.first) (may has.source has.both.first has.target has.both.second)
-          (dest_is has.source has.both.first has.target has.both.second r some)
+          (stops_done named (source_is has.both.first) (may has.both.first has.both.second) (dest_is has.both.first has.both.second r some)
           (other_way r.number.value has.source.object.number.value true is))
 
   -- ---- nothing but the need of space may refuse it
-  module _ (source : Source) (dest : Target) (checks : ChecksRename f f' da l.name.now l.slash chain o.name.now o.slash source dest) where
+  module _ {source : Source} {dest : Target} (checks : ChecksRename f f' da l.name.now l.slash chain o.name.now o.slash source dest) where
     abbrev first : FindsSource f f' da l.name.now l.slash source
     first = checks.both.first
 
@@ -267,8 +263,8 @@ module _ {S D : Type 0} (f f' : FilesState S D) {N : ℕ} {m : LogMap} {s : Stat
 
     passes_by : (found : Option Object) → dest.replaced ≡ found → GivesName found source.object.number.value ≡ false
         → FitsFound found source dest → PassesAll (before_space N s a b da db)
-    passes_by None none other fits = passes_none source first dest second none checks.apart fits
-    passes_by (Some r) some other fits = passes_r source first dest second r some other checks.apart fits
+    passes_by None none other fits = passes_none first second none checks.apart fits
+    passes_by (Some r) some other fits = passes_r first second r some other checks.apart fits
 
     pub passes : PassesAll (before_space N s a b source.directory.value dest.directory.value)
     passes = subst (λ (q : ℕ). PassesAll (before_space N s a b q dest.directory.value)) (sym first.directory)
@@ -279,12 +275,11 @@ module _ {S D : Type 0} (f f' : FilesState S D) {N : ℕ} {m : LogMap} {s : Stat
     renames = record {
       first = subst (λ (q : ℕ). IsReached N m s a q l) (sym first.directory) g.first;
       second = subst (λ (q : ℕ). IsReached N m s b q o) (sym second.directory) g.second;
-      shaped = shape_of N m s g.first.map g.first.headers;
+      shaped = shape_of N g.first.map g.first.headers;
       named_a = first.named;
       named_b = second.named;
-      looks_a = subst (λ (q : ℕ). LooksAt m q l.name.now source.holder (Some source.object)) (sym first.directory) (looks_a source first);
-      looks_b = subst (λ (q : ℕ). LooksAt m q o.name.now dest.holder dest.replaced) (sym second.directory)
-          (looks_b source first dest second);
+      looks_a = subst (λ (q : ℕ). LooksAt m q l.name.now source.holder (Some source.object)) (sym first.directory) (looks_a first);
+      looks_b = subst (λ (q : ℕ). LooksAt m q o.name.now dest.holder dest.replaced) (sym second.directory) (looks_b first second);
       apart = checks.other;
       fits = checks.fits;
     }

@@ -38,29 +38,27 @@ module _ {N : ℕ} {m : LogMap} {s : State} {p : List ℕ} {d : ℕ} {l : Last} 
   object = e.object.header
 
   dir_n : is_dir (node s.tree n) ≡ true
-  dir_n = kind_is g e.holder looks.looks.header l.name.now n (sym looks.looks.gives) object looks.there ∙ ap is_directory is_kind
+  dir_n = kind_is g e.holder looks.looks.header l.name.now (sym looks.looks.gives) object looks.there ∙ ap is_directory is_kind
 
   -- it has a name for each slot
   size_n : slot_len object.form * length (names_in s.tree n) ≡ object.size
   size_n = size_of_directory N m s g.map n dir_n object looks.there (g.headers n (as_header object) looks.there)
 
-  has_names : (b : Bool) → nat_lt 0 (length (names_in s.tree n)) ≡ b → nat_lt 0 (length (names_in s.tree (target s.tree d p))) ≡ b
-  has_names b are =
-      ap (λ (q : ℕ). nat_lt 0 (length (names_in s.tree q))) (target_is g e.holder (Some n) looks.looks) ∙ are
+  has_names : {b : Bool} → nat_lt 0 (length (names_in s.tree n)) ≡ b → nat_lt 0 (length (names_in s.tree (target s.tree d p))) ≡ b
+  has_names are =
+      ap (λ (q : ℕ). nat_lt 0 (length (names_in s.tree q))) (target_is g looks.looks) ∙ are
 
   pub some_there : 0 < object.size → nat_lt 0 (length (names_in s.tree (target s.tree d p))) ≡ true
-  some_there some = has_names true (below 0 (length (names_in s.tree n))
-      (some_names object.form (length (names_in s.tree n)) object.size size_n some))
+  some_there some = has_names (below 0 (length (names_in s.tree n)) (some_names object.form (length (names_in s.tree n)) size_n some))
 
   module _ (empty : object.size ≡ 0) where
     pub none_there : nat_lt 0 (length (names_in s.tree (target s.tree d p))) ≡ false
-    none_there = has_names false (not_below 0 (length (names_in s.tree n))
-        (let none = no_slots object.form (length (names_in s.tree n)) object.size size_n empty in omega (arith, none)))
+    none_there = has_names (not_below 0 (length (names_in s.tree n))
+        (let none = no_slots object.form (length (names_in s.tree n)) size_n empty in omega (arith, none)))
 
     empty_node : node s.tree n ≡ Some (Dir object.form [])
     empty_node =
-        node_by_header N m s g.map.log n (as_header object)
-        (range_n g e.holder looks.looks.header l.name.now n (sym looks.looks.gives)) looks.there
+        node_by_header g.map.log n (range_n g e.holder looks.looks.header l.name.now (sym looks.looks.gives)) looks.there
         ∙ ap (λ (x : Kind). Some (node_by m x n (as_header object))) is_kind
         ∙ ap (λ (ms : Names). Some (Dir object.form ms)) (empty_directory m n object empty).1
 
@@ -74,9 +72,8 @@ module _ {S D : Type 0} {a b : FilesState S D} {N : ℕ} {m : LogMap} {s : State
     (looks : LooksAt m d l.name.now e.holder (Some e.object)) where
   done : Step N s (Rmdir p) Done (gone s p d)
   done = rmdir_done N s p d g.walk (has_piece g) (last_dots_is g ∙ has.finds.named)
-      (short_is g e.holder looks.looks.header has.finds.short) (there_is g e.holder (Some e.object.number.value) looks.looks)
-      (gives_is g e.holder e.object.number.value looks.looks e.object.header looks.there ∙ ap is_directory has.dir)
-      (none_there g e looks has.dir has.empty)
+      (short_is g e.holder looks.looks.header has.finds.short) (there_is g looks.looks)
+      (gives_is g looks.looks e.object.header looks.there ∙ ap is_directory has.dir) (none_there g e looks has.dir has.empty)
 
   pub may_rmdir : MayGo N m s p d l e (Rmdir p)
   may_rmdir = record {
@@ -104,31 +101,28 @@ module _ {S D : Type 0} (a b : FilesState S D) {N : ℕ} {m : LogMap} {s : State
       (long_is g why.1.head (see (HasHeader d why.1.head) why.1.header) why.1.long)
   empty_explained fault.NoEntry why =
       let at : LooksUp m d l.name.now why.1.head None = see (λ x. LooksUp x d l.name.now why.1.head None) why.1.looks in
-      rmdir_missing N s p d g.walk (has_piece g) (last_dots_is g ∙ why.0) (short_is g why.1.head at.header why.1.short)
-      (there_is g why.1.head None at)
+      rmdir_missing N s p d g.walk (has_piece g) (last_dots_is g ∙ why.0) (short_is g why.1.head at.header why.1.short) (there_is g at)
   empty_explained fault.NotDir why =
       let e = why.1.entry in
       let at = at_entry e why.1.looks in
       rmdir_plain N s p d g.walk (has_piece g) (last_dots_is g ∙ why.0) (short_is g e.holder at.looks.header why.1.short)
-      (there_is g e.holder (Some e.object.number.value) at.looks)
-      (gives_is g e.holder e.object.number.value at.looks e.object.header at.there ∙ plain_so e.object.header.kind why.1.is)
+      (there_is g at.looks) (gives_is g at.looks e.object.header at.there ∙ plain_so e.object.header.kind why.1.is)
   empty_explained fault.NotEmpty why =
       let e = why.1.entry in
       let at = at_entry e why.1.looks in
       rmdir_full N s p d g.walk (has_piece g) (last_dots_is g ∙ why.0) (short_is g e.holder at.looks.header why.1.short)
-      (there_is g e.holder (Some e.object.number.value) at.looks)
-      (gives_is g e.holder e.object.number.value at.looks e.object.header at.there ∙ ap is_directory why.1.is.0)
+      (there_is g at.looks) (gives_is g at.looks e.object.header at.there ∙ ap is_directory why.1.is.0)
       (some_there g e at why.1.is.0 why.1.is.1)
   empty_explained (fault.Log f) why = rises why
   empty_explained other why = absurd why
 
 -- ---- the call
 
-module _ {D : Type 0} (state : D → DeviceState) (lawful : (d : D) → IsLawful (state d)) (v : Mounted D) (f : Fs D) (path : List ℕ) (d : ℕ)
-    (l : Last) (reached : Reaches state v f path d (Some l)) (ready : IsReady f) (store : Store D)
+module _ {D : Type 0} {state : D → DeviceState} (lawful : (d : D) → IsLawful (state d)) {v : Mounted D} {f : Fs D} {path : List ℕ} {d : ℕ}
+    {l : Last} (reached : Reaches state v f path d (Some l)) (ready : IsReady f) (store : Store D)
     (reads : files.Reads (files_of state f.store) (files_of state store)) where
   begun : IsBegun state v f
-  begun = begun_at state v f path d (Some l) reached ready
+  begun = begun_at state reached ready
 
   pub empty_refused : (why : EntryFault) → (why ≡ fault.Log log.Halted → (files_of state f.store).halted ≡ true)
       → (why ≡ fault.Log log.Full → ⊥) → RefusesEmpty (files_of state f.store) (files_of state store) d l.name.now why
@@ -136,14 +130,14 @@ module _ {D : Type 0} (state : D → DeviceState) (lawful : (d : D) → IsLawful
   empty_refused why halted other refuses =
       fault_serves state lawful v f begun store (only state lawful v f begun store reads).still (Rmdir path) refl refl refl why halted other
       (λ k m0 m s keeps is. (
-      let g = reached_in state lawful v f begun path d l reached (reads.looks.carries.kept_before keeps) k m0 m s is in
+      let g = reached_in state lawful v f begun reached (reads.looks.carries.kept_before keeps) is in
       empty_explained (files_of state f.store) (files_of state store) g (λ P all. told state lawful v f begun store P all k m0 m s keeps is)
       (Rose state lawful v f begun store)
       (λ fails. rose_where state lawful v f begun store (only state lawful v f begun store reads).still (IsHolder d) fails k m0 m s keeps is
       (holder g))
       why refuses))
 
-  module _ (e : Entry) (has : HasEmpty (files_of state f.store) (files_of state store) d l.name.now e) (next : Store D)
+  module _ {e : Entry} (has : HasEmpty (files_of state f.store) (files_of state store) d l.name.now e) (next : Store D)
       (redrafts : files.Redrafts (files_of state store) (files_of state next)) where
     read : IsBegun state v (with_store f store)
     read = begun_after state lawful v f begun store reads
@@ -151,8 +145,7 @@ module _ {D : Type 0} (state : D → DeviceState) (lawful : (d : D) → IsLawful
     may : calls.InEach state lawful v (with_store f store) read next (λ m s. MayGo (segments_of v) m s path d l e (Rmdir path))
     may k m0 m s keeps is =
         let kept = redrafts.looks.carries.kept_before keeps in
-        may_rmdir has (reached_in state lawful v f begun path d l reached (reads.looks.carries.kept_before kept) k m0 m s is)
-        (shape_of_volume state v k m0 m s is)
+        may_rmdir has (reached_in state lawful v f begun reached (reads.looks.carries.kept_before kept) is) (shape_of_volume is)
         (told state lawful v f begun store (λ x. LooksAt x d l.name.now e.holder (Some e.object)) has.finds.looks k m0 m s kept is)
 
     pub rmdir_ends : (new : Fs D) → new.handles ≡ f.handles → (drafted : Result (Unit {0}) EntryFault) (result : Result (Unit {0}) FsError)

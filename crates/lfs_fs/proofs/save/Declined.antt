@@ -18,7 +18,7 @@ module _ {D : Type 0} (state : D → DeviceState) (old new : Mounted D) (lawful 
       → TellsAtMost state old.log new.log commit_orders → Serves state old new Sync Done
   sync_serves rest done tells =
       commits_by state old new Sync lawful after done.carries done.segments done.was_running later rest done Done (λ e. cc)
-      (write_behaves state old new Sync Done refl rest.table (λ e. cc) (λ takes e. absurd (cc)) (sync_bounded state old new few tells))
+      (write_behaves state Sync Done refl rest.table (λ e. cc) (λ takes e. absurd (cc)) (sync_bounded state old new few tells))
       (λ p keeps at. inl (sync_done (segments_of old) p.state, never_worn (segments_of old) Sync p refl refl))
     where
       one_more : (b : Bool) (n : ℕ) → n ≤ cond b n (n + 1)
@@ -38,7 +38,7 @@ module _ {D : Type 0} (state : D → DeviceState) (old new : Mounted D) (lawful 
 
 -- ---- drafts
 
-module _ {D : Type 0} (state : D → DeviceState) (old new : Mounted D) (call : Call) (lawful : IsLawful (state old.log.device))
+module _ {D : Type 0} {state : D → DeviceState} (old : Mounted D) {new : Mounted D} {call : Call} (lawful : IsLawful (state old.log.device))
     (after : IsLawful (state new.log.device)) (was : old.log.halted ≡ false)
     (later : old.log.number ≤ new.log.number) (d : Draft) (rest : IsRest state old new) (declines : Declines state old.log
     new.log d) (low : old.log.number < 2 ^ 62) (fits : InEach state old (λ m s. Fits d m))
@@ -46,18 +46,18 @@ module _ {D : Type 0} (state : D → DeviceState) (old new : Mounted D) (call : 
   -- memory has no room
   pub no_room_serves : changes call ≡ true → takes_no_memory call ≡ false → Serves state old new call (Refuse NoMemory)
   no_room_serves change takes =
-      declines_by state old new call lawful after declines.carries declines.segments was later d rest declines low NoMemory (λ e. cc)
-      (write_behaves state old new call (Refuse NoMemory) (change_writes call change) rest.table (λ e. cc)
-      (λ never e. absurd (not_both (takes_no_memory call) never takes)) bounded) (λ p keeps at k m0 m is.
+      declines_by state old new call lawful after declines.carries declines.segments was later d rest declines low (λ e. cc)
+      (write_behaves state call (Refuse NoMemory) (change_writes call change) rest.table (λ e. cc)
+      (λ never e. absurd (not_both never takes)) bounded) (λ p keeps at k m0 m is.
       (fits k m0 m p.state (declines.carries.kept_before keeps) is, inr (NoMemory, refl, takes, refl)))
 
   -- a call of the device failed
   pub accept_fault_serves : changes call ≡ true → never_for_device call ≡ false → IsAcceptFault state old.log new.log d
       → Serves state old new call (Refuse Device)
   accept_fault_serves change free fault =
-      declines_by state old new call lawful after declines.carries declines.segments was later d rest declines low Device (λ e. cc)
-      (write_behaves state old new call (Refuse Device) (change_writes call change) rest.table (λ e. cc) (λ never e. absurd (cc)) bounded)
+      declines_by state old new call lawful after declines.carries declines.segments was later d rest declines low (λ e. cc)
+      (write_behaves state call (Refuse Device) (change_writes call change) rest.table (λ e. cc) (λ never e. absurd (cc)) bounded)
       (λ p keeps at k m0 m is. (
       let fit = fits k m0 m p.state (declines.carries.kept_before keeps) is in
-      let rose = fault k m0 m keeps is.holds fit (map_dropped state old new keeps lawful after declines.carries k m0 m p.state is) in
+      let rose = fault k m0 m keeps is.holds fit (map_dropped state new keeps lawful after declines.carries is) in
       (fit, inr (Device, refl, (free, (let f = at.failures in omega (arith, f, rose))), refl))))

@@ -13,7 +13,7 @@ use Rattle.lfs_fs.proofs.write.Ends.{halts_serves}
 pub not_halted : {D : Type 0} (f : Fs D) → (seen f).log.halted ≡ false → (seen f).log.halted ≡ true → ⊥
 not_halted f was halted = cc
 
-module _ {D : Type 0} (state : D → DeviceState) (lawful : (d : D) → IsLawful (state d)) (old : Fs D) (store : Store D)
+module _ {D : Type 0} {state : D → DeviceState} (lawful : (d : D) → IsLawful (state d)) (old : Fs D) (store : Store D)
     (was : (seen old).log.halted ≡ false) (totals : (volume_of store).totals ≡ (seen old).log.totals)
     (tells : TellsAtMost state (seen old).log (volume_of store) commit_orders) where
   abbrev new : Fs D
@@ -32,13 +32,13 @@ module _ {D : Type 0} (state : D → DeviceState) (lawful : (d : D) → IsLawful
   sync_fault log.Full full unsaved halted device =
       subst (λ (v : Mounted D). Serves state (seen old) v Sync (Refuse (refusal_of (error_of_log log.Full))))
       (sym (same_seen (full refl).0)) (full_serves state (seen old) (lawful (seen old).log.device) was (unsaved refl) (full refl).1)
-  sync_fault log.Halted full unsaved halted device = halts_serves state lawful (seen old) (seen new) Sync was refl refl 0 (omega arith)
+  sync_fault log.Halted full unsaved halted device = halts_serves state lawful (seen old) {new = seen new} Sync was refl refl (omega arith)
       (λ few. sync_bounded state (seen old) (seen new) few tells) (halts_at_once state (seen old).log (volume_of store) (halted refl))
   sync_fault log.Device full unsaved halted device = absurd (device refl)
 
-  pub sync_fails : (fault : LogFault) (e : FsError) → e ≡ error_of_log fault
+  pub sync_fails : (fault : LogFault) {e : FsError} → e ≡ error_of_log fault
       → (fault ≡ log.Full → (volume_of store ≡ (seen old).log) × IsFull (seen old).log) → (fault ≡ log.Full → (seen old).log.saved ≡ false)
       → (fault ≡ log.Halted → Halts state (seen old).log (volume_of store)) → (fault ≡ log.Device → ⊥)
       → Serves state (seen old) (seen new) Sync (Refuse (refusal_of e))
-  sync_fails fault e is full unsaved halted device = subst (λ (x : FsError).
+  sync_fails fault is full unsaved halted device = subst (λ (x : FsError).
       Serves state (seen old) (seen new) Sync (Refuse (refusal_of x))) (sym is) (sync_fault fault full unsaved halted device)

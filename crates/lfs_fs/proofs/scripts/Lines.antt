@@ -17,28 +17,27 @@ module _ {D : Type 0} (state : D → DeviceState) where
     pub saves : acknowledges (call_of line) answer ≡ true → LeavesOne (state new.log.device) (drop_nameless next.state)
 
   -- what may be left is left, where nothing is done
-  pub left_none : (d : DeviceState) (ss : List State) → IsLawful d → LeavesSome state d → LeavesStates d d ss
-  left_none d ss lawful some = started d (λ c. (s : State) × Stands c s × (Left d s ⊎ Contains ss s)) lawful
+  pub left_none : {d : DeviceState} (ss : List State) → IsLawful d → LeavesSome state d → LeavesStates d d ss
+  left_none {d} ss lawful some = started (λ c. (s : State) × Stands c s × (Left d s ⊎ Contains ss s)) lawful
       (λ c left. (let is = some c left in (is.0, is.1, inl (record { content = c; may_leave = left; stands = is.1 }))))
 
   module _ (lawful : (d : D) → IsLawful (state d)) where
     -- a line that does nothing
-    stays : (N : ℕ) (v : Mounted D) (line : Line) (answer : Answer) (p : Point) → IsAt state v p → LineAnswers N line p answer p
+    stays : (N : ℕ) (v : Mounted D) (line : Line) {answer : Answer} (p : Point) → IsAt state v p → LineAnswers N line p answer p
         → (acknowledges (call_of line) answer ≡ true → ⊥)
         → StepsLine N v v line answer p
-    stays N v line answer p at does none = record {
+    stays N v line p at does none = record {
       next = p;
       at = at;
       does = does;
-      leaves = left_none (state v.log.device) (drop_nameless p.state ∷ drop_nameless p.state ∷ []) (lawful v.log.device) at.leaves;
+      leaves = left_none (drop_nameless p.state ∷ drop_nameless p.state ∷ []) (lawful v.log.device) at.leaves;
       saves = λ e. absurd (none e);
     }
 
     -- one of a volume that was halted
     line_halted : (N : ℕ) (v : Mounted D) (line : Line) (p : Point) → IsAt state v p → v.log.halted ≡ true
         → StepsLine N v v line (Refuse Halted) p
-    line_halted N v line p at was = stays N v line (Refuse Halted) p at
-        (inl (record {
+    line_halted N v line p at was = stays N v line p at (inl (record {
           steps = inr (Halted, refl, inl (at.halted ∙ was), refl);
           halted = λ e. refl;
           halts = λ e. at.halted ∙ was;
@@ -72,19 +71,20 @@ module _ {D : Type 0} (state : D → DeviceState) where
       ] refl
 
       -- a line, its call made or not
-      pub line_steps : (N : ℕ) (p : Point) → (old.log.halted ≡ false → segments_of old ≡ N) → (state new.log.device).keeps_model
+      pub line_steps : (N : ℕ) {p : Point} → (old.log.halted ≡ false → segments_of old ≡ N) → (state new.log.device).keeps_model
           → IsAt state old p → ServesLine state old new line answer
           → StepsLine N old new line answer p
-      line_steps N p same keeps at (inl serves) = line_served N p same keeps at serves
-      line_steps N p same keeps at (inr none) =
+      line_steps N {p} same keeps at (inl serves) = line_served N p same keeps at serves
+      line_steps N {p} same keeps at (inr none) =
           subst (λ (v : Mounted D). StepsLine N old v line answer p) (sym none.2)
-          (stays N old line answer p at (inr (none.0, none.1, refl))
+          (stays N old line {answer = answer} p at (inr (none.0, none.1, refl))
           (λ e. not_acknowledged (call_of line) NoMemory (subst (λ (a : Answer). acknowledges (call_of line) a ≡ true) none.1 e)))
 
       pub line_carries : ServesLine state old new line answer → Carries (state old.log.device) (state new.log.device)
       line_carries (inl serves) = serves.carries
       line_carries (inr none) =
-          subst (λ (v : Mounted D). Carries (state old.log.device) (state v.log.device)) (sym none.2) (carries_none (state old.log.device))
+          subst (λ (v : Mounted D). Carries (state old.log.device) (state v.log.device)) (sym none.2)
+          (carries_none {d = state old.log.device})
 
       -- what runs after it ran before it
       served_running : Serves state old new (call_of line) answer → new.log.halted ≡ false → old.log.halted ≡ false

@@ -20,13 +20,13 @@ module _ {S D : Type 0} {a b : FilesState S D} {N : ℕ} {m : LogMap} {s : State
     (has : HasEntry a b d l.name.now l.slash e) (g : IsReached N m s p d l) (shaped : IsShaped m)
     (looks : LooksAt m d l.name.now e.holder (Some e.object)) where
   plain : is_dir (node s.tree e.object.number.value) ≡ false
-  plain = kind_is g e.holder looks.looks.header l.name.now e.object.number.value (sym looks.looks.gives) e.object.header looks.there
+  plain = kind_is g e.holder looks.looks.header l.name.now (sym looks.looks.gives) e.object.header looks.there
       ∙ plain_so e.object.header.kind has.other
 
   done : Step N s (Unlink p) Done (gone s p d)
   done = unlink_done N s p d g.walk (dots_is g ∙ has.finds.named) (short_is g e.holder looks.looks.header has.finds.short)
-      (there_is g e.holder (Some e.object.number.value) looks.looks) (slash_is g ∙ has.plain)
-      (gives_is g e.holder e.object.number.value looks.looks e.object.header looks.there ∙ plain_so e.object.header.kind has.other)
+      (there_is g looks.looks) (slash_is g ∙ has.plain)
+      (gives_is g looks.looks e.object.header looks.there ∙ plain_so e.object.header.kind has.other)
 
   pub may_unlink : MayGo N m s p d l e (Unlink p)
   may_unlink = record {
@@ -40,13 +40,13 @@ module _ {S D : Type 0} {a b : FilesState S D} {N : ℕ} {m : LogMap} {s : State
 
 -- ---- the call
 
-module _ {D : Type 0} (state : D → DeviceState) (lawful : (d : D) → IsLawful (state d)) (v : Mounted D) (f : Fs D) (path : List ℕ) (d : ℕ)
-    (l : Last) (reached : Reaches state v f path d (Some l)) (ready : IsReady f) (store : Store D)
-    (reads : files.Reads (files_of state f.store) (files_of state store)) (e : Entry)
+module _ {D : Type 0} {state : D → DeviceState} (lawful : (d : D) → IsLawful (state d)) {v : Mounted D} {f : Fs D} {path : List ℕ} {d : ℕ}
+    {l : Last} (reached : Reaches state v f path d (Some l)) (ready : IsReady f) (store : Store D)
+    (reads : files.Reads (files_of state f.store) (files_of state store)) {e : Entry}
     (has : HasEntry (files_of state f.store) (files_of state store) d l.name.now l.slash e) (next : Store D)
     (redrafts : files.Redrafts (files_of state store) (files_of state next)) where
   begun : IsBegun state v f
-  begun = begun_at state v f path d (Some l) reached ready
+  begun = begun_at state reached ready
 
   read : IsBegun state v (with_store f store)
   read = begun_after state lawful v f begun store reads
@@ -54,11 +54,10 @@ module _ {D : Type 0} (state : D → DeviceState) (lawful : (d : D) → IsLawful
   may : InEach state lawful v (with_store f store) read next (λ m s. MayGo (segments_of v) m s path d l e (Unlink path))
   may k m0 m s keeps is =
       let kept = redrafts.looks.carries.kept_before keeps in
-      may_unlink has (reached_in state lawful v f begun path d l reached (reads.looks.carries.kept_before kept) k m0 m s is)
-      (shape_of_volume state v k m0 m s is)
+      may_unlink has (reached_in state lawful v f begun reached (reads.looks.carries.kept_before kept) is) (shape_of_volume is)
       (told state lawful v f begun store (λ x. LooksAt x d l.name.now e.holder (Some e.object)) has.finds.looks k m0 m s kept is)
 
-  pub unlink_ends : (is_open : Bool) → (is_open ≡ true → opened f.handles e.object.number.value ≢ 0)
+  pub unlink_ends : {is_open : Bool} → (is_open ≡ true → opened f.handles e.object.number.value ≢ 0)
       → (is_open ≡ false → opened f.handles e.object.number.value ≡ 0) → (new : Fs D) → new.handles ≡ f.handles
       → (drafted : Result (Unit {0}) EntryFault) (result : Result (Unit {0}) FsError)
       → Finishes state (with_store f next) new drafted result
@@ -67,6 +66,6 @@ module _ {D : Type 0} (state : D → DeviceState) (lawful : (d : D) → IsLawful
       → IfErr drafted (FailsWhere (files_of state store) (files_of state next) (HasOld d e l.name.now))
       → (IsErrOf drafted (fault.Log log.Halted) → (files_of state store).halted ≡ true) → (IsErrOf drafted (fault.Log log.Full) → ⊥)
       → Serves state v (seen new) (Unlink path) (answer_by (λ _. Done) result)
-  unlink_ends is_open opens shut new rest drafted result =
+  unlink_ends {is_open} opens shut new rest drafted result =
       drop_ends state lawful v (with_store f store) read next redrafts path d l e (Unlink path) refl refl refl refl may is_open opens
       (λ off plain. shut off) new rest drafted result

@@ -43,27 +43,27 @@ module _ {D : Type 0} {state : D → DeviceState} (lawful : (d : D) → IsLawful
   pub no_directory : head.kind ≢ kind.Directory → Serves state v (seen f) (Widen path) (Refuse NotDir)
   no_directory other = refused_after state lawful v f looked.begun f.store (still_none state lawful (seen f)) (Widen path) refl refl refl
       NotDir tt (λ k m0 m s keeps is. widen_no_directory (segments_of v) s path n (looked.walk k m0 m s keeps is)
-      (other_directory (map_of_volume state v k m0 m s is) (headers_of_volume state v k m0 m s is) (looked.header k m0 m s keeps is) other))
+      (other_directory (map_of_volume is) (headers_of_volume is) (looked.header k m0 m s keeps is) other))
 
   module _ (dir : head.kind ≡ kind.Directory) where
     pub old_volume : v.log.version ≡ 1 → Serves state v (seen f) (Widen path) (Refuse Inval)
     old_volume one = refused_after state lawful v f looked.begun f.store (still_none state lawful (seen f)) (Widen path) refl refl refl
         Inval tt (λ k m0 m s keeps is. widen_old_volume (segments_of v) s path n (looked.walk k m0 m s keeps is)
-        (directory (map_of_volume state v k m0 m s is) (headers_of_volume state v k m0 m s is) (looked.header k m0 m s keeps is) dir)
-        (eq-eqb s.version 1 (version_of_volume state v k m0 m s is ∙ one)))
+        (directory (map_of_volume is) (headers_of_volume is) (looked.header k m0 m s keeps is) dir)
+        (eq-eqb s.version 1 (version_of_volume is ∙ one)))
 
     -- it has form 1 already
     pub wide_already : (v.log.version ≡ 1 → ⊥) → head.form ≢ 0 → {X : Type 0} (r : Result X FsError)
         → OnOk r (v.log.number < 2 ^ 62) → OnErr r (2 ^ 62 ≤ v.log.number) → IfErr r (λ fault. fault ≡ error.Worn)
         → Serves state v (seen f) (Widen path) (answer_by (λ _. Done) r)
     wide_already new wide =
-        nothing_ends state lawful v (seen f) looked.begun.still (was state lawful v f looked.begun) (Widen path) refl (λ e. cc)
+        nothing_ends lawful looked.begun.still (was state lawful v f looked.begun) refl (λ e. cc)
         (λ k m0 m s keeps is.
-        let map = map_of_volume state v k m0 m s is in
-        let headers = headers_of_volume state v k m0 m s is in
+        let map = map_of_volume is in
+        let headers = headers_of_volume is in
         let there = looked.header k m0 m s keeps is in
         widen_nothing (segments_of v) s path n (looked.walk k m0 m s keeps is) (directory map headers there dir)
-        (ne_eqb s.version 1 (λ e. new (sym (version_of_volume state v k m0 m s is) ∙ e)))
+        (ne_eqb s.version 1 (λ e. new (sym (version_of_volume is) ∙ e)))
         (eq-eqb (form_of (node s.tree n)) 1 (form_here map headers there dir
         ∙ wide_form head.form (subst (λ (x : Kind). IsForm 2 x head.form) dir (headers n (as_header head) there).form) wide)))
 
@@ -101,25 +101,25 @@ module _ {D : Type 0} (state : D → DeviceState) (lawful : (d : D) → IsLawful
   begun = begun_with state at.reached
 
   may : InEach state lawful v f begun store (λ m s. MayWiden n head m)
-  may k m0 m s keeps is = may_widen (map_of_volume state v k m0 m s is) (headers_of_volume state v k m0 m s is)
+  may k m0 m s keeps is = may_widen (map_of_volume is) (headers_of_volume is)
       (at.there k m0 m s (redrafts.looks.carries.kept_before keeps) is) at.directory
 
   widen_makes : Widens a b n head → CountsWidened a b n head
       → InEach state lawful v f begun store (Makes state lawful v f begun store redrafts (Widen path) refl refl refl refl)
   widen_makes widens counts k m0 m s keeps is =
       let before : (state (seen f).log.device).keeps_model = redrafts.looks.carries.kept_before keeps in
-      let map : IsMapOf (segments_of v) m s = map_of_volume state v k m0 m s is in
-      let headers = headers_of_volume state v k m0 m s is in
+      let map : IsMapOf (segments_of v) m s = map_of_volume is in
+      let headers = headers_of_volume is in
       let there = at.there k m0 m s before is in
       let dir = at.directory in
-      let new : s.version ≡ 1 → ⊥ = (λ one. at.version (sym (version_of_volume state v k m0 m s is) ∙ one)) in
-      let here : a.has m m = has_now state lawful v f begun k m0 m s is in
+      let new : s.version ≡ 1 → ⊥ = (λ one. at.version (sym (version_of_volume is) ∙ one)) in
+      let here : a.has m m = has_now state lawful v f begun is in
       let wide : HasWidened b m m n head = widens.has m m keeps here in
       let formed = (may k m0 m s keeps is).formed in
       let names : WidensNames m wide.map n head = wide.names formed in
-      let whole = kept map headers there dir new wide.map wide.file names in
+      let whole = kept map headers there dir new wide.file names in
       let counted = counts m m wide.map keeps here wide.has record { map = map.map; there = there } (map.long n) formed
-      (known map headers there dir new) whole (counted_now state lawful v f begun k m0 m s is) in
+      (known map headers there dir new) whole (counted_now state lawful v f begun is) in
       let walk = at.reached.walk k m0 m s before is in
       record {
         next = with_tree s (widened s.tree n);
@@ -134,12 +134,9 @@ module _ {D : Type 0} (state : D → DeviceState) (lawful : (d : D) → IsLawful
           apart = apart_now state lawful v f begun n;
         };
         counted = counted;
-        is = after map headers there dir new wide.map wide.file names path walk at.narrow (drafted_of store).data_blocks
-            (drafted_of store).meta_blocks counted;
-        done = done map headers there dir new wide.map wide.file names path walk at.narrow (drafted_of store).data_blocks
-            (drafted_of store).meta_blocks counted;
-        lacks = lacks map headers there dir new wide.map wide.file names path walk at.narrow (drafted_of store).data_blocks
-            (drafted_of store).meta_blocks counted;
+        is = after map headers there dir new wide.file names path walk at.narrow counted;
+        done = done map headers there dir new wide.file names path walk at.narrow counted;
+        lacks = lacks map headers there dir new wide.file names path walk at.narrow counted;
       }
 
   module _ (new : Fs D) (rest : new.handles ≡ f.handles) (result : Result (Unit {0}) FsError) where
@@ -150,7 +147,7 @@ module _ {D : Type 0} (state : D → DeviceState) (lawful : (d : D) → IsLawful
     unfolding widen_makes
     widen_ends (Ok drafted) finishes widens counts failed halted other =
         finish_ends state lawful v f begun store redrafts (Widen path) refl refl refl refl (widen_makes widens counts) new rest Done refl
-        (λ k m0 m s keeps is. (refl, is.handles)) result finishes
+        (λ k m0 m s keeps is. (refl, is.handles)) finishes
     widen_ends (Err why) finishes widens counts failed halted other =
         gives_up_where state lawful v f begun store (still_ready state lawful v f begun store redrafts) (Widen path) refl refl refl
-        (MayWiden n head) may new why result finishes failed (λ same. halted (ap Err same)) (λ same. other (ap Err same)) Done
+        (MayWiden n head) may finishes failed (λ same. halted (ap Err same)) (λ same. other (ap Err same)) Done

@@ -36,7 +36,7 @@ module _ {N : ℕ} {m : LogMap} {s : State} (here : IsMapOf N m s)
   few = sized.1
 
   shaped : IsShaped m
-  shaped = shape_of N m s here headers
+  shaped = shape_of N here headers
 
   formed : IsDirectory m n (as_header head)
   formed = shaped.directories n (as_header head) there dir
@@ -69,7 +69,7 @@ module _ {N : ℕ} {m : LogMap} {s : State} (here : IsMapOf N m s)
     known = subst (λ (v : ℕ). IsForm v head.kind 1) (sym two ∙ here.log.version)
         (subst (λ (x : Kind). IsForm 2 x 1) (sym dir) (omega arith))
 
-    module _ (m' : LogMap) (file : WidensFile m m' n head) (names : WidensNames m m' n head) where
+    module _ {m' : LogMap} (file : WidensFile m m' n head) (names : WidensNames m m' n head) where
       was_object : IsObject m n (as_header head)
       was_object = object_fits m n (as_header head) here.map (here.long n) there fits.most
 
@@ -87,7 +87,7 @@ module _ {N : ℕ} {m : LogMap} {s : State} (here : IsMapOf N m s)
       kept = object_kept m m' n (as_header (wide head)) here.map file.only file.header now_object
 
       shape : IsShaped m'
-      shape = shape_kept m m' n file.only shaped kept now_object.whole.long
+      shape = shape_kept file.only shaped kept now_object.whole.long
           (λ h at dir. subst (IsDirectory m' n) (let both : Some (as_header (wide head)) ≡ Some h = sym file.header ∙ at in cc)
           names.directory)
 
@@ -97,7 +97,7 @@ module _ {N : ℕ} {m : LogMap} {s : State} (here : IsMapOf N m s)
           record { number = fits.number; header = file.header; kind = dir } names.names
           ∙ ap (λ (t : Tree). widened t n) (sym here.log.is)
 
-      module _ (path : List ℕ) (walk : Resolve s.tree path true (At n)) (narrow : head.form ≡ 0) (blocks others : ℕ)
+      module _ (path : List ℕ) (walk : Resolve s.tree path true (At n)) (narrow : head.form ≡ 0) {blocks others : ℕ}
           (counted : IsCounted m' blocks others) where
         is_new : (s.version == 1) ≡ false
         is_new = ne_eqb s.version 1 new
@@ -106,7 +106,7 @@ module _ {N : ℕ} {m : LogMap} {s : State} (here : IsMapOf N m s)
         is_narrow = ap (λ (f : ℕ). f == 1) (form_here ∙ narrow)
 
         needs : need (widened s.tree n) ≡ blocks + 7 * others + 720
-        needs = ap need (sym tree) ∙ (need_shaped totals_of_tree m' shape blocks others counted).0
+        needs = ap need (sym tree) ∙ (need_shaped totals_of_tree shape counted).0
 
         pub done : blocks + 7 * others + 720 ≤ 47 * N → Step N s (Widen path) Done (with_tree s (widened s.tree n))
         done room = widen_done N s path n walk is_dir_here is_new is_narrow (let same = needs in omega (arith, same, room))
@@ -131,5 +131,5 @@ module _ {N : ℕ} {m : LogMap} {s : State} (here : IsMapOf N m s)
               (cases_eq q n)
 
           pub after : IsMapOf N m' (with_tree s (widened s.tree n))
-          after = map_by shape (widen_keeps N s (with_tree s (widened s.tree n)) path Done here.log.sound (done room))
+          after = map_by shape (widen_keeps N s path Done here.log.sound (done room))
               (here.log.version ∙ sym file.only.version) tree links_are

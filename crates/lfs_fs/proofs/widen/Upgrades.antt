@@ -24,22 +24,21 @@ use Rattle.lfs_fs.proofs.write.Ends.{draft_ends}
 
 -- ---- a change that finds nothing to do
 
-module _ {D : Type 0} (state : D → DeviceState) (lawful : (d : D) → IsLawful (state d)) (v new : Mounted D) (still : IsStill state v new)
-    (was : v.log.halted ≡ false)
-    (call : Call) (change : changes call ≡ true) (none : acknowledges call Done ≡ true → ⊥)
+module _ {D : Type 0} {state : D → DeviceState} (lawful : (d : D) → IsLawful (state d)) {v new : Mounted D} (still : IsStill state v new)
+    (was : v.log.halted ≡ false) {call : Call} (change : changes call ≡ true) (none : acknowledges call Done ≡ true → ⊥)
     (step : (k : CheckpointValue) (m0 m : LogMap) (s : State) → (state new.log.device).keeps_model → IsIn state v k m0 m s
     → Step (segments_of v) s call Done s) where
   nothing_done : v.log.number < 2 ^ 62 → Serves state v new call Done
-  nothing_done low = served_still state v new call Done (lawful v.log.device) still was tt
+  nothing_done low = served_still state call {a = Done} (lawful v.log.device) still was tt
       (λ p keeps at k m0 m is.
       inl (step k m0 m p.state keeps is, not_worn (segments_of v) call p (let number = at.number in omega (arith, number, low)))) none
 
   nothing_worn : 2 ^ 62 ≤ v.log.number → Serves state v new call (Refuse Worn)
-  nothing_worn high = served_still state v new call (Refuse Worn) (lawful v.log.device) still was tt
+  nothing_worn high = served_still state call (lawful v.log.device) still was tt
       (λ p keeps at k m0 m is. inr (
         Worn,
         refl,
-        worn (segments_of v) call p (point_of state new p.state) (let number = at.number in omega (arith, number, high)) change Done p.state
+        worn (segments_of v) p (point_of state new p.state) (let number = at.number in omega (arith, number, high)) change
             (step k m0 m p.state keeps is) refl,
         refl,
       ))
@@ -78,7 +77,7 @@ raised_map N m s is = record {
 
 module _ {D : Type 0} (state : D → DeviceState) (lawful : (d : D) → IsLawful (state d)) (old mid : Fs D) (begun : Begins old mid) where
   running : (seen mid).log.halted ≡ false
-  running = begun_running state old mid begun
+  running = begun_running state begun
 
   same_state : (s : State) → s.version ≡ 2 → upgraded s ≡ s
   same_state s two = ap (λ (n : ℕ). record { tree = s.tree; handles = s.handles; version = n }) (sym two)
@@ -88,9 +87,9 @@ module _ {D : Type 0} (state : D → DeviceState) (lawful : (d : D) → IsLawful
       → OnErr r (2 ^ 62 ≤ (seen mid).log.number) → IfErr r (λ fault. fault ≡ error.Worn)
       → Serves state (seen mid) (seen mid) Upgrade (answer_by (λ _. Done) r)
   upgrade_nothing two =
-      nothing_ends state lawful (seen mid) (seen mid) (still_logged state mid mid refl refl) running Upgrade refl (λ e. cc)
+      nothing_ends lawful (still_logged state mid mid refl refl) running refl (λ e. cc)
       (λ k m0 m s keeps is. subst (λ (x : State). Step (segments_of (seen mid)) s Upgrade Done x)
-      (same_state s (version_of_volume state (seen mid) k m0 m s is ∙ two)) (upgrade_step (segments_of (seen mid)) s))
+      (same_state s (version_of_volume is ∙ two)) (upgrade_step (segments_of (seen mid)) s))
 
   module _ (b : Store D) (same_log : volume_of b ≡ (seen mid).log) (same_drafted : drafted_of b ≡ drafted_of mid.store)
       (drafts : DraftsUpgrade (draft_of b)) (counts : CountsUpgraded (draft_of b)) where
@@ -100,10 +99,10 @@ module _ {D : Type 0} (state : D → DeviceState) (lawful : (d : D) → IsLawful
     still : IsStill state (seen mid) (seen ready)
     still = still_logged state mid ready same_log refl
 
-    module _ (k : CheckpointValue) (m0 m : LogMap) (s : State) (is : IsIn state (seen mid) k m0 m s) where
+    module _ (k : CheckpointValue) {m0 : LogMap} (m : LogMap) (s : State) (is : IsIn state (seen mid) k m0 m s) where
       after : IsMapOf (segments_of (seen mid)) (with_draft (draft_of b) m) (upgraded s)
       after = subst (λ (x : LogMap). IsMapOf (segments_of (seen mid)) x (upgraded s)) (sym (drafts.map m))
-          (raised_map (segments_of (seen mid)) m s (map_of_volume state (seen mid) k m0 m s is))
+          (raised_map (segments_of (seen mid)) m s (map_of_volume is))
 
       totals : AreTotals (with_draft (draft_of b) m) (drafted_of b)
       totals = subst (λ (t : BlockTotals). AreTotals (with_draft (draft_of b) m) t) (sym (same_drafted ∙ begun.drafted))
@@ -113,10 +112,8 @@ module _ {D : Type 0} (state : D → DeviceState) (lawful : (d : D) → IsLawful
       headers n h there = ap (λ (x : LogMap). x.header n) (sym (drafts.map m)) ∙ there
 
       room : (drafted_of b).data_blocks + 7 * (drafted_of b).meta_blocks + 720 ≤ 47 * segments_of (seen mid)
-      room = room_shaped totals_of_tree (segments_of (seen mid)) (with_draft (draft_of b) m) (upgraded s) after
-          (shape_of (segments_of (seen mid)) (with_draft (draft_of b) m) (upgraded s) after
-          (λ n h there. headers_of_volume state (seen mid) k m0 m s is n h (headers n h there)))
-          (drafted_of b).data_blocks (drafted_of b).meta_blocks totals
+      room = room_shaped totals_of_tree (segments_of (seen mid)) after (shape_of (segments_of (seen mid)) after
+          (λ n h there. headers_of_volume is n h (headers n h there))) totals
 
     pub upgrade_ends : (new : Fs D) → new.handles ≡ ready.handles → {X : Type 0} (r : Result X FsError)
         → OnOk r (StagesDraft state ready new) → IfErr r (TurnsDown state ready new)
@@ -127,8 +124,8 @@ module _ {D : Type 0} (state : D → DeviceState) (lawful : (d : D) → IsLawful
           answer = Done;
           ok = refl;
           fits = drafts.fits m;
-          counted = totals k m0 m s is;
-          map = λ has_room. after k m0 m s is;
+          counted = totals k m s is;
+          map = λ has_room. after k m s is;
           done = λ has_room. upgrade_step (segments_of (seen mid)) s;
-          lacks = λ more. absurd (let most = room k m0 m s is in omega (arith, most, more));
+          lacks = λ more. absurd (let most = room k m s is in omega (arith, most, more));
         }) refl (λ keeps k m0 m s is. (refl, is.handles)) r done down

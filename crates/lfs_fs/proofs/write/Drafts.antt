@@ -24,16 +24,17 @@ use Rattle.lfs_steps.proofs.write.Bytes.{written_log}
 use Rattle.lfs_steps.proofs.write.Lengths.{shortened_map, shortened_shape}
 
 -- bytes come alone into an empty draft
-pub lone_write : {D : Type 0} (state : D → DeviceState) (s : Store D) (w : List ℕ) → IsEmpty (draft_of s) → length w ≤ 65536
+pub lone_write : {D : Type 0} (state : D → DeviceState) (s : Store D) {w : List ℕ} → IsEmpty (draft_of s) → length w ≤ 65536
     → IsLoneWrite (files_of state s) w
-lone_write state s w none few = record {
+lone_write state s none few = record {
   headers = let no_header = ap length none.headers in omega (arith, no_header);
   blocks = ap length none.blocks;
   few = omega (arith, few);
 }
 
-module _ {D : Type 0} (state : D → DeviceState) (lawful : (d : D) → IsLawful (state d)) (v : Mounted D) (f : Fs D)
-    (begun : IsBegun state v f) (store : Store D) (redrafts : files.Redrafts (files_of state f.store) (files_of state store)) (h n : ℕ)
+module _ {D : Type 0} {state : D → DeviceState} (lawful : (d : D) → IsLawful (state d)) {v : Mounted D} {f : Fs D}
+    (begun : IsBegun state v f) (store : Store D) (redrafts : files.Redrafts (files_of state f.store) (files_of state store)) (h : ℕ)
+    {n : ℕ}
     (opens : find nat_cmp h v.table ≡ Some n) where
   abbrev a : FilesState StagedLog Draft
   a = files_of state f.store
@@ -42,27 +43,27 @@ module _ {D : Type 0} (state : D → DeviceState) (lawful : (d : D) → IsLawful
   b = files_of state store
 
   -- ---- the file in a state, and its header
-  module _ (k : CheckpointValue) (m0 m : LogMap) (s : State) (is : IsIn state v k m0 m s) where
+  module _ {k : CheckpointValue} {m0 m : LogMap} {s : State} (is : IsIn state v k m0 m s) where
     file : find nat_cmp h s.handles ≡ Some n
     file = ap (find nat_cmp h) is.handles ∙ opens
 
     map : IsMapOf (segments_of v) m s
-    map = map_of_volume state v k m0 m s is
+    map = map_of_volume is
 
     shaped : IsShaped m
-    shaped = shape_of_volume state v k m0 m s is
+    shaped = shape_of_volume is
 
     -- it is there
     object : HasObject n m
-    object none = let there = (opened_file (segments_of v) m s is.log h n file).there in absurd (cc)
+    object none = let there = (opened_file is.log h file).there in absurd (cc)
 
     module _ (head : Header) (there : HasHeader n head m) where
       header_fits : IsHeaderOf n (as_header head)
-      header_fits = headers_of_volume state v k m0 m s is n (as_header head) there
+      header_fits = headers_of_volume is n (as_header head) there
 
       is_file : head.kind ≡ kind.File
       is_file =
-          let was = opened_file (segments_of v) m s is.log h n file in
+          let was = opened_file is.log h file in
           let same : was.head ≡ as_header head = let both : Some was.head ≡ Some (as_header head) = sym was.there ∙ there in cc in
           sym (ap (λ (x : entry.Header). x.kind) same) ∙ was.kind
 
@@ -73,15 +74,13 @@ module _ {D : Type 0} (state : D → DeviceState) (lawful : (d : D) → IsLawful
     write_makes drafts counts k m0 m s keeps is =
         let there : HasHeader n drafts.head m =
         told state lawful v f begun store (HasHeader n drafts.head) drafts.header k m0 m s keeps is in
-        let here : a.has m m = has_now state lawful v f begun k m0 m s is in
+        let here : a.has m m = has_now state lawful v f begun is in
         let done : HasWritten b m m n drafts.head (resized drafts.head (max drafts.head.size (at + length w))) at w =
         drafts.writes.file m m keeps here in
-        let log = written_log (segments_of v) m done.map s h n (map k m0 m s is) (file k m0 m s is) drafts.head there at w done.file end in
-        let counted = counts m m done.map keeps here done.has is.map log (counted_now state lawful v f begun k m0 m s is) in
-        let ends = pwrite_ends (segments_of v) m s (map k m0 m s is) totals_of_tree (shaped k m0 m s is) done.map
-        (drafted_of store).data_blocks (drafted_of store).meta_blocks counted h n (file k m0 m s is) drafts.head there at w done.file some
-        few end in
-        let fits = header_fits k m0 m s is drafts.head there in
+        let log = written_log m done.map s h n (map is) (file is) drafts.head there w done.file end in
+        let counted = counts m m done.map keeps here done.has is.map log (counted_now state lawful v f begun is) in
+        let ends = pwrite_ends m s (map is) totals_of_tree (shaped is) counted h n (file is) there at w done.file some few end in
+        let fits = header_fits is drafts.head there in
         let most = fits.most in
         record {
           next = with_tree s (written (segments_of v) s h at w);
@@ -92,9 +91,8 @@ module _ {D : Type 0} (state : D → DeviceState) (lawful : (d : D) → IsLawful
           fits = drafts.writes.fits m m here (fits_now state lawful v f begun m) record {
             there = there;
             apart = apart_now state lawful v f begun n;
-            within = λ none. absurd (object k m0 m s is none);
-            header = file_fits n drafts.head fits (is_file k m0 m s is drafts.head there) (max drafts.head.size (at + length w))
-                (omega (arith, most, end));
+            within = λ none. absurd (object is none);
+            header = file_fits n drafts.head fits (is_file is drafts.head there) (omega (arith, most, end));
           };
           counted = counted;
           is = ends.2 bytes;
@@ -109,46 +107,45 @@ module _ {D : Type 0} (state : D → DeviceState) (lawful : (d : D) → IsLawful
     cut_makes drafts counts k m0 m s keeps is =
         let there : HasHeader n drafts.head m =
         told state lawful v f begun store (HasHeader n drafts.head) drafts.header k m0 m s keeps is in
-        let here : a.has m m = has_now state lawful v f begun k m0 m s is in
+        let here : a.has m m = has_now state lawful v f begun is in
         let done : HasSized b m m n drafts.head (resized drafts.head len) len = drafts.sets.file m m keeps here in
         let after =
-        shortened_map (segments_of v) m done.map s h n (map k m0 m s is) (file k m0 m s is) drafts.head there len done.file end in
-        let counted = counts m m done.map keeps here done.has is.map after.map (counted_now state lawful v f begun k m0 m s is) in
-        let room = room_shaped totals_of_tree (segments_of v) done.map (with_tree s (shortened (segments_of v) s h len)) after
-        (shortened_shape (segments_of v) m done.map s h n (map k m0 m s is) (file k m0 m s is) drafts.head there len done.file end
-        (shaped k m0 m s is)) (drafted_of store).data_blocks (drafted_of store).meta_blocks counted in
+        shortened_map m s h n (map is) (file is) there len done.file end in
+        let counted = counts m m done.map keeps here done.has is.map after.map (counted_now state lawful v f begun is) in
+        let room = room_shaped totals_of_tree (segments_of v) after (shortened_shape m s h n (map is) (file is) there len done.file end
+        (shaped is)) counted in
         record {
           next = with_tree s (shortened (segments_of v) s h len);
           answer = Done;
           ok = refl;
           map = done.map;
           has = done.has;
-          fits = drafts.sets.fits m m here there (file_fits n drafts.head (header_fits k m0 m s is drafts.head there)
-              (is_file k m0 m s is drafts.head there) len end);
+          fits = drafts.sets.fits m m here there (file_fits n drafts.head (header_fits is drafts.head there)
+              (is_file is drafts.head there) {size = len} end);
           counted = counted;
           is = λ has_room. after;
-          done = λ has_room. cut_all_done (segments_of v) s h len n (file k m0 m s is) end;
+          done = λ has_room. cut_all_done (segments_of v) s h len n (file is) end;
           lacks = λ more. absurd (omega (arith, room, more));
         }
 
   -- ---- what becomes of either
-  module _ (call : Call) (free : never_for_device call ≡ false) (memory : takes_no_memory call ≡ false) (unclean : cleans call ≡ false)
+  module _ {call : Call} (free : never_for_device call ≡ false) (memory : takes_no_memory call ≡ false) (unclean : cleans call ≡ false)
       (new : Fs D) (ok : Answer) (result : Result (Unit {0}) FsError) where
     undone : (why : EntryFault) → Finishes state (with_store f store) new (Err why) result → FailsWhere a b (HasObject n) why
         → (why ≡ fault.Log log.Halted → a.halted ≡ true) → (why ≡ fault.Log log.Full → ⊥)
         → Serves state v (seen new) call (answer_by (λ _. ok) result)
     undone why finishes failed halted other =
         gives_up_where state lawful v f begun store (still_ready state lawful v f begun store redrafts) call free unclean memory
-        (HasObject n) (λ k m0 m s keeps is. object k m0 m s is) new why result finishes failed halted other ok
+        (HasObject n) (λ k m0 m s keeps is. object is) finishes failed halted other ok
 
   module _ (new : Fs D) (rest : new.handles ≡ f.handles) (drafted : Result (Unit {0}) EntryFault) (result : Result (Unit {0}) FsError)
       (finishes : Finishes state (with_store f store) new drafted result) (counts : OnOk drafted (Counts a b))
       (failed : IfErr drafted (FailsWhere a b (HasObject n)))
       (halted : IsErrOf drafted (fault.Log log.Halted) → a.halted ≡ true) (other : IsErrOf drafted (fault.Log log.Full) → ⊥) where
-    pub write_ends : (at : ℕ) (w : List ℕ) → 0 < length w → length w ≤ 65536 → at + length w ≤ 8511488 → AreBytes w
+    pub write_ends : {at : ℕ} {w : List ℕ} → 0 < length w → length w ≤ 65536 → at + length w ≤ 8511488 → AreBytes w
         → OnOk drafted (DraftsBytes a b n at w) → Serves state v (seen new) (Pwrite h at w) (answer_by (λ _. Count (length w)) result)
     unfolding write_makes
-    write_ends at w some few end bytes = by drafted finishes counts failed halted other
+    write_ends {at} {w} some few end bytes = by drafted finishes counts failed halted other
       where
         by : (drafted : Result (Unit {0}) EntryFault) → Finishes state (with_store f store) new drafted result → OnOk drafted (Counts a b)
             → IfErr drafted (FailsWhere a b (HasObject n)) → (IsErrOf drafted (fault.Log log.Halted) → a.halted ≡ true)
@@ -157,14 +154,14 @@ module _ {D : Type 0} (state : D → DeviceState) (lawful : (d : D) → IsLawful
         by (Ok done) finishes counts failed halted other drafts =
             finish_ends state lawful v f begun store redrafts (Pwrite h at w) refl refl refl refl
             (write_makes at w some few end bytes drafts counts) new rest (Count (length w)) refl (λ k m0 m s keeps is. (refl, is.handles))
-            result finishes
-        by (Err why) finishes counts failed halted other drafts = undone (Pwrite h at w) refl refl refl new (Count (length w)) result why
+            finishes
+        by (Err why) finishes counts failed halted other drafts = undone refl refl refl new (Count (length w)) result why
             finishes failed (λ same. halted (ap Err same)) (λ same. other (ap Err same))
 
-    pub cut_ends : (len : ℕ) → len ≤ 8511488 → OnOk drafted (DraftsLength a b n len)
+    pub cut_ends : {len : ℕ} → len ≤ 8511488 → OnOk drafted (DraftsLength a b n len)
         → Serves state v (seen new) (Truncate h len) (answer_by (λ _. Done) result)
     unfolding cut_makes
-    cut_ends len end = by drafted finishes counts failed halted other
+    cut_ends {len} end = by drafted finishes counts failed halted other
       where
         by : (drafted : Result (Unit {0}) EntryFault) → Finishes state (with_store f store) new drafted result → OnOk drafted (Counts a b)
             → IfErr drafted (FailsWhere a b (HasObject n)) → (IsErrOf drafted (fault.Log log.Halted) → a.halted ≡ true)
@@ -172,7 +169,6 @@ module _ {D : Type 0} (state : D → DeviceState) (lawful : (d : D) → IsLawful
             → Serves state v (seen new) (Truncate h len) (answer_by (λ _. Done) result)
         by (Ok done) finishes counts failed halted other drafts =
             finish_ends state lawful v f begun store redrafts (Truncate h len) refl refl refl refl
-            (cut_makes len end drafts counts) new rest
-            Done refl (λ k m0 m s keeps is. (refl, is.handles)) result finishes
-        by (Err why) finishes counts failed halted other drafts = undone (Truncate h len) refl refl refl new Done result why finishes failed
+            (cut_makes len end drafts counts) new rest Done refl (λ k m0 m s keeps is. (refl, is.handles)) finishes
+        by (Err why) finishes counts failed halted other drafts = undone refl refl refl new Done result why finishes failed
             (λ same. halted (ap Err same)) (λ same. other (ap Err same))

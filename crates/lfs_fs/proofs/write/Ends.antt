@@ -25,7 +25,7 @@ use Rattle.lfs_store.specs.StoreState.{Fits}
 use Rattle.lfs_fs.proofs.calls.Steps.{not_worn, refused_not_worn, worn}
 
 -- why a draft isn't staged, by the fault of the store
-pub turned_down : {D : Type 0} (state : D → DeviceState) (old new : Fs D) (fault : StoreFault) (e : FsError) → e ≡ error_of_store fault
+pub turned_down : {D : Type 0} (state : D → DeviceState) (old new : Fs D) (fault : StoreFault) {e : FsError} → e ≡ error_of_store fault
     → (seen old).log.halted ≡ false → (seen old).log.number < 2 ^ 62 → (seen new).log.totals ≡ (seen old).log.totals
     → TellsFew state (seen old).log (seen new).log
     → (fault ≡ store.Log log.Full
@@ -37,36 +37,35 @@ pub turned_down : {D : Type 0} (state : D → DeviceState) (old new : Fs D) (fau
     → (fault ≡ store.Log log.Device → IsAcceptFault state (seen old).log (seen new).log (draft_of old.store))
     → (fault ≡ store.Log log.Halted → ((seen old).log.halted ≡ true → ⊥)
     → HaltsLater state (seen old).log (seen new).log (most_checkpoints (seen old).log)) → TurnsDown state old new e
-turned_down state old new store.NoMemory e is was young totals tells full lacks memory device failed halted =
+turned_down state old new store.NoMemory is was young totals tells full lacks memory device failed halted =
     subst (TurnsDown state old new) (sym is) record { declines = memory refl; totals = totals; young = young; tells = tells }
-turned_down state old new (store.Log log.Full) e is was young totals tells full lacks memory device failed halted =
+turned_down state old new (store.Log log.Full) is was young totals tells full lacks memory device failed halted =
     subst (TurnsDown state old new) (sym is)
     (record { declines = full refl; totals = totals; young = young; tells = tells }, inr (lacks refl))
-turned_down state old new (store.Log log.Device) e is was young totals tells full lacks memory device failed halted =
+turned_down state old new (store.Log log.Device) is was young totals tells full lacks memory device failed halted =
     subst (TurnsDown state old new) (sym is)
     (record { declines = device refl; totals = totals; young = young; tells = tells }, inl (failed refl))
-turned_down state old new (store.Log log.Halted) e is was young totals tells full lacks memory device failed halted =
+turned_down state old new (store.Log log.Halted) is was young totals tells full lacks memory device failed halted =
     subst (TurnsDown state old new) (sym is) (halted refl (λ no. cc), tells)
 
 module _ {D : Type 0} (state : D → DeviceState) (lawful : (d : D) → IsLawful (state d)) where
   -- ---- reads come before the draft is staged
 
-  module _ (a b : LogState D) (reads : Reads state a b) where
+  module _ {a b : LogState D} (reads : Reads state a b) where
     same_segments : b.segments ≡ a.segments
     same_segments = reads.segments
 
     quiet_reads : (k : CheckpointValue) (m0 m : LogMap) → Holds state a k m0 m
         → LeavesOnly (state a.device) (state b.device) (StandsForOn k.segments m0 (dropped m))
     quiet_reads k m0 m is =
-        goes_on (state a.device) (state a.device) (state b.device) (StandsForOn k.segments m0 (dropped m))
-        (started (state a.device) (StandsForOn k.segments m0 (dropped m)) (lawful a.device) here)
+        goes_on (StandsForOn k.segments m0 (dropped m)) (started (StandsForOn k.segments m0 (dropped m)) (lawful a.device) here)
         reads.looks.carries reads.looks.time (λ c left. here c (reads.looks.untouched.crash c left))
       where
         here : AllLeft (state a.device) (StandsForOn k.segments m0 (dropped m))
-        here c left = inl (acknowledged state a k m0 m is c left)
+        here c left = inl (acknowledged state is c left)
 
-    holds_read : (k : CheckpointValue) (m0 m : LogMap) → Holds state a k m0 m → Holds state b k m0 m
-    holds_read k m0 m holds = held_still state a b k m0 m reads holds
+    holds_read : {k : CheckpointValue} {m0 m : LogMap} → Holds state a k m0 m → Holds state b k m0 m
+    holds_read {k} {m0} {m} holds = held_still state reads holds
 
     module _ (h : LogState D) where
       -- what is told after the reads is told after what was before them
@@ -83,60 +82,58 @@ module _ {D : Type 0} (state : D → DeviceState) (lawful : (d : D) → IsLawful
 
       leaves_after : LeavesSaved state b h → LeavesSaved state a h
       leaves_after leaves k m0 m keeps holds log =
-          joined (state a.device) (state b.device) (state h.device) (StandsForOn k.segments m0 (dropped m))
-          (StandsForOn k.segments m0 (dropped m)) (StandsForOn k.segments m0 (dropped m))
-          (quiet_reads k m0 m holds) (leaves k m0 m keeps (holds_read k m0 m holds) log) (λ c x. x) (λ c x. x)
+          joined (StandsForOn k.segments m0 (dropped m)) (StandsForOn k.segments m0 (dropped m)) (StandsForOn k.segments m0 (dropped m))
+          (quiet_reads k m0 m holds) (leaves k m0 m keeps (holds_read holds) log) (λ c x. x) (λ c x. x)
 
       saves_after : SavesFew b h → SavesFew a h
       saves_after saves = record {
         number = (let more = saves.number in let same = reads.number in omega (arith, more, same));
         few = (let most = saves.few in let same = reads.number in let size = same_segments in omega (arith, most, same, size));
-        ready = λ clean now. saves.ready (λ e. clean_still state a b reads (clean (sym reads.saved ∙ e))) now;
+        ready = λ clean now. saves.ready (λ e. clean_still state reads (clean (sym reads.saved ∙ e))) now;
       }
 
       pub accepts_after : (d : Draft) → Accepts state b h d → Accepts state a h d
       accepts_after d done = record {
-        carries = carries_then (state a.device) (state b.device) (state h.device) reads.looks.carries done.carries;
+        carries = carries_then reads.looks.carries done.carries;
         halted = done.halted ∙ reads.halted;
         segments = done.segments ∙ same_segments;
         enough = done.enough;
         unsaved = done.unsaved;
         saves = saves_after done.saves;
-        holds = λ k m0 m keeps holds. done.holds k m0 m keeps (holds_read k m0 m holds);
+        holds = λ k m0 m keeps holds. done.holds k m0 m keeps (holds_read holds);
         moment = leaves_after done.moment;
       }
 
       pub declines_after : (d : Draft) → Declines state b h d → Declines state a h d
       declines_after d done = record {
-        carries = carries_then (state a.device) (state b.device) (state h.device) reads.looks.carries done.carries;
+        carries = carries_then reads.looks.carries done.carries;
         halted = done.halted ∙ reads.halted;
         segments = done.segments ∙ same_segments;
         saves = saves_after done.saves;
-        holds = λ k m0 m keeps holds. done.holds k m0 m keeps (holds_read k m0 m holds);
+        holds = λ k m0 m keeps holds. done.holds k m0 m keeps (holds_read holds);
         moment = leaves_after done.moment;
       }
 
       pub fault_after : (d : Draft) → IsAcceptFault state b h d → IsAcceptFault state a h d
       fault_after d fault k m0 m keeps holds fits log =
-          let rose = fault k m0 m keeps (holds_read k m0 m holds) fits log in
+          let rose = fault k m0 m keeps (holds_read holds) fits log in
           let before = reads.looks.carries.failures in
           omega (arith, rose, before)
 
-      pub halts_after : (most : ℕ) → HaltsLater state b h most → HaltsLater state a h most
-      halts_after most halts = record {
-        carries = carries_then (state a.device) (state b.device) (state h.device) reads.looks.carries halts.carries;
+      pub halts_after : {most : ℕ} → HaltsLater state b h most → HaltsLater state a h most
+      halts_after halts = record {
+        carries = carries_then reads.looks.carries halts.carries;
         halted = halts.halted;
         later = (let later = halts.later in let same = reads.number in omega (arith, later, same));
         number = (let few = halts.number in let same = reads.number in omega (arith, few, same));
         cause = λ k m0 m keeps is log. (
-            let rose = halts.cause k m0 m keeps (held_still state a b k m0 m reads is) log in
+            let rose = halts.cause k m0 m keeps (held_still state reads is) log in
             let before = reads.looks.carries.failures in
             omega (arith, rose, before));
-        left = λ k m0 m keeps is log. halts.left k m0 m keeps (held_still state a b k m0 m reads is) log;
+        left = λ k m0 m keeps is log. halts.left k m0 m keeps (held_still state reads is) log;
         moment = λ k m0 m keeps is log.
-            joined (state a.device) (state b.device) (state h.device) (StandsForOn k.segments m0 (dropped m))
-            (StandsForOn k.segments m0 (dropped m)) (StandsForOn k.segments m0 (dropped m))
-            (quiet_reads k m0 m is) (halts.moment k m0 m keeps (held_still state a b k m0 m reads is) log) (λ c x. x) (λ c x. x);
+            joined (StandsForOn k.segments m0 (dropped m)) (StandsForOn k.segments m0 (dropped m)) (StandsForOn k.segments m0 (dropped m))
+            (quiet_reads k m0 m is) (halts.moment k m0 m keeps (held_still state reads is) log) (λ c x. x) (λ c x. x);
       }
 
   -- ---- volumes that were only read
@@ -144,21 +141,21 @@ module _ {D : Type 0} (state : D → DeviceState) (lawful : (d : D) → IsLawful
   pub still_none : (v : Mounted D) → IsStill state v v
   still_none v = record { reads = reads_none state v.log; table = refl }
 
-  pub still_more : (v w x : Mounted D) → IsStill state v w → IsStill state w x → IsStill state v x
-  still_more v w x one two = record {
-    reads = reads_more state v.log w.log x.log (lawful v.log.device) one.reads two.reads;
+  pub still_more : (v : Mounted D) {w x : Mounted D} → IsStill state v w → IsStill state w x → IsStill state v x
+  still_more v {w} {x} one two = record {
+    reads = reads_more state (lawful v.log.device) one.reads two.reads;
     table = two.table ∙ one.table;
   }
 
   -- ---- calls of a running volume
 
-  module _ (old new : Mounted D) (call : Call) (was : old.log.halted ≡ false) where
+  module _ (old : Mounted D) {new : Mounted D} (call : Call) (was : old.log.halted ≡ false) where
     -- what a call does may rest on the state that the volume is in, and on a device that keeps the model to the end
-    pub when_in : (a : Answer) → Carries (state old.log.device) (state new.log.device) → segments_of new ≡ segments_of old
+    pub when_in : {a : Answer} → Carries (state old.log.device) (state new.log.device) → segments_of new ≡ segments_of old
         → (a ≡ Refuse refusal.Halted → ⊥) → Behaves state old new call a
         → ((state new.log.device).keeps_model → (k : CheckpointValue) (m0 m : LogMap) (s : State) → IsIn state old k m0 m s
         → Serves state old new call a) → Serves state old new call a
-    when_in a carries segments fine behaves each = record {
+    when_in carries segments fine behaves each = record {
       carries = carries;
       segments = λ e. segments;
       orderly = λ e. absurd (let is = was in cc);
@@ -168,10 +165,10 @@ module _ {D : Type 0} (state : D → DeviceState) (lawful : (d : D) → IsLawful
     }
 
     -- a commit failed, or a pass
-    pub halts_serves : IsTrue (may_write call) → new.table ≡ old.table → (most : ℕ) → most ≤ segments_of old / 8 + 1
+    pub halts_serves : IsTrue (may_write call) → new.table ≡ old.table → {most : ℕ} → most ≤ segments_of old / 8 + 1
         → (CommitsFew old new → IsBounded state old new call) → HaltsLater state old.log new.log most
         → Serves state old new call (Refuse refusal.Halted)
-    halts_serves may table most low bounded halts = record {
+    halts_serves may table low bounded halts = record {
       carries = halts.carries;
       segments = λ e. absurd (let is = halts.halted in cc);
       orderly = λ e. absurd (let is = was in cc);
@@ -179,17 +176,16 @@ module _ {D : Type 0} (state : D → DeviceState) (lawful : (d : D) → IsLawful
       behaves = behaves;
       model = λ p keeps at. (
           let r = at.running was in
-          halts_at state old new keeps (lawful old.log.device) (lawful new.log.device) halts.carries r.checkpoint r.saved r.present p.state
-          r.is call p at refl was halts.halted
+          halts_at state new keeps (lawful old.log.device) (lawful new.log.device) halts.carries r.is call p at refl was halts.halted
           halts.later behaves
-          (halts.cause r.checkpoint r.saved r.present keeps r.is.holds (map_dropped state old new keeps (lawful old.log.device)
-          (lawful new.log.device) halts.carries r.checkpoint r.saved r.present p.state r.is))
-          (halts.moment r.checkpoint r.saved r.present keeps r.is.holds (map_dropped state old new keeps (lawful old.log.device)
-          (lawful new.log.device) halts.carries r.checkpoint r.saved r.present p.state r.is)));
+          (halts.cause r.checkpoint r.saved r.present keeps r.is.holds (map_dropped state new keeps (lawful old.log.device)
+          (lawful new.log.device) halts.carries r.is))
+          (halts.moment r.checkpoint r.saved r.present keeps r.is.holds (map_dropped state new keeps (lawful old.log.device)
+          (lawful new.log.device) halts.carries r.is)));
     }
       where
         behaves : Behaves state old new call (Refuse refusal.Halted)
-        behaves = write_behaves state old new call (Refuse refusal.Halted) may table (λ e. absurd (cc)) (λ takes e. absurd (cc))
+        behaves = write_behaves state call (Refuse refusal.Halted) may table (λ e. absurd (cc)) (λ takes e. absurd (cc))
             (bounded (let few = halts.number in omega (arith, few, low)))
 
   -- ---- what becomes of a draft
@@ -203,17 +199,17 @@ module _ {D : Type 0} (state : D → DeviceState) (lawful : (d : D) → IsLawful
     table_same = rest ∙ still.table
 
     pub accepts_old : StagesDraft state ready new → Accepts state v.log (seen new).log d
-    accepts_old done = accepts_after v.log (seen ready).log still.reads (seen new).log d done.accepts
+    accepts_old done = accepts_after still.reads (seen new).log d done.accepts
 
     declines_old : IsDeclined state ready new → Declines state v.log (seen new).log d
-    declines_old done = declines_after v.log (seen ready).log still.reads (seen new).log d done.declines
+    declines_old done = declines_after still.reads (seen new).log d done.declines
 
     tells_old : TellsFew state (seen ready).log (seen new).log → TellsFew state v.log (seen new).log
-    tells_old = tells_after v.log (seen ready).log still.reads (seen new).log
+    tells_old = tells_after still.reads (seen new).log
 
     fault_old : IsAcceptFault state (seen ready).log (seen new).log d
         → IsAcceptFault state v.log (seen new).log d
-    fault_old fault = fault_after v.log (seen ready).log still.reads (seen new).log d fault
+    fault_old fault = fault_after still.reads (seen new).log d fault
 
     rest_old : IsDeclined state ready new → IsRest state v (seen new)
     rest_old done = record { totals = done.totals ∙ still.reads.totals; table = table_same }
@@ -238,9 +234,8 @@ module _ {D : Type 0} (state : D → DeviceState) (lawful : (d : D) → IsLawful
         → InState (Refuse refusal.Worn)) where
       -- nothing has changed
       same_by : (x : Answer) → IsOrdinary x → seen new ≡ seen ready → InState x → Serves state v (seen new) call x
-      same_by x ordinary same each = when_in v (seen new) call was x (still_new same).reads.looks.carries
-          (still_new same).reads.segments
-          (not_halted x ordinary) (still_behaves state v (seen new) call x (still_new same) ordinary)
+      same_by x ordinary same each = when_in v call was (still_new same).reads.looks.carries (still_new same).reads.segments
+          (not_halted x ordinary) (still_behaves state call x (still_new same) ordinary)
           (λ keeps. each (subst (λ (x : Mounted D). (state x.log.device).keeps_model) same keeps))
 
       few_written : most_checkpoints (seen ready).log ≤ segments_of v / 8 + 1
@@ -253,31 +248,28 @@ module _ {D : Type 0} (state : D → DeviceState) (lawful : (d : D) → IsLawful
 
       declined_by : (x : Answer) → (x ≡ Refuse refusal.Halted → ⊥) → (x ≡ Refuse refusal.Stuck → ⊥) → (done : IsDeclined state ready new)
           → ((state (seen new).log.device).keeps_model → InState x) → Serves state v (seen new) call x
-      declined_by x other none done each = when_in v (seen new) call was x (declines_old done).carries (declines_old done).segments other
-          (write_behaves state v (seen new) call x (change_writes call change) table_same none (λ never e. absurd (not_both
-          (takes_no_memory call) never takes)) (declined_bounded done)) (λ keeps. each keeps (done.declines.carries.kept_before keeps))
+      declined_by x other none done each = when_in v call was (declines_old done).carries (declines_old done).segments other
+          (write_behaves state call x (change_writes call change) table_same none (λ never e. absurd (not_both
+          never takes)) (declined_bounded done)) (λ keeps. each keeps (done.declines.carries.kept_before keeps))
 
       pub by_fault : (e : FsError) → TurnsDown state ready new e → Serves state v (seen new) call (Refuse (refusal_of e))
       by_fault error.NoSpace down = same_by (Refuse refusal.NoSpace) tt down.0 (lacks_ends (still_new down.0) down.1)
       by_fault error.Worn down = same_by (Refuse refusal.Worn) tt down.0
           (worn_ends (still_new down.0) (let same = still.reads.number in let high = down.1 in omega (arith, same, high)) down.2)
       by_fault error.NoMemory down = declined_by (Refuse refusal.NoMemory) (λ e. cc) (λ e. cc) down (λ after keeps k m0 m s is.
-          no_room_serves state v (seen new) call (lawful v.log.device) (lawful (seen new).log.device) was (declines_old down).saves.number d
+          no_room_serves v (lawful v.log.device) (lawful (seen new).log.device) was (declines_old down).saves.number d
           (rest_old down) (declines_old down) (low_old down.young)
           (fits keeps k m0 m s is) (declined_bounded down) change takes)
       by_fault error.Device down = declined_by (Refuse refusal.Device) (λ e. cc) (λ e. cc) down.0 (λ after keeps k m0 m s is. ⊎_elim
           (λ (failed : IsAcceptFault state (seen ready).log (seen new).log d).
-          accept_fault_serves state v (seen new) call (lawful v.log.device) (lawful (seen new).log.device) was
+          accept_fault_serves v (lawful v.log.device) (lawful (seen new).log.device) was
           (declines_old down.0).saves.number d (rest_old down.0) (declines_old down.0) (low_old down.0.young)
           (fits keeps k m0 m s is) (declined_bounded down.0) change free (fault_old failed))
           (λ (cannot : MayNotMakeRoom state (seen ready).log (seen new).log).
-          absurd (cannot k m0 m after (has_room state (seen ready) (lawful (seen ready).log.device) down.0.young k m0 m s
-          (still_in state v (seen ready) k m0 m s still is))))
-          down.1)
+          absurd (cannot k m0 m after (has_room (lawful (seen ready).log.device) down.0.young k m0 m (still_in state still is)))) down.1)
       by_fault error.Halted down =
-          halts_serves v (seen new) call was (change_writes call change) table_same _ few_written
-          (λ few. change_bounded state v (seen new) call change few (tells_old down.1))
-          (halts_after v.log (seen ready).log still.reads (seen new).log (most_checkpoints (seen ready).log) down.0)
+          halts_serves v {new = seen new} call was (change_writes call change) table_same few_written
+          (λ few. change_bounded state v (seen new) call change few (tells_old down.1)) (halts_after still.reads (seen new).log down.0)
       by_fault fault down = absurd down
 
     -- ---- a draft that is one step of the model
@@ -323,7 +315,7 @@ module _ {D : Type 0} (state : D → DeviceState) (lawful : (d : D) → IsLawful
         let low = low_old stages.young in
         accepts_by state v (with_table table) call (lawful v.log.device)
         (lawful (seen new).log.device) accepts.carries accepts.segments was accepts.saves.number d
-        accepts low x (ok_refuses_none x refusal.Halted ok)
+        accepts low x (ok_refuses_none {a = x} {r = refusal.Halted} ok)
         (λ e. let no : acknowledges call x ≡ false = ap (λ (b : Bool). b && is_ok x) (commits_none call free) in cc)
         (behaves (change_bounded state v (with_table table) call change accepts.saves.few
         (tells_old stages.tells)))
@@ -356,25 +348,21 @@ module _ {D : Type 0} (state : D → DeviceState) (lawful : (d : D) → IsLawful
       -- the tree would need more than there is
       lacks_by : IsStill state v (seen new) → limit_of ready < need_of ready
           → InState (Refuse refusal.NoSpace)
-      lacks_by same more keeps k m0 m s is = served_still state v (seen new) call
-          (Refuse refusal.NoSpace) (lawful v.log.device) same was tt
+      lacks_by same more keeps k m0 m s is = served_still state call {a = Refuse refusal.NoSpace} (lawful v.log.device) same was tt
           (λ p keeps_new here k' m0' m' is'. (
           let step = (drafts keeps k' m0' m' p.state is').lacks
           (subst (λ (n : ℕ). n < need_of ready) limit_same more) in
-          inl (step, refused_not_worn (segments_of v) call p refusal.NoSpace p.state step unclean)))
-          (not_acknowledged call refusal.NoSpace)
+          inl (step, refused_not_worn (segments_of v) p step unclean))) (not_acknowledged call refusal.NoSpace)
 
       -- the last number is reached
       past_last : IsStill state v (seen new) → 2 ^ 62 ≤ v.log.number
           → need_of ready ≤ limit_of ready → InState (Refuse refusal.Worn)
-      past_last same high room keeps k m0 m s is = served_still state v (seen new) call
-          (Refuse refusal.Worn) (lawful v.log.device) same was tt
+      past_last same high room keeps k m0 m s is = served_still state call (lawful v.log.device) same was tt
           (λ p keeps_new here k' m0' m' is'. (
           let draft = drafts keeps k' m0' m' p.state is' in inr (
             refusal.Worn,
             refl,
-            worn (segments_of v) call p (point_of state (seen new) p.state)
-                (let n = here.number in omega (arith, n, high)) change draft.answer draft.next
+            worn (segments_of v) p (point_of state (seen new) p.state) (let n = here.number in omega (arith, n, high)) change
                 (draft.done (subst (λ (n : ℕ). need_of ready ≤ n) limit_same room)) draft.ok,
             refl,
           )))
@@ -391,7 +379,7 @@ module _ {D : Type 0} (state : D → DeviceState) (lawful : (d : D) → IsLawful
           → Serves state v (seen new) call (answer_by (λ _. a) r)
       draft_ends ok ends (Ok x) stages down = accepted_serves change free drafts a ok
           new.handles (subst (EndIn drafts a) (sym table_same) ends)
-          (write_behaves state v (seen new) call a (change_writes call change) table_same
-          (ok_refuses_none a refusal.Stuck ok)
-          (λ never. ok_refuses_none a refusal.NoMemory ok)) stages
+          (write_behaves state {old = v} {new = seen new} call a (change_writes call change) table_same
+          (ok_refuses_none {a = a} {r = refusal.Stuck} ok)
+          (λ never. ok_refuses_none {a = a} {r = refusal.NoMemory} ok)) stages
       draft_ends ok ends (Err e) stages down = draft_turned e down

@@ -22,59 +22,57 @@ none_of n e = grind (arith, nat_tests)
 pub some_of : (n : ℕ) → (n == 0) ≡ false → 0 < n
 some_of n e = grind (arith, nat_tests)
 
-module _ {D : Type 0} (state : D → DeviceState) (lawful : (d : D) → IsLawful (state d)) where
+module _ {D : Type 0} {state : D → DeviceState} (lawful : (d : D) → IsLawful (state d)) where
   -- ---- how a call begins
 
-  pub halted_begin : (old new : Fs D) (call : Call) (fault : FsError) → new ≡ old → (seen old).log.halted ≡ true → fault ≡ error.Halted
+  pub halted_begin : {old new : Fs D} (call : Call) {fault : FsError} → new ≡ old → (seen old).log.halted ≡ true → fault ≡ error.Halted
       → Serves state (seen old) (seen new) call (Refuse (refusal_of fault))
-  halted_begin old new call fault same halted is =
+  halted_begin {old} call {fault} same halted is =
       subst (λ (f : Fs D). Serves state (seen old) (seen f) call (Refuse (refusal_of fault))) (sym same)
       (subst (λ (e : FsError). Serves state (seen old) (seen old) call (Refuse (refusal_of e))) (sym is)
       (served_halted state (seen old) call (lawful (seen old).log.device) halted))
 
   -- what is done from there is what is done
-  pub begun : (old mid new : Fs D) (call : Call) (a : Answer) → Begins old mid → Serves state (seen mid) (seen new) call a
+  pub begun : {old mid : Fs D} (new : Fs D) {call : Call} {a : Answer} → Begins old mid → Serves state (seen mid) (seen new) call a
       → Serves state (seen old) (seen new) call a
-  begun old mid new call a begins = subst (λ (v : Mounted D). Serves state v (seen new) call a) begins.same
+  begun new {call} {a} begins = subst (λ (v : Mounted D). Serves state v (seen new) call a) begins.same
 
-  pub still_running : (old mid : Fs D) → Begins old mid → (seen mid).log.halted ≡ false
-  still_running old mid begins = ap (λ (v : Mounted D). v.log.halted) begins.same ∙ begins.running
+  pub still_running : {old mid : Fs D} → Begins old mid → (seen mid).log.halted ≡ false
+  still_running begins = ap (λ (v : Mounted D). v.log.halted) begins.same ∙ begins.running
 
   -- ---- exits of a running volume
 
   module _ (v : Mounted D) (was : v.log.halted ≡ false) where
     -- the handle gives no file
-    pub unopened : (call : Call) (h : ℕ) → cleans call ≡ false → ((N : ℕ) (s : State) → find nat_cmp h s.handles ≡ None
+    pub unopened : {call : Call} (h : ℕ) → cleans call ≡ false → ((N : ℕ) (s : State) → find nat_cmp h s.handles ≡ None
         → Step N s call (Refuse BadHandle) s) → (fault : FsError) → GivesNone v.table h fault
         → Serves state v v call (Refuse (refusal_of fault))
-    unopened call h unclean steps fault gives =
+    unopened {call} h unclean steps fault gives =
         subst (λ (e : FsError). Serves state v v call (Refuse (refusal_of e))) (sym gives.0)
-        (refused_serves state v v call (lawful v.log.device) (still_none state lawful v) was BadHandle tt unclean
+        (refused_serves {call = call} (lawful v.log.device) (still_none state lawful v) was {r = BadHandle} tt unclean
         (λ k m0 m s keeps is. steps (segments_of v) s (ap (find nat_cmp h) is.handles ∙ gives.1)))
 
     pub write_unopened : (h at : ℕ) (w : List ℕ) (fault : FsError) → GivesNone v.table h fault
         → Serves state v v (Pwrite h at w) (Refuse (refusal_of fault))
-    write_unopened h at w = unopened (Pwrite h at w) h refl (λ N s none. write_bad_handle N s h at w none)
+    write_unopened h at w = unopened h refl (λ N s none. write_bad_handle N s h at w none)
 
     pub cut_unopened : (h len : ℕ) (fault : FsError) → GivesNone v.table h fault
         → Serves state v v (Truncate h len) (Refuse (refusal_of fault))
-    cut_unopened h len = unopened (Truncate h len) h refl (λ N s none. cut_bad_handle N s h len none)
+    cut_unopened h len = unopened h refl (λ N s none. cut_bad_handle N s h len none)
 
-    module _ (h n : ℕ) (opens : find nat_cmp h v.table ≡ Some n) where
+    module _ (h : ℕ) {n : ℕ} (opens : find nat_cmp h v.table ≡ Some n) where
       pub cut_refused : (len : ℕ) → 8511488 < len → Serves state v v (Truncate h len) (Refuse FileTooBig)
-      cut_refused len big = refused_serves state v v (Truncate h len) (lawful v.log.device)
-          (still_none state lawful v) was FileTooBig tt refl (λ k m0 m s keeps is.
+      cut_refused len big = refused_serves (lawful v.log.device) (still_none state lawful v) was tt refl (λ k m0 m s keeps is.
           cut_too_big (segments_of v) s h len n (ap (find nat_cmp h) is.handles ∙ opens) big)
 
       module _ (at : ℕ) (w : List ℕ) where
         pub write_refused : 65536 < length w → Serves state v v (Pwrite h at w) (Refuse Inval)
-        write_refused much = refused_serves state v v (Pwrite h at w) (lawful v.log.device) (still_none state lawful v) was Inval tt refl
+        write_refused much = refused_serves (lawful v.log.device) (still_none state lawful v) was tt refl
             (λ k m0 m s keeps is.
             write_too_much (segments_of v) s h at w n (ap (find nat_cmp h) is.handles ∙ opens) much)
 
         pub write_past : length w ≤ 65536 → 0 < length w → 8511488 < at + length w → Serves state v v (Pwrite h at w) (Refuse FileTooBig)
-        write_past few some big = refused_serves state v v (Pwrite h at w) (lawful v.log.device)
-            (still_none state lawful v) was FileTooBig tt refl (λ k m0 m s keeps is.
+        write_past few some big = refused_serves (lawful v.log.device) (still_none state lawful v) was tt refl (λ k m0 m s keeps is.
             write_too_big (segments_of v) s h at w n (ap (find nat_cmp h) is.handles ∙ opens) few some big)
 
         -- no bytes are written, up to the last number of a checkpoint
@@ -83,7 +81,7 @@ module _ {D : Type 0} (state : D → DeviceState) (lawful : (d : D) → IsLawful
           step_nothing s same = write_nothing (segments_of v) s h at w n (ap (find nat_cmp h) same ∙ opens) few none
 
           pub write_none : v.log.number < 2 ^ 62 → Serves state v v (Pwrite h at w) (Count 0)
-          write_none low = served_still state v v (Pwrite h at w) (Count 0) (lawful v.log.device) (still_none state lawful v) was tt
+          write_none low = served_still state (Pwrite h at w) (lawful v.log.device) (still_none state lawful v) was tt
               (λ p keeps here k m0 m is.
               inl (
                 step_nothing p.state is.handles,
@@ -91,16 +89,16 @@ module _ {D : Type 0} (state : D → DeviceState) (lawful : (d : D) → IsLawful
               ))
               (λ e. cc)
 
-          pub write_none_worn : (fault : FsError) → fault ≡ error.Worn → 2 ^ 62 ≤ v.log.number
+          pub write_none_worn : {fault : FsError} → fault ≡ error.Worn → 2 ^ 62 ≤ v.log.number
               → Serves state v v (Pwrite h at w) (Refuse (refusal_of fault))
-          write_none_worn fault is high = subst (λ (e : FsError). Serves state v v (Pwrite h at w) (Refuse (refusal_of e))) (sym is)
-              (served_still state v v (Pwrite h at w) (Refuse Worn) (lawful v.log.device) (still_none state lawful v) was tt
+          write_none_worn is high = subst (λ (e : FsError). Serves state v v (Pwrite h at w) (Refuse (refusal_of e))) (sym is)
+              (served_still state (Pwrite h at w) {a = Refuse Worn} (lawful v.log.device) (still_none state lawful v) was tt
               (λ p keeps here k m0 m is.
               inr (
                 Worn,
                 refl,
-                worn (segments_of v) (Pwrite h at w) p (point_of state v p.state)
-                    (let q = here.number in omega (arith, q, high)) refl (Count 0) p.state (step_nothing p.state is.handles) refl,
+                worn (segments_of v) p (point_of state v p.state)
+                    (let q = here.number in omega (arith, q, high)) refl (step_nothing p.state is.handles) refl,
                 refl,
               ))
               (λ e. cc))

@@ -7,16 +7,16 @@ pub returns-then-first-second-clause-newest : goal.returns-then-first-second-cla
 returns-then-first-second-clause-newest c content =
     let first = ap (λ (v : CheckpointValue). v.number) c.first.view_is in
     let second = ap (λ (v : CheckpointValue). v.number) c.second.view_is in
-    newest_second content _ _ _ _ c.in-Some-Some.is-0 c.in-Some-Some.is-1 (omega (arith, first, second, c.if-first-second.true))
+    newest_second _ _ _ _ c.in-Some-Some.is-0 c.in-Some-Some.is-1 (omega (arith, first, second, c.if-first-second.true))
 
 pub returns-else-first-second-clause-newest : goal.returns-else-first-second-clause-newest
 returns-else-first-second-clause-newest c content =
     let first = ap (λ (v : CheckpointValue). v.number) c.first.view_is in
     let second = ap (λ (v : CheckpointValue). v.number) c.second.view_is in
-    newest_first content _ _ _ _ c.in-Some-Some.is-0 c.in-Some-Some.is-1 (omega (arith, first, second, c.if-first-second.false))
+    newest_first _ _ _ _ c.in-Some-Some.is-0 c.in-Some-Some.is-1 (omega (arith, first, second, c.if-first-second.false))
 
 pub returns-in-Some-None-clause-newest : goal.returns-in-Some-None-clause-newest
-returns-in-Some-None-clause-newest c content = newest_alone content _ _ _ c.in-Some-None.is-0 c.in-Some-None.is-1
+returns-in-Some-None-clause-newest c content = newest_alone _ _ _ c.in-Some-None.is-0 c.in-Some-None.is-1
 
 pub returns-in-None-default-clause-newest : goal.returns-in-None-default-clause-newest
 returns-in-None-default-clause-newest c content = newest_of_second content _ _ c.in-None-default.is-0

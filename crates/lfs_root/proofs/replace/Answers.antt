@@ -5,13 +5,12 @@ use Rattle.lfs_root.proofs.replace.Goals as goal
 
 pub returns-clause-newest : goal.returns-clause-newest
 returns-clause-newest g c last all follows =
-    one_at_each_moment _ _ last c.args.checkpoint.now _ _ (ap (λ (v : CheckpointValue). v.number % 2) c.checkpoint.view_is) c.encode.ensures
-    c.requires.fits
+    one_at_each_moment _ _ last _ _ (ap (λ (v : CheckpointValue). v.number % 2) c.checkpoint.view_is) c.encode.ensures c.requires.fits
     (g.met.D.SectorDevice.lawful c.args.device.now) c.requires.size all follows c.write_durably.ensures.any_moment
 
 pub returns-clause-left_newest : goal.returns-clause-left_newest
 returns-clause-left_newest g c last all follows x left =
-    one_of _ (g.D.SectorDevice.state c.write_durably.new.device) last c.args.checkpoint.now _ _
+    one_of _ (g.D.SectorDevice.state c.write_durably.new.device) last _ _
     (ap (λ (v : CheckpointValue). v.number % 2) c.checkpoint.view_is) c.encode.ensures c.requires.fits
     (g.met.D.SectorDevice.lawful c.args.device.now) c.requires.size all follows x (c.write_durably.ensures.left x left)
 
@@ -19,7 +18,7 @@ pub returns-clause-acknowledged : goal.returns-clause-acknowledged
 returns-clause-acknowledged g c =
     on_ok c.write_durably.result _ _ _
     (λ content only last keeps all follows.
-    next_alone _ (g.D.SectorDevice.state c.write_durably.new.device) last c.args.checkpoint.now _ _
+    next_alone _ (g.D.SectorDevice.state c.write_durably.new.device) last _ _
     (ap (λ (v : CheckpointValue). v.number % 2) c.checkpoint.view_is) c.encode.ensures c.requires.fits
     (g.met.D.SectorDevice.lawful c.args.device.now) c.requires.size all follows (c.write_durably.ensures.carries.kept_before keeps)
     (content keeps) (only keeps))

@@ -75,12 +75,12 @@ module _ {N : ℕ} {m : LogMap} {s : State} {a b : List ℕ} {da d : ℕ} {l : L
       linked = some_links;
       apart = (none_lost n).inode;
       header = record {
-        known = known_form n object object_fits;
+        known = known_form object object_fits;
         links_few = (let few = g.few in omega (arith, few));
         size_fits = object_fits.size;
       };
     };
-    named = takes_name g.enters files (none_lost d) head.links (fits_d g.enters.at head g.enters.looks.header).links n size;
+    named = takes_name g.enters (none_lost d) head.links (fits_d g.enters.at head g.enters.looks.header).links size;
   }
 
   -- ---- the object has a link more
@@ -100,12 +100,10 @@ module _ {N : ℕ} {m : LogMap} {s : State} {a b : List ℕ} {da d : ℕ} {l : L
       adds = adds_name g.enters head.links (λ i. made.block d i) names
 
       pub linked_shape : IsShaped m'
-      linked_shape = written_kept m1 m' d n head (grown head) head.size (slot_for head.form n l.name.now) nm shape_1
-          holder_1 holder_1.kind refl refl (few_grown g.enters) names.file adds.directory adds.names
+      linked_shape = written_kept n nm shape_1 holder_1 holder_1.kind refl refl (few_grown g.enters) names.file adds.directory adds.names
 
       pub linked_tree : tree_in m' ≡ linked N s a b n d
-      linked_tree = written_tree m1 m' d n head (grown head) head.size (slot_for head.form n l.name.now) nm shape_1
-          holder_1 holder_1.kind refl refl (few_grown g.enters) names.file adds.directory adds.names
+      linked_tree = written_tree n nm shape_1 holder_1 holder_1.kind refl refl (few_grown g.enters) names.file adds.directory adds.names
           ∙ ap (λ (t : Tree). with_name t d nm n)
           (relinked_tree m m1 n (as_header object) (object.links + 1) g.enters.shaped g.names.there object_fits.most
           made ∙ sym is.log.is)
@@ -113,7 +111,7 @@ module _ {N : ℕ} {m : LogMap} {s : State} {a b : List ℕ} {da d : ℕ} {l : L
       linked_links : (q : ℕ) (h : entry.Header) → m'.header q ≡ Some h
           → h.links ≡ links (linked N s a b n d) q
       linked_links q h at =
-          let second = written_shifts m1 m' d n head (grown head) head.size (slot_for head.form n l.name.now) nm
+          let second = written_shifts n nm
           shape_1 holder_1 holder_1.kind refl refl (few_grown g.enters) names.file adds.directory adds.names q h at in
           let first = relinked_shifts m m1 n (as_header object) (object.links + 1) g.enters.shaped
           g.names.there object_fits.most made 0 1 (omega arith) q second.0 second.1 in
@@ -124,8 +122,7 @@ module _ {N : ℕ} {m : LogMap} {s : State} {a b : List ℕ} {da d : ℕ} {l : L
           let was : first.0.links ≡ links s.tree q = is.log.links q first.0 first.1
           ∙ ap (λ (t : Tree). links t q) (sym is.log.is) in
           let now : links (linked N s a b n d) q ≡ links s.tree q + link_of false d n q
-          = links_more s.tree d n (form_of (node s.tree d)) (names_in s.tree d) nm
-          is.log.sound.in_order dir_is
+          = links_more s.tree d n nm is.log.sound.in_order dir_is
           (is.log.sound.limits d (Dir (form_of (node s.tree d)) (names_in s.tree d)) dir_is).0
           (not_some (entry_in s.tree d nm) g.enters.taken.new) q
           ∙ ap (λ (v : Bool). links s.tree q + link_of v d n q) g.names.plain in

@@ -63,13 +63,13 @@ module _ (N : ℕ) (b : List ℕ) {m : LogMap} {s : State} {a : List ℕ} {da n 
   module _ (e : End) (second : Parent s.tree b e) where
     pub goes_on : outcome N s (LinkTo a b) (At da) e ≡ reached s e (enters N s a b n)
     goes_on =
-        old_taken N s a da (LinkTo a b) (link_checks N s a b da old.walk e second) old.named old.short (ap is_some old.found) old.ends
+        old_taken (link_checks N s a b da old.walk e second) old.named old.short (ap is_some old.found) old.ends
         (ap (λ (o : Option ℕ). is_dir (node s.tree (unwrap_or o 0))) old.found ∙ old.plain)
         ∙ ap (λ (o : Option ℕ). reached s e (enters N s a b (unwrap_or o 0))) old.found
 
   pub second_refused : (r : Refusal) → Parent s.tree b (Refused r) → Step N s (LinkTo a b) (Refuse r) s
   second_refused r second =
-      step_old N s a da (LinkTo a b) (link_checks N s a b da old.walk (Refused r) second) (Refuse r) s (goes_on (Refused r) second)
+      step_old (link_checks N s a b da old.walk (Refused r) second) (goes_on (Refused r) second)
 
   module _ (d : ℕ) (second : Parent s.tree b (At d)) where
     abbrev pub link_asks : ChecksNew N s b d (LinkTo a b) false
@@ -85,16 +85,15 @@ module _ (N : ℕ) (b : List ℕ) {m : LogMap} {s : State} {a : List ℕ} {da n 
 
     module _ (taken : IsTaken s b d false) where
       pub link_many : 1000 ≤ links s.tree n → Step N s (LinkTo a b) (Refuse TooManyLinks) s
-      link_many many = step_new link_asks (Refuse TooManyLinks) s
-          (new_taken link_asks taken ∙ rw (at_most 1000 (links s.tree n) many) refl)
+      link_many many = step_new link_asks (new_taken link_asks taken ∙ rw (at_most 1000 (links s.tree n) many) refl)
 
       module _ (few : links s.tree n < 1000) where
         pub link_no_space : 47 * N < need (linked N s a b n d) → Step N s (LinkTo a b) (Refuse NoSpace) s
-        link_no_space lacks = step_new link_asks (Refuse NoSpace) s (new_taken link_asks taken
+        link_no_space lacks = step_new link_asks (new_taken link_asks taken
             ∙ rw (not_at_most 1000 (links s.tree n) few, below (47 * N) (need (linked N s a b n d)) lacks) refl)
 
         pub link_done : need (linked N s a b n d) ≤ 47 * N → Step N s (LinkTo a b) Done (with_tree s (linked N s a b n d))
-        link_done room = step_new link_asks Done (with_tree s (linked N s a b n d)) (new_taken link_asks taken
+        link_done room = step_new link_asks (new_taken link_asks taken
             ∙ rw (not_at_most 1000 (links s.tree n) few, not_below (47 * N) (need (linked N s a b n d)) room) refl)
 
 -- the rule of the old entry comes first, wherever the second path ends

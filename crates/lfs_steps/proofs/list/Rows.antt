@@ -65,14 +65,14 @@ tree_nodes : (m : LogMap) → tree_in m ≡ nodes_from m 4095 1
 unfolding tree_in
 tree_nodes m = refl
 
-module _ (N : ℕ) (m : LogMap) (s : State) (log : IsLogOf N m s) where
+module _ {N : ℕ} (m : LogMap) (s : State) (log : IsLogOf N m s) where
   rows_are : (count a : ℕ) → 1 ≤ a → a + count ≤ 4096 → flat_map (node_rows s.tree) (nodes_from m count a) ≡ rows_from s.tree count a
   unfolding nodes_from
   rows_are zero a low high = sym (rows_none s.tree a)
   rows_are (suc count) a low high =
       with_rows s.tree a (node_of m a (m.header a)) (nodes_from m count (a + 1))
       ∙ ap (λ (o : Option Node). rows_by s.tree a o ++ flat_map (node_rows s.tree) (nodes_from m count (a + 1)))
-      (sym (node_is N m s log a (low, omega (arith, high))))
+      (sym (node_is log a (low, omega (arith, high))))
       ∙ ap (λ (rows : List TreeRow). rows_at s.tree a ++ rows) (rows_are count (a + 1) (omega (arith, low)) (omega (arith, high)))
       ∙ sym (rows_one s.tree count a)
 

@@ -84,14 +84,14 @@ module _ {N : ℕ} {m : LogMap} {s : State} {p : List ℕ} {d : ℕ} {l : Last} 
   few_grown = let few = g.room in let most = (slot_some head.form).1 in omega (arith, few, most)
 
   -- the draft fits, where nothing is lost of the directory before it
-  pub takes_name : {S D : Type 0} (files : FilesState S D) → IsApart files.lost d → (links : ℕ) → links ≤ MOST_LINKS → (n : ℕ)
+  pub takes_name : {S D : Type 0} {files : FilesState S D} → IsApart files.lost d → (links : ℕ) → links ≤ MOST_LINKS → {n : ℕ}
       → head.size + slot_len head.form ≡ max head.size (head.size + length (slot_for head.form n l.name.now))
       → TakesName files m d (relinked head links) n l.name.now
-  takes_name files apart links few n size = record {
+  takes_name apart links few size = record {
     staged = λ none. (let here = g.looks.header in absurd (cc));
     apart = apart;
     longer = record {
-      known = known_form d head fits;
+      known = known_form head fits;
       links_few = few;
       size_fits = subst (IsSize head.form head.kind) size (directory_grows d head fits holder_is.kind g.room).size_fits;
     };
@@ -173,11 +173,11 @@ module _ {version N : ℕ} {p : List ℕ} {d : ℕ} {of : NewCall version N p d}
     object = record { free = g.free; apart = none_lost n; header = of.sized is_version };
     linked = (let two = (holder g.enters.at).linked head there in omega (arith, two));
     links = record {
-      known = known_form d head (fits g.enters);
+      known = known_form head (fits g.enters);
       links_few = few_links (makes_directory k) g.links;
       size_fits = (fits g.enters).size;
     };
-    named = takes_name g.enters files (none_lost d) head'.links (few_links (makes_directory k) g.links) n size;
+    named = takes_name g.enters (none_lost d) head'.links (few_links (makes_directory k) g.links) size;
   }
 
   -- ---- the object is made
@@ -193,14 +193,14 @@ module _ {version N : ℕ} {p : List ℕ} {d : ℕ} {of : NewCall version N p d}
     }
 
     shape_1 : IsShaped m1
-    shape_1 = shape_kept m m1 n made.changed g.enters.shaped
+    shape_1 = shape_kept made.changed g.enters.shaped
         (object_kept m m1 n (as_header (new_header k)) is.map made.changed made.own made_object) made.whole.long
         (λ h at dir.
         let same : as_header (new_header k) ≡ h = (let both : Some (as_header (new_header k)) ≡ Some h = sym made.own ∙ at in cc) in
         subst (IsDirectory m1 n) same (blank_directory m1 n k (ap (λ (x : entry.Header). x.kind) same ∙ dir)))
 
     tree_1 : tree_in m1 ≡ with_node s.tree n (new_node k)
-    tree_1 = tree_with m m1 n (new_node k) made.changed
+    tree_1 = tree_with m m1 n made.changed
         (node_in m1 n in_range.0 in_range.1 ∙ ap (node_of m1 n) made.own ∙ ap (λ (x : Node). Some x) (new_node_by m1 n k made.bytes))
         ∙ ap (λ (t : Tree). with_node t n (new_node k)) (sym is.log.is)
 
@@ -226,7 +226,7 @@ module _ {version N : ℕ} {p : List ℕ} {d : ℕ} {of : NewCall version N p d}
         adds = adds_name g.enters head'.links (λ i. linked.block d i ∙ made.changed.blocks d i (λ e. other (sym e))) names
 
         pub new_shape : IsShaped m'
-        new_shape = written_kept m2 m' d n head' (grown head') head.size (slot_for head.form n l.name.now) (name p) shape_2 holder_2
+        new_shape = written_kept n (name p) shape_2 holder_2
             holder_2.kind refl refl (few_grown g.enters) names.file adds.directory adds.names
 
         abbrev t' : Tree
@@ -234,8 +234,7 @@ module _ {version N : ℕ} {p : List ℕ} {d : ℕ} {of : NewCall version N p d}
 
         pub new_tree : tree_in m' ≡ t'
         new_tree =
-            written_tree m2 m' d n head' (grown head') head.size (slot_for head.form n l.name.now) (name p) shape_2 holder_2
-            holder_2.kind refl refl (few_grown g.enters) names.file adds.directory adds.names
+            written_tree n (name p) shape_2 holder_2 holder_2.kind refl refl (few_grown g.enters) names.file adds.directory adds.names
             ∙ ap (λ (t : Tree). with_name t d (name p) n) tree_2
             ∙ sym (change_more s.tree is.log.sound.in_order (put byte_cmp (name p) n) d n (new_node k) (λ e. other (sym e)))
             ∙ ap (λ (q : ℕ). with_node (with_name s.tree d (name p) q) q (new_node k)) (sym g.first)

@@ -27,9 +27,8 @@ pub record IsTaken (s : State) (p : List ℕ) (d : ℕ) (is_mkdir : Bool) : Type
   pub free : is_full s.tree d ≡ false
 
 module _ {N : ℕ} {s : State} {p : List ℕ} {d : ℕ} {call : Call} {is_mkdir : Bool} (e : ChecksNew N s p d call is_mkdir) where
-  pub step_new : (a : Answer) (s' : State) → outcome N s call e.first_end e.second_end ≡ (a, s')
-      → Step N s call a s'
-  step_new a s' is = record {
+  pub step_new : {a : Answer} {s' : State} → outcome N s call e.first_end e.second_end ≡ (a, s') → Step N s call a s'
+  step_new is = record {
     first_end = e.first_end;
     second_end = e.second_end;
     first = e.first;
@@ -39,22 +38,22 @@ module _ {N : ℕ} {s : State} {p : List ℕ} {d : ℕ} {call : Call} {is_mkdir 
   }
 
   pub new_dots : (no_last p || last_dots p) ≡ true → Step N s call (Refuse Exist) s
-  new_dots dots = step_new (Refuse Exist) s (e.is ∙ rw dots refl)
+  new_dots dots = step_new (e.is ∙ rw dots refl)
 
   module _ (named : (no_last p || last_dots p) ≡ false) where
     pub new_long : is_long s.tree d p ≡ true → Step N s call (Refuse NameTooLong) s
-    new_long long = step_new (Refuse NameTooLong) s (e.is ∙ rw (named, long) refl)
+    new_long long = step_new (e.is ∙ rw (named, long) refl)
 
     module _ (short : is_long s.tree d p ≡ false) where
       pub new_there : is_there s.tree d p ≡ true → Step N s call (Refuse Exist) s
-      new_there there = step_new (Refuse Exist) s (e.is ∙ rw (named, short, there) refl)
+      new_there there = step_new (e.is ∙ rw (named, short, there) refl)
 
       module _ (new : is_there s.tree d p ≡ false) where
         pub new_slash : (slash p && not is_mkdir) ≡ true → Step N s call (Refuse NoEntry) s
-        new_slash ends = step_new (Refuse NoEntry) s (e.is ∙ rw (named, short, new, ends) refl)
+        new_slash ends = step_new (e.is ∙ rw (named, short, new, ends) refl)
 
         pub new_full : (slash p && not is_mkdir) ≡ false → is_full s.tree d ≡ true → Step N s call (Refuse DirFull) s
-        new_full plain full = step_new (Refuse DirFull) s (e.is ∙ rw (named, short, new, plain, full) refl)
+        new_full plain full = step_new (e.is ∙ rw (named, short, new, plain, full) refl)
 
   -- then the rest may refuse it
   pub new_taken : IsTaken s p d is_mkdir → outcome N s call e.first_end e.second_end ≡ checked s e.rest e.otherwise

@@ -76,9 +76,9 @@ directory_sized version known = ⊎_elim
     (sym e) record { known = omega arith; links_few = omega arith; size_fits = (refl, omega arith) })
     known
 
-pub link_sized : (size : ℕ) → 1 ≤ size → size ≤ 1023 → FitsHeader kinds.Link 0 1 size
+pub link_sized : {size : ℕ} → 1 ≤ size → size ≤ 1023 → FitsHeader kinds.Link 0 1 size
 unfolding IsSize
-link_sized size some few = record { known = tt; links_few = omega arith; size_fits = (some, few) }
+link_sized some few = record { known = tt; links_few = omega arith; size_fits = (some, few) }
 
 -- a text that isn't refused passes
 pub text_passes : (text : List ℕ) → text_refusal text ≡ None → text_check text ≡ []
@@ -146,7 +146,7 @@ module _ (version N : ℕ) (p : List ℕ) (d : ℕ) (bytes : AreBytes p) where
     is = λ s same. ap (λ (l : List (Bool × Answer)). checked s l (makes_link N s text p d)) (text_passes text good);
     arguments = (text_bytes, bytes);
     known = λ v. tt;
-    sized = λ v. (let long = good_text text good in link_sized (length text) (omega (arith, long.1)) long.2);
+    sized = λ v. (let long = good_text text good in link_sized (omega (arith, long.1)) long.2);
     changing = refl;
     uncommitted = refl;
     unclean = refl;
@@ -178,18 +178,17 @@ module _ {version N : ℕ} {p : List ℕ} {d : ℕ} (of : NewCall version N p d)
 
   module _ (taken : IsTaken s p d of.is_mkdir) where
     pub new_own : of.own s ≡ true → Step N s of.call (Refuse of.why) s
-    new_own own = step_new checks_new (Refuse of.why) s (new_taken checks_new taken ∙ rw own refl)
+    new_own own = step_new checks_new (new_taken checks_new taken ∙ rw own refl)
 
     module _ (allowed : of.own s ≡ false) where
       pub new_no_number : 4095 < least s.tree → Step N s of.call (Refuse NoNumber) s
-      new_no_number all = step_new checks_new (Refuse NoNumber) s
-          (new_taken checks_new taken ∙ rw (allowed, below 4095 (least s.tree) all) refl)
+      new_no_number all = step_new checks_new (new_taken checks_new taken ∙ rw (allowed, below 4095 (least s.tree) all) refl)
 
       module _ (number : least s.tree ≤ 4095) where
         pub new_no_space : 47 * N < need grown → Step N s of.call (Refuse NoSpace) s
-        new_no_space lacks = step_new checks_new (Refuse NoSpace) s (new_taken checks_new taken
+        new_no_space lacks = step_new checks_new (new_taken checks_new taken
             ∙ rw (allowed, not_below 4095 (least s.tree) number, below (47 * N) (need grown) lacks) refl)
 
         pub new_done : need grown ≤ 47 * N → Step N s of.call (of.answer s) with_entry
-        new_done room = step_new checks_new (of.answer s) with_entry (new_taken checks_new taken
+        new_done room = step_new checks_new (new_taken checks_new taken
             ∙ rw (allowed, not_below 4095 (least s.tree) number, not_below (47 * N) (need grown) room) refl)

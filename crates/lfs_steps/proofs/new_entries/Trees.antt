@@ -84,7 +84,7 @@ module _ (N : ℕ) (s : State) (sound : Sound N s) (d : ℕ) (dir : is_dir (node
   all_links : (q : ℕ) → links named q ≡ links t1 q + link_of (makes_directory k) d n q
   all_links q =
       ap (λ (t : Tree). links t q) (change_more s.tree sound.in_order (put byte_cmp nm n) d n (new_node k) other)
-      ∙ links_more t1 d n (form_of (node t1 d)) (names_in t1 d) nm order_1 (dir_at (node t1 d) (ap is_dir (kept d other) ∙ dir))
+      ∙ links_more t1 d n nm order_1 (dir_at (node t1 d) (ap is_dir (kept d other) ∙ dir))
       (subst (λ (ms : Names). T (is_sorted byte_cmp ms)) (sym names_1)
       (sound.limits d (Dir (form_of (node s.tree d)) (names_in s.tree d)) (dir_at (node s.tree d) dir)).0)
       (ap (find byte_cmp nm) names_1 ∙ absent) q

@@ -45,7 +45,7 @@ module _ {N : ℕ} {m : LogMap} {s : State} {p : List ℕ} {d : ℕ} {l : Last} 
     map = g.reached.map;
     shaped = g.shaped;
     walk = g.reached.walk;
-    gives = entry_is g.reached head (Some n) g.looks.looks;
+    gives = entry_is g.reached g.looks.looks;
     holder = g.looks.looks.header;
     few = few g.reached head g.looks.looks.header;
     there = g.looks.there;
@@ -53,7 +53,7 @@ module _ {N : ℕ} {m : LogMap} {s : State} {p : List ℕ} {d : ℕ} {l : Last} 
   }
 
   is_kind : is_dir (node s.tree n) ≡ is_directory object.kind
-  is_kind = kind_is g.reached head g.looks.looks.header l.name.now n (sym g.looks.looks.gives) object g.looks.there
+  is_kind = kind_is g.reached head g.looks.looks.header l.name.now (sym g.looks.looks.gives) object g.looks.there
 
   both : HasBoth d e m
   both = record {
@@ -101,7 +101,7 @@ module _ {N : ℕ} {m : LogMap} {s : State} {p : List ℕ} {d : ℕ} {l : Last} 
       by true on =
           let now : links_then ≡ head.links - 1 = ap (λ b. if b then head.links - 1 else head.links) on in
           let one : one_if (is_dir (node s.tree n)) ≡ 1 = ap one_if (is_kind ∙ on) in
-          let many = links_many g.reached head g.looks.looks.header l.name.now n (sym g.looks.looks.gives) (is_kind ∙ on) in
+          let many = links_many g.reached head g.looks.looks.header l.name.now (sym g.looks.looks.gives) (is_kind ∙ on) in
           omega (arith, now, one, many)
       by false off =
           let now : links_then ≡ head.links = ap (λ b. if b then head.links - 1 else head.links) off in
@@ -109,12 +109,12 @@ module _ {N : ℕ} {m : LogMap} {s : State} {p : List ℕ} {d : ℕ} {l : Last} 
           omega (arith, now, none)
 
   links_less : FitsHeader head.kind head.form links_then head.size
-  links_less = links_fit d head (fits_d g.reached head g.looks.looks.header) links_then (let all = less in omega (arith, all))
+  links_less = links_fit head (fits_d g.reached head g.looks.looks.header) {links = links_then} (let all = less in omega (arith, all))
 
   size_less : FitsHeader head.kind head.form head.links (head.size - slot_len head.form)
   size_less = directory_shrinks d head (fits_d g.reached head g.looks.looks.header) holder_here.kind
       (slot_in_directory N m s g.reached.map d (dir g.reached) head g.looks.looks.header (fits_d g.reached head g.looks.looks.header)
-      l.name.now n (sym g.looks.looks.gives))
+      l.name.now (sym g.looks.looks.gives))
     where
       holder_here : HasHolder m d head
       holder_here = holder_is placed
@@ -129,7 +129,7 @@ module _ {N : ℕ} {m : LogMap} {s : State} {p : List ℕ} {d : ℕ} {l : Last} 
       there = g.looks.there;
       linked = some_links;
       apart = (none_lost n).inode;
-      header = links_fit n object (g.reached.headers n (as_header object) g.looks.there) (object.links - 1) (omega arith);
+      header = links_fit object (g.reached.headers n (as_header object) g.looks.there) (omega arith);
     };
     linked = (let are = links_are g.reached head g.looks.looks.header in let two = two_links (node s.tree d) s.tree d (dir g.reached) in
         omega (arith, are, two));
@@ -138,7 +138,7 @@ module _ {N : ℕ} {m : LogMap} {s : State} {p : List ℕ} {d : ℕ} {l : Last} 
   }
 
   -- ---- the log map with the draft
-  module _ {S D : Type 0} (files : FilesState S D) (is_open : Bool) (opens : is_open ≡ true → opened s.handles n ≢ 0)
+  module _ {S D : Type 0} (files : FilesState S D) {is_open : Bool} (opens : is_open ≡ true → opened s.handles n ≢ 0)
       (shut : is_open ≡ false → is_directory object.kind ≡ false
       → opened s.handles n ≡ 0) (dropped : HasDropped files m m d e is_open l.name.now) where
     loses : LosesName s m dropped.lost n (as_header object)
@@ -149,8 +149,7 @@ module _ {N : ℕ} {m : LogMap} {s : State} {p : List ℕ} {d : ℕ} {l : Last} 
 
     takes : TakesName dropped.linked dropped.map d (holder_without e) (name p)
     takes = subst (TakesName dropped.linked dropped.map d (holder_without e)) (sym (piece_is g.reached))
-        (dropped.untied.names (holder_directory dropped.linked d (holder_without e) (shape_2 placed links_then loses links)
-        (holder_2 placed links_then loses links)))
+        (dropped.untied.names (holder_directory (shape_2 placed links_then loses links) (holder_2 placed links_then loses links)))
 
     pub gone_map : IsMapOf N dropped.map (gone s p d)
     gone_map = removed_map placed links_then loses links less dropped.untied.cut takes refl refl g.sound

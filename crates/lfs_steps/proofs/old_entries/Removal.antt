@@ -159,18 +159,16 @@ module _ {N : ℕ} {m : LogMap} {s : State} {p : List ℕ} {d n : ℕ} {head : H
           (takes : TakesName m2 m' d (relinked head l) nm)
         where
           pub removed_shape : IsShaped m'
-          removed_shape = taken_kept m2 m' d (relinked head l) nm shape_2 holder_2 cut takes
+          removed_shape = taken_kept shape_2 holder_2 cut takes
 
           removed_tree : tree_in m' ≡ let_go left s.handles n
-          removed_tree = taken_tree m2 m' d (relinked head l) nm shape_2 holder_2 cut takes
-              ∙ ap (λ (t : Tree). without_name t d nm)
+          removed_tree = taken_tree shape_2 holder_2 cut takes ∙ ap (λ (t : Tree). without_name t d nm)
               (linked_tree m1 m2 d head l loss.shape holder_1 links) ∙ loss.tree
 
           removed_links : (k : ℕ) (f : entry.Header) → m'.header k ≡ Some f
               → f.links ≡ links_in (let_go left s.handles n) k
           removed_links k f at =
-              let third = taken_shifts m2 m' d (relinked head l) nm shape_2 holder_2 cut takes k f
-              at in
+              let third = taken_shifts shape_2 holder_2 cut takes k f at in
               let second = linked_shifts m1 m2 d head l loss.shape holder_1 links
               (one_if (is_dir (node s.tree n))) 0 (omega (arith, less)) k third.0 third.1 in
               let first = loss.shifts k second.0 second.1 in

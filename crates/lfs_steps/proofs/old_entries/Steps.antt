@@ -26,10 +26,9 @@ pub record OldCall (N : ℕ) (p : List ℕ) (d : ℕ) (call : Call) : Type 0 whe
   pub uncommitted : never_for_device call ≡ false
   pub unclean : cleans call ≡ false
 
-module _ (N : ℕ) (s : State) (p : List ℕ) (d : ℕ) (call : Call) (e : ChecksOld N s p d call) where
-  pub step_old : (a : Answer) (s' : State) → outcome N s call (At d) e.second_end ≡ (a, s')
-      → Step N s call a s'
-  step_old a s' is = record {
+module _ {N : ℕ} {s : State} {p : List ℕ} {d : ℕ} {call : Call} (e : ChecksOld N s p d call) where
+  pub step_old : {a : Answer} {s' : State} → outcome N s call (At d) e.second_end ≡ (a, s') → Step N s call a s'
+  step_old is = record {
     first_end = At d;
     second_end = e.second_end;
     first = e.first;
@@ -51,17 +50,14 @@ module _ (N : ℕ) (s : State) (p : List ℕ) (d : ℕ) (call : Call) (e : Check
   from_long = when (is_long s.tree d p) NameTooLong ∷ from_there
 
   pub old_dots : (no_last p || last_dots p) ≡ true → Step N s call (Refuse Perm) s
-  old_dots dots = step_old (Refuse Perm) s
-      (e.is ∙ refuses s (no_last p || last_dots p) (Refuse Perm) from_long e.otherwise dots)
+  old_dots dots = step_old (e.is ∙ refuses s (Refuse Perm) from_long e.otherwise dots)
 
   module _ (named : (no_last p || last_dots p) ≡ false) where
     has_name : outcome N s call (At d) e.second_end ≡ checked s from_long e.otherwise
     has_name = e.is ∙ passes s (no_last p || last_dots p) (Refuse Perm) from_long e.otherwise named
 
     pub old_long : is_long s.tree d p ≡ true → Step N s call (Refuse NameTooLong) s
-    old_long long = step_old (Refuse NameTooLong) s
-        (has_name
-        ∙ refuses s (is_long s.tree d p) (Refuse NameTooLong) from_there e.otherwise long)
+    old_long long = step_old (has_name ∙ refuses s (Refuse NameTooLong) from_there e.otherwise long)
 
     module _ (short : is_long s.tree d p ≡ false) where
       is_short : outcome N s call (At d) e.second_end ≡ checked s from_there e.otherwise
@@ -69,9 +65,7 @@ module _ (N : ℕ) (s : State) (p : List ℕ) (d : ℕ) (call : Call) (e : Check
           ∙ passes s (is_long s.tree d p) (Refuse NameTooLong) from_there e.otherwise short
 
       pub old_missing : is_there s.tree d p ≡ false → Step N s call (Refuse NoEntry) s
-      old_missing none = step_old (Refuse NoEntry) s
-          (is_short
-          ∙ refuses s (not (is_there s.tree d p)) (Refuse NoEntry) from_slash e.otherwise
+      old_missing none = step_old (is_short ∙ refuses s {b = not (is_there s.tree d p)} (Refuse NoEntry) from_slash e.otherwise
           (ap not none))
 
       module _ (there : is_there s.tree d p ≡ true) where
@@ -82,17 +76,12 @@ module _ (N : ℕ) (s : State) (p : List ℕ) (d : ℕ) (call : Call) (e : Check
 
         pub old_slash : slash p ≡ true → gives_dir s.tree d p ≡ false
             → Step N s call (Refuse NotDir) s
-        old_slash ends plain = step_old (Refuse NotDir) s
-            (is_found
-            ∙ refuses s (slash p && not (gives_dir s.tree d p)) (Refuse NotDir) from_directory
+        old_slash ends plain = step_old (is_found ∙ refuses s {b = slash p && not (gives_dir s.tree d p)} (Refuse NotDir) from_directory
             e.otherwise (λ i. ends i && not (plain i)))
 
         pub old_directory : gives_dir s.tree d p ≡ true → Step N s call (Refuse Perm) s
-        old_directory dir = step_old (Refuse Perm) s
-            (is_found
-            ∙ passes s (slash p && not (gives_dir s.tree d p)) (Refuse NotDir) from_directory
-            e.otherwise (ap (λ (b : Bool). slash p && not b) dir ∙ never (slash p))
-            ∙ refuses s (gives_dir s.tree d p) (Refuse Perm) [] e.otherwise dir)
+        old_directory dir = step_old (is_found ∙ passes s (slash p && not (gives_dir s.tree d p)) (Refuse NotDir) from_directory
+            e.otherwise (ap (λ (b : Bool). slash p && not b) dir ∙ never (slash p)) ∙ refuses s (Refuse Perm) [] e.otherwise dir)
           where
             never : (b : Bool) → (b && false) ≡ false
             never true = refl

@@ -12,12 +12,12 @@ module _ (N : ℕ) (s : State) (h : ℕ) where
   pub fsync_bad_handle : find nat_cmp h s.handles ≡ None → Step N s (Fsync h) (Refuse BadHandle) s
   fsync_bad_handle none =
       let is =
-      refuses s (is_none (find nat_cmp h s.handles)) (Refuse BadHandle) [] (Done, s) (is_missing (find nat_cmp h s.handles) none) in
+      refuses s (Refuse BadHandle) [] (Done, s) (is_missing (find nat_cmp h s.handles) none) in
       record { first_end = At 1; second_end = At 1; first = refl; second = refl; answer = ap (λ r. r.0) is; state = ap (λ r. r.1) is }
 
   pub fsync_done : (n : ℕ) → find nat_cmp h s.handles ≡ Some n → Step N s (Fsync h) Done s
   fsync_done n opens =
-      let is = passes s (is_none (find nat_cmp h s.handles)) (Refuse BadHandle) [] (Done, s) (is_some (find nat_cmp h s.handles) n opens) in
+      let is = passes s (is_none (find nat_cmp h s.handles)) (Refuse BadHandle) [] (Done, s) (is_some opens) in
       record { first_end = At 1; second_end = At 1; first = refl; second = refl; answer = ap (λ r. r.0) is; state = ap (λ r. r.1) is }
 
   -- ---- close
@@ -28,29 +28,27 @@ module _ (N : ℕ) (s : State) (h : ℕ) where
   abbrev pub closed : Tree → State
   closed t = record s { tree = t; handles = rest }
 
-  step_close : (a : Answer) (s' : State) → closes s h ≡ (a, s') → Step N s (Close h) a s'
-  step_close a s' is =
+  step_close : {a : Answer} {s' : State} → closes s h ≡ (a, s') → Step N s (Close h) a s'
+  step_close is =
       record { first_end = At 1; second_end = At 1; first = refl; second = refl; answer = ap (λ r. r.0) is; state = ap (λ r. r.1) is }
 
   pub close_bad_handle : find nat_cmp h s.handles ≡ None → Step N s (Close h) (Refuse BadHandle) s
-  close_bad_handle none = step_close (Refuse BadHandle) s
-      (refuses s (is_none (find nat_cmp h s.handles)) (Refuse BadHandle) [] (Done, closed (let_go s.tree rest (file_at s h)))
+  close_bad_handle none = step_close (refuses s (Refuse BadHandle) [] (Done, closed (let_go s.tree rest (file_at s h)))
       (is_missing (find nat_cmp h s.handles) none))
 
   module _ (n : ℕ) (opens : find nat_cmp h s.handles ≡ Some n) where
-    done : (t : Tree) → let_go s.tree rest n ≡ t → Step N s (Close h) Done (closed t)
-    done t is = step_close Done (closed t)
+    done : {t : Tree} → let_go s.tree rest n ≡ t → Step N s (Close h) Done (closed t)
+    done {t} is = step_close
         (passes s (is_none (find nat_cmp h s.handles)) (Refuse BadHandle) [] (Done, closed (let_go s.tree rest (file_at s h)))
-        (is_some (find nat_cmp h s.handles) n opens)
-        ∙ ap (λ (x : Tree). (Done, closed x)) (ap (let_go s.tree rest) (file_is N s h n opens) ∙ is))
+        (is_some opens) ∙ ap (λ (x : Tree). (Done, closed x)) (ap (let_go s.tree rest) (file_is N s h n opens) ∙ is))
 
     -- the file keeps a name, or another handle
     pub close_stays : (names s.tree n == 0 && opened rest n == 0) ≡ false → Step N s (Close h) Done (closed s.tree)
-    close_stays off = done s.tree (ap (λ (b : Bool). if b then without nat_cmp n s.tree else s.tree) off)
+    close_stays off = done (ap (λ (b : Bool). if b then without nat_cmp n s.tree else s.tree) off)
 
     -- it has neither
     pub close_goes : names s.tree n ≡ 0 → opened rest n ≡ 0 → Step N s (Close h) Done (closed (without nat_cmp n s.tree))
-    close_goes nameless shut = done (without nat_cmp n s.tree) (ap (λ (b : Bool). if b then without nat_cmp n s.tree else s.tree)
+    close_goes nameless shut = done (ap (λ (b : Bool). if b then without nat_cmp n s.tree else s.tree)
         (both (names s.tree n == 0) (opened rest n == 0) (eq-eqb (names s.tree n) 0 nameless) (eq-eqb (opened rest n) 0 shut)))
       where
         both : (a b : Bool) → a ≡ true → b ≡ true → (a && b) ≡ true

@@ -25,27 +25,25 @@ module _ (N : ℕ) (s : State) (h : ℕ) where
 
   -- ---- pread
   module _ (off n : ℕ) where
-    step_read : (a : Answer) → reads s h off n ≡ (a, s) → Step N s (Pread h off n) a s
-    step_read a is =
+    step_read : {a : Answer} → reads s h off n ≡ (a, s) → Step N s (Pread h off n) a s
+    step_read is =
         record { first_end = At 1; second_end = At 1; first = refl; second = refl; answer = ap (λ r. r.0) is; state = ap (λ r. r.1) is }
 
     pub read_bad_handle : find nat_cmp h s.handles ≡ None → Step N s (Pread h off n) (Refuse BadHandle) s
     read_bad_handle none =
-        step_read (Refuse BadHandle) (refuses s (is_none (find nat_cmp h s.handles)) (Refuse BadHandle) (when (nat_lt 65536 n) Inval ∷ [])
+        step_read (refuses s (Refuse BadHandle) (when (nat_lt 65536 n) Inval ∷ [])
         (Data (bytes.part (file_bytes (the_node s.tree (file_at s h))) off n), s) (is_missing (find nat_cmp h s.handles) none))
 
     pub read_too_much : (f : ℕ) → Opens f → 65536 < n → Step N s (Pread h off n) (Refuse Inval) s
-    read_too_much f is much = step_read (Refuse Inval)
-        (passes s (is_none (find nat_cmp h s.handles)) (Refuse BadHandle) (when (nat_lt 65536 n) Inval ∷ [])
-        (Data (bytes.part (file_bytes (the_node s.tree (file_at s h))) off n), s) (is_some (find nat_cmp h s.handles) f is)
-        ∙ refuses s (nat_lt 65536 n) (Refuse Inval) [] (Data (bytes.part (file_bytes (the_node s.tree (file_at s h))) off n), s)
-        (below 65536 n much))
+    read_too_much f is much = step_read (passes s (is_none (find nat_cmp h s.handles)) (Refuse BadHandle) (when (nat_lt 65536 n) Inval ∷ [])
+        (Data (bytes.part (file_bytes (the_node s.tree (file_at s h))) off n), s) (is_some is)
+        ∙ refuses s (Refuse Inval) [] (Data (bytes.part (file_bytes (the_node s.tree (file_at s h))) off n), s) (below 65536 n much))
 
-    pub read_done : (f : ℕ) → Opens f → n ≤ 65536 → (b : List ℕ) → the_node s.tree f ≡ File b
+    pub read_done : (f : ℕ) → Opens f → n ≤ 65536 → {b : List ℕ} → the_node s.tree f ≡ File b
         → Step N s (Pread h off n) (Data (bytes.part b off n)) s
-    read_done f is few b file = step_read (Data (bytes.part b off n))
+    read_done f is few {b} file = step_read
         (passes s (is_none (find nat_cmp h s.handles)) (Refuse BadHandle) (when (nat_lt 65536 n) Inval ∷ [])
-        (Data (bytes.part (file_bytes (the_node s.tree (file_at s h))) off n), s) (is_some (find nat_cmp h s.handles) f is)
+        (Data (bytes.part (file_bytes (the_node s.tree (file_at s h))) off n), s) (is_some is)
         ∙ passes s (nat_lt 65536 n) (Refuse Inval) [] (Data (bytes.part (file_bytes (the_node s.tree (file_at s h))) off n), s)
         (not_below 65536 n few)
         ∙ ap (λ (b : List ℕ). (Data (bytes.part b off n), s))
@@ -53,8 +51,8 @@ module _ (N : ℕ) (s : State) (h : ℕ) where
 
   -- ---- pwrite
   module _ (off : ℕ) (w : List ℕ) where
-    step_write : (a : Answer) (s' : State) → writes N s h off w ≡ (a, s') → Step N s (Pwrite h off w) a s'
-    step_write a s' is =
+    step_write : {a : Answer} {s' : State} → writes N s h off w ≡ (a, s') → Step N s (Pwrite h off w) a s'
+    step_write is =
         record { first_end = At 1; second_end = At 1; first = refl; second = refl; answer = ap (λ r. r.0) is; state = ap (λ r. r.1) is }
 
     -- the tree after it
@@ -77,16 +75,14 @@ module _ (N : ℕ) (s : State) (h : ℕ) where
     from_length = when (nat_lt 65536 (length w)) Inval ∷ from_empty
 
     pub write_bad_handle : find nat_cmp h s.handles ≡ None → Step N s (Pwrite h off w) (Refuse BadHandle) s
-    write_bad_handle none = step_write (Refuse BadHandle) s
-        (refuses s (is_none (find nat_cmp h s.handles)) (Refuse BadHandle) from_length done (is_missing (find nat_cmp h s.handles) none))
+    write_bad_handle none = step_write (refuses s (Refuse BadHandle) from_length done (is_missing (find nat_cmp h s.handles) none))
 
     module _ (f : ℕ) (is : Opens f) where
       opened : writes N s h off w ≡ checked s from_length done
-      opened = passes s (is_none (find nat_cmp h s.handles)) (Refuse BadHandle) from_length done (is_some (find nat_cmp h s.handles) f is)
+      opened = passes s (is_none (find nat_cmp h s.handles)) (Refuse BadHandle) from_length done (is_some is)
 
       pub write_too_much : 65536 < length w → Step N s (Pwrite h off w) (Refuse Inval) s
-      write_too_much much = step_write (Refuse Inval) s
-          (opened ∙ refuses s (nat_lt 65536 (length w)) (Refuse Inval) from_empty done (below 65536 (length w) much))
+      write_too_much much = step_write (opened ∙ refuses s (Refuse Inval) from_empty done (below 65536 (length w) much))
 
       module _ (few : length w ≤ 65536) where
         short : writes N s h off w ≡ checked s from_empty done
@@ -94,15 +90,14 @@ module _ (N : ℕ) (s : State) (h : ℕ) where
 
         pub write_nothing : length w ≡ 0 → Step N s (Pwrite h off w) (Count 0) s
         write_nothing none =
-            step_write (Count 0) s (short ∙ refuses s (length w == 0) (Count 0) from_size done (is_zero_length (length w) none))
+            step_write (short ∙ refuses s (Count 0) from_size done (is_zero_length (length w) none))
 
         module _ (some : 0 < length w) where
           some_bytes : writes N s h off w ≡ checked s from_size done
           some_bytes = short ∙ passes s (length w == 0) (Count 0) from_size done (not_zero_length (length w) some)
 
           pub write_too_big : 8511488 < off + length w → Step N s (Pwrite h off w) (Refuse FileTooBig) s
-          write_too_big big = step_write (Refuse FileTooBig) s (some_bytes
-              ∙ refuses s (nat_lt 8511488 (off + length w)) (Refuse FileTooBig) from_space done (below 8511488 (off + length w) big))
+          write_too_big big = step_write (some_bytes ∙ refuses s (Refuse FileTooBig) from_space done (below 8511488 (off + length w) big))
 
           module _ (fits : off + length w ≤ 8511488) where
             sized : writes N s h off w ≡ checked s from_space done
@@ -110,17 +105,16 @@ module _ (N : ℕ) (s : State) (h : ℕ) where
                 ∙ passes s (nat_lt 8511488 (off + length w)) (Refuse FileTooBig) from_space done (not_below 8511488 (off + length w) fits)
 
             pub write_no_space : 47 * N < need written → Step N s (Pwrite h off w) (Refuse NoSpace) s
-            write_no_space lacks = step_write (Refuse NoSpace) s
-                (sized ∙ refuses s (nat_lt (47 * N) (need written)) (Refuse NoSpace) [] done (below (47 * N) (need written) lacks))
+            write_no_space lacks = step_write (sized ∙ refuses s (Refuse NoSpace) [] done (below (47 * N) (need written) lacks))
 
             pub write_done : need written ≤ 47 * N → Step N s (Pwrite h off w) (Count (length w)) (with_tree s written)
-            write_done room = step_write (Count (length w)) (with_tree s written)
+            write_done room = step_write
                 (sized ∙ passes s (nat_lt (47 * N) (need written)) (Refuse NoSpace) [] done (not_below (47 * N) (need written) room))
 
   -- ---- truncate
   module _ (len : ℕ) where
-    step_cut : (a : Answer) (s' : State) → truncates s h len ≡ (a, s') → Step N s (Truncate h len) a s'
-    step_cut a s' is =
+    step_cut : {a : Answer} {s' : State} → truncates s h len ≡ (a, s') → Step N s (Truncate h len) a s'
+    step_cut is =
         record { first_end = At 1; second_end = At 1; first = refl; second = refl; answer = ap (λ r. r.0) is; state = ap (λ r. r.1) is }
 
     abbrev pub shortened : Tree
@@ -133,15 +127,12 @@ module _ (N : ℕ) (s : State) (h : ℕ) where
     cut_size = when (nat_lt 8511488 len) FileTooBig ∷ []
 
     pub cut_bad_handle : find nat_cmp h s.handles ≡ None → Step N s (Truncate h len) (Refuse BadHandle) s
-    cut_bad_handle none = step_cut (Refuse BadHandle) s
-        (refuses s (is_none (find nat_cmp h s.handles)) (Refuse BadHandle) cut_size cut_done (is_missing (find nat_cmp h s.handles) none))
+    cut_bad_handle none = step_cut (refuses s (Refuse BadHandle) cut_size cut_done (is_missing (find nat_cmp h s.handles) none))
 
     pub cut_too_big : (f : ℕ) → Opens f → 8511488 < len → Step N s (Truncate h len) (Refuse FileTooBig) s
-    cut_too_big f is big = step_cut (Refuse FileTooBig) s
-        (passes s (is_none (find nat_cmp h s.handles)) (Refuse BadHandle) cut_size cut_done (is_some (find nat_cmp h s.handles) f is)
-        ∙ refuses s (nat_lt 8511488 len) (Refuse FileTooBig) [] cut_done (below 8511488 len big))
+    cut_too_big f is big = step_cut (passes s (is_none (find nat_cmp h s.handles)) (Refuse BadHandle) cut_size cut_done (is_some is)
+        ∙ refuses s (Refuse FileTooBig) [] cut_done (below 8511488 len big))
 
     pub cut_all_done : (f : ℕ) → Opens f → len ≤ 8511488 → Step N s (Truncate h len) Done (with_tree s shortened)
-    cut_all_done f is fits = step_cut Done (with_tree s shortened)
-        (passes s (is_none (find nat_cmp h s.handles)) (Refuse BadHandle) cut_size cut_done (is_some (find nat_cmp h s.handles) f is)
+    cut_all_done f is fits = step_cut (passes s (is_none (find nat_cmp h s.handles)) (Refuse BadHandle) cut_size cut_done (is_some is)
         ∙ passes s (nat_lt 8511488 len) (Refuse FileTooBig) [] cut_done (not_below 8511488 len fits))

@@ -21,9 +21,9 @@ chain_directory t [] top is = absurd is
 chain_directory t (d ∷ []) top is = ap (λ (n : ℕ). is_dir (node t n)) is ∙ top
 chain_directory t (d ∷ above ∷ rest) top is = is.1
 
-named_by : (t : Tree) (q : ℕ) → IsReachable t q → q ≢ 1 → (p : ℕ) × (x : List ℕ) × (entry t p x ≡ Some q)
-named_by t q root ne = absurd (ne refl)
-named_by t q (below {d = d} x r e) ne = (d, x, e)
+named_by : {t : Tree} {q : ℕ} → IsReachable t q → q ≢ 1 → (p : ℕ) × (x : List ℕ) × (entry t p x ≡ Some q)
+named_by root ne = absurd (ne refl)
+named_by (below {d = d} x r e) ne = (d, x, e)
 
 module _ (N : ℕ) (s : State) (sound : Sound N s) (c : List ℕ) (is : IsChain s.tree c) where
   abbrev t : Tree
@@ -42,8 +42,8 @@ module _ (N : ℕ) (s : State) (sound : Sound N s) (c : List ℕ) (is : IsChain 
     down q dir v = same_or_not q 1
         (λ (at : q ≡ 1). subst (Under t n) (ap (up t) at ∙ sym at) v)
         (λ (ne : q ≢ 1). (
-        let by = named_by t q (sound.reached q dir) ne in
-        let one = up_is t sound.in_order by.0 q by.1 by.2 ne (sound.one_name q ne dir) in
+        let by = named_by (sound.reached q dir) ne in
+        let one = up_is t sound.in_order {d = by.0} q by.1 by.2 ne (sound.one_name q ne dir) in
         inside by.1 (subst (Under t n) one v) by.2))
 
     under_from : (k : ℕ) → Under t n (here (risen_by k c)) → Under t n (here c)

@@ -84,7 +84,7 @@ piece_is_name N s sound p d walk named =
     name_of (last (comps p)) (last_clean (comps p) None tt (kept_clean (parts p) (parts_clean p (no_zero p text.0)))) both.0 both.1
 
 -- it is one of at most so many bytes, where the directory's names are
-pub last_is_name : (N : ℕ) (s : State) → Sound N s → (p : List ℕ) (d limit : ℕ) → name_limit s.tree d ≡ limit
+pub last_is_name : (N : ℕ) (s : State) → Sound N s → (p : List ℕ) (d : ℕ) {limit : ℕ} → name_limit s.tree d ≡ limit
     → AreBytes p → Parent s.tree p (At d) → (no_last p || last_dots p) ≡ false
     → length (name p) ≤ limit → IsName limit (name p)
-last_is_name N s sound p d limit limit_is bytes walk named short = piece_is_name N s sound p d walk named limit short
+last_is_name N s sound p d {limit} limit_is bytes walk named short = piece_is_name N s sound p d walk named limit short

@@ -73,7 +73,7 @@ module _ {N : ℕ} {m : LogMap} {s : State} {p : List ℕ} {d : ℕ} {l : Last} 
     few =
         let many = size_of_directory N m s g.map d dir head there fits_d in
         let most = (g.map.log.sound.limits d (Dir head.form (names_in s.tree d)) is_node).1 in
-        few_slots head.form (length (names_in s.tree d)) head.size many most
+        few_slots head.form (length (names_in s.tree d)) many most
       where
         is_node : node s.tree d ≡ Some (Dir head.form (names_in s.tree d))
         is_node = directory_node N m s g.map d dir head there
@@ -97,7 +97,7 @@ module _ {N : ℕ} {m : LogMap} {s : State} {p : List ℕ} {d : ℕ} {l : Last} 
     free_is small = free_directory N m s g.map d dir head there fits_d small
 
     -- what a name gives is there
-    module _ (nm : List ℕ) (n : ℕ) (found : find byte_cmp nm (names_at m d head) ≡ Some n) where
+    module _ (nm : List ℕ) {n : ℕ} (found : find byte_cmp nm (names_at m d head) ≡ Some n) where
       pub gives : entry s.tree d nm ≡ Some n
       gives = entry_in_directory N m s g.map d dir head there nm ∙ found
 
@@ -111,7 +111,7 @@ module _ {N : ℕ} {m : LogMap} {s : State} {p : List ℕ} {d : ℕ} {l : Last} 
       move = record { in_order = g.map.log.sound.in_order; is_a = dir; order_a = dir_order; found = gives; is_b = dir; order_b = dir_order }
 
       pub kind_is : (h : Header) → HasHeader n h m → is_dir (node s.tree n) ≡ is_directory h.kind
-      kind_is h at = ap is_dir (node_by_header N m s g.map.log n (as_header h) range_n at) ∙ dir_by m h.kind n (as_header h)
+      kind_is h at = ap is_dir (node_by_header g.map.log n range_n at) ∙ dir_by m h.kind n (as_header h)
 
       -- a directory that another stands in has three links at least
       pub links_many : is_dir (node s.tree n) ≡ true → 3 ≤ head.links
@@ -126,18 +126,18 @@ module _ {N : ℕ} {m : LogMap} {s : State} {p : List ℕ} {d : ℕ} {l : Last} 
   -- it is one of a volume
   pub holder : IsHolder d m
   holder = record {
-    there = λ none. dir_there s.tree d dir (no_header_none N m s g.map.log d none);
+    there = λ none. dir_there s.tree d dir (no_header_none g.map.log d none);
     formed = λ head at. directory_formed N m s g.map d dir head at (fits_d head at);
     small = λ head at. few head at;
     gives = λ head nm n at found none.
-        g.map.log.sound.named d nm n (gives head at nm n found) (no_header_none N m s g.map.log n none);
+        g.map.log.sound.named d nm n (gives head at nm found) (no_header_none g.map.log n none);
     linked = λ head at. (let are = links_are head at in let two = two_links (node s.tree d) s.tree d dir in omega (arith, are, two));
     above = λ head sub nm n at found other is.
-        links_many head at nm n found (kind_is head at nm n found sub other ∙ ap is_directory is);
+        links_many head at nm found (kind_is head at nm found sub other ∙ ap is_directory is);
   }
 
   -- ---- what the piece gives
-  module _ (head : Header) (found : Option ℕ) (looks : LooksUp m d l.name.now head found) where
+  module _ {head : Header} {found : Option ℕ} (looks : LooksUp m d l.name.now head found) where
     pub entry_is : entry s.tree d (name p) ≡ found
     entry_is = ap (entry s.tree d) piece_is ∙ entry_in_directory N m s g.map d dir head looks.header l.name.now ∙ sym looks.gives
 
@@ -147,7 +147,6 @@ module _ {N : ℕ} {m : LogMap} {s : State} {p : List ℕ} {d : ℕ} {l : Last} 
     pub target_is : target s.tree d p ≡ unwrap_or found 0
     target_is = ap (λ (o : Option ℕ). unwrap_or o 0) entry_is
 
-  module _ (head : Header) (n : ℕ) (looks : LooksUp m d l.name.now head (Some n)) (h : Header) (at : HasHeader n h m) where
+  module _ {head : Header} {n : ℕ} (looks : LooksUp m d l.name.now head (Some n)) (h : Header) (at : HasHeader n h m) where
     pub gives_is : gives_dir s.tree d p ≡ is_directory h.kind
-    gives_is = ap (λ (q : ℕ). is_dir (node s.tree q)) (target_is head (Some n) looks)
-        ∙ kind_is head looks.header l.name.now n (sym looks.gives) h at
+    gives_is = ap (λ (q : ℕ). is_dir (node s.tree q)) (target_is looks) ∙ kind_is head looks.header l.name.now (sym looks.gives) h at

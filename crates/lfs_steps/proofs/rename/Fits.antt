@@ -55,18 +55,18 @@ few_links source target (Some o) fits gains =
     absurd (gains_none (is_directory source.object.header.kind)
     (source.directory.value == target.directory.value) gains)
 
-named_in : (m : LogMap) (d : ℕ) (head : Header) (nm nm' : List ℕ) (k : ℕ) → IsDirectory m d (as_header head) → nm' ≡ nm
+named_in : (m : LogMap) (d : ℕ) {head : Header} {nm nm' : List ℕ} {k : ℕ} → IsDirectory m d (as_header head) → nm' ≡ nm
     → Some k ≡ find byte_cmp nm (names_at m d head) → HasNamed d head nm' m
-named_in m d head nm nm' k directory same gives = record {
+named_in m d {head} {k} directory same gives = record {
   directory = directory;
   there = λ none. (
       let both : Some k ≡ None = gives ∙ ap (λ (w : List ℕ). find byte_cmp w (names_at m d head)) (sym same) ∙ none in
       cc);
 }
 
-gives_same : (found : Option Object) (n : ℕ) → Some n ≡ number_of found → GivesName found n ≡ true
-gives_same None n same = cc
-gives_same (Some r) n same = eq-eqb r.number.value n (let one : r.number.value ≡ n = cc in one)
+gives_same : (found : Option Object) {n : ℕ} → Some n ≡ number_of found → GivesName found n ≡ true
+gives_same None same = cc
+gives_same (Some r) {n} same = eq-eqb r.number.value n (let one : r.number.value ≡ n = cc in one)
 
 module _ {N : ℕ} {m : LogMap} {s : State} {a b : List ℕ} {l o : Last} {source : Source} {dest : Target}
     (g : IsRename N m s a b l o source dest) where
@@ -103,21 +103,20 @@ module _ {N : ℕ} {m : LogMap} {s : State} {a b : List ℕ} {l o : Last} {sourc
 
   found_by : (found : Option Object) → dest.replaced ≡ found → HasFoundName found db dest.holder dest.name.now m
   found_by None none = tt
-  found_by (Some r) some = named_in m db dest.holder o.name.now dest.name.now r.number.value
+  found_by (Some r) some = named_in m db
       ((holder g.second).formed dest.holder looks_b.looks.header) g.named_b (looks_o g r some).looks.gives
 
   pub has_names : HasNames source dest m
   has_names = record {
     move = has_move;
-    first = named_in m da source.holder l.name.now source.name.now source.object.number.value
-        ((holder g.first).formed source.holder looks_a.looks.header) g.named_a looks_a.looks.gives;
+    first = named_in m da ((holder g.first).formed source.holder looks_a.looks.header) g.named_a looks_a.looks.gives;
     second = found_by dest.replaced refl;
     -- else both would give one object
     others = λ same alike. (
         let names : name a ≡ name b = piece_is g.first ∙ sym g.named_a ∙ alike ∙ g.named_b ∙ sym (piece_is g.second) in
         let gives : Some source.object.number.value ≡ number_of dest.replaced = sym (found g)
-        ∙ (λ i. entry s.tree (same i) (names i)) ∙ entry_is g.second dest.holder (number_of dest.replaced) looks_b.looks in
-        let on = gives_same dest.replaced source.object.number.value gives in
+        ∙ (λ i. entry s.tree (same i) (names i)) ∙ entry_is g.second looks_b.looks in
+        let on = gives_same dest.replaced gives in
         let off = g.apart in
         cc);
   }
@@ -132,15 +131,14 @@ module _ {N : ℕ} {m : LogMap} {s : State} {a b : List ℕ} {l o : Last} {sourc
 
   some_size : slot_len source.holder.form ≤ source.holder.size
   some_size = slot_in_directory N m s g.first.map da (dir g.first) source.holder looks_a.looks.header fits_a
-      l.name.now source.object.number.value (sym looks_a.looks.gives)
+      l.name.now (sym looks_a.looks.gives)
 
   less : FitsHeader source.holder.kind source.holder.form (fewer_links source dest) source.holder.size
-  less = links_fit da source.holder fits_a (fewer_links source dest)
-      (at_most (loses_directory source dest) source.holder.links)
+  less = links_fit source.holder fits_a {links = fewer_links source dest} (at_most (loses_directory source dest) source.holder.links)
 
   more : FitsHeader dest.holder.kind dest.holder.form (more_links source dest) dest.holder.size
   more = record {
-    known = known_form db dest.holder fits_b;
+    known = known_form dest.holder fits_b;
     links_few = within (gains_directory source dest) dest.holder.links fits_b.links
         (few_links source dest dest.replaced g.fits);
     size_fits = fits_b.size;
@@ -183,8 +181,7 @@ module _ {N : ℕ} {m : LogMap} {s : State} {a b : List ℕ} {l o : Last} {sourc
       there = (looks_o g r some).there;
       linked = some_links g r some;
       apart = (none_lost r.number.value).inode;
-      header = links_fit r.number.value r.header (g.first.headers r.number.value (as_header r.header) (looks_o g r some).there)
-          (r.header.links - 1) (omega arith);
+      header = links_fit r.header (g.first.headers r.number.value (as_header r.header) (looks_o g r some).there) (omega arith);
     }
 
     abbrev to : Header

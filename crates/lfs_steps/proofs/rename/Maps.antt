@@ -137,10 +137,10 @@ module _ {N : ℕ} {m : LogMap} {s : State} {a b : List ℕ} {l o : Last} {sourc
   dir_of = is_directory source.object.header.kind
 
   pub found : entry_in s.tree da (name a) ≡ Some n
-  found = entry_is g.first head_a (Some n) looks_a.looks
+  found = entry_is g.first looks_a.looks
 
   kind_n : is_dir (node s.tree n) ≡ dir_of
-  kind_n = kind_is g.first head_a looks_a.looks.header l.name.now n (sym looks_a.looks.gives) source.object.header looks_a.there
+  kind_n = kind_is g.first head_a looks_a.looks.header l.name.now (sym looks_a.looks.gives) source.object.header looks_a.there
 
   order_in : (d : ℕ) → is_dir (node s.tree d) ≡ true → T (is_sorted byte_cmp (names_in s.tree d))
   order_in d dir = (is.log.sound.limits d (Dir (form_of (node s.tree d)) (names_in s.tree d))
@@ -172,8 +172,8 @@ module _ {N : ℕ} {m : LogMap} {s : State} {a b : List ℕ} {l o : Last} {sourc
     few = few g.second head_b looks_b.looks.header;
   }
 
-  linked : (k : ℕ) (h : entry.Header) → m.header k ≡ Some h → h.links ≡ links s.tree k
-  linked k h at = is.log.links k h at ∙ ap (λ (t : Tree). links t k) (sym is.log.is)
+  linked : (k : ℕ) {h : entry.Header} → m.header k ≡ Some h → h.links ≡ links s.tree k
+  linked k {h} at = is.log.links k h at ∙ ap (λ (t : Tree). links t k) (sym is.log.is)
 
   pub linked_twice : 2 ≤ head_a.links
   linked_twice = (holder g.first).linked head_a looks_a.looks.header
@@ -209,7 +209,7 @@ module _ {N : ℕ} {m : LogMap} {s : State} {a b : List ℕ} {l o : Last} {sourc
     free_moving = record { kept = g.shaped; has_a = holder_a; has_b = holder_b; drafts = drafts }
 
     absent : entry_in s.tree db (name b) ≡ None
-    absent = entry_is g.second head_b None (subst (LooksAt m db o.name.now head_b) none looks_b).looks
+    absent = entry_is g.second (subst (LooksAt m db o.name.now head_b) none looks_b).looks
 
     free_named : IsNamed m4 m5 db n (second_after da db head_a head_b la lb) (name b)
     free_named = named_new free_moving new
@@ -247,7 +247,7 @@ module _ {N : ℕ} {m : LogMap} {s : State} {a b : List ℕ} {l o : Last} {sourc
         let shifts = named_shifts free_moving free_named crossing crossing free_less (λ ne. more)
         x_none k h at in
         let one = shifts.2 in
-        let was = linked k shifts.0 shifts.1 in
+        let was = linked k shifts.1 in
         let now = trees.links_free move (name b) absent crossing
         (ap (λ (v : Bool). one_if (v && not (da == db))) (sym kind_n)) k in
         let same : h.links ≡ links after k = omega (arith, one, was, now) in
@@ -269,7 +269,7 @@ module _ {N : ℕ} {m : LogMap} {s : State} {a b : List ℕ} {l o : Last} {sourc
     looks_o = subst (LooksAt m db o.name.now head_b) some looks_b
 
     there : entry_in s.tree db (name b) ≡ Some old
-    there = entry_is g.second head_b (Some old) looks_o.looks
+    there = entry_is g.second looks_o.looks
 
     other : old ≢ n
     other same =
@@ -282,13 +282,13 @@ module _ {N : ℕ} {m : LogMap} {s : State} {a b : List ℕ} {l o : Last} {sourc
     fits = subst (λ (f : Option Object). FitsFound f source dest) some g.fits
 
     kind_o : is_dir (node s.tree old) ≡ is_directory r.header.kind
-    kind_o = kind_is g.second head_b looks_o.looks.header o.name.now old (sym looks_o.looks.gives) r.header looks_o.there
+    kind_o = kind_is g.second head_b looks_o.looks.header o.name.now (sym looks_o.looks.gives) r.header looks_o.there
 
     alike : is_dir (node s.tree old) ≡ is_dir (node s.tree n)
     alike = kind_o ∙ fits.same ∙ sym kind_n
 
     empty : names_in s.tree old ≡ []
-    empty = nothing_in (names_in s.tree old) (no_entries is old r.header (g.first.headers old h looks_o.there) looks_o.there kind_o
+    empty = nothing_in (names_in s.tree old) (no_entries is r.header (g.first.headers old h looks_o.there) looks_o.there kind_o
         (λ dir. fits.empty (sym fits.same ∙ dir)))
 
     -- ---- the object
@@ -327,7 +327,7 @@ module _ {N : ℕ} {m : LogMap} {s : State} {a b : List ℕ} {l o : Last} {sourc
       where
         by : (v : Bool) → is_dir (node s.tree old) ≡ v → 0 < r.header.links
         by true on =
-            let are = linked old h looks_o.there in
+            let are = linked old looks_o.there in
             let two = two_links (node s.tree old) s.tree old on in
             omega (arith, are, two)
         by false off =
@@ -401,7 +401,7 @@ module _ {N : ℕ} {m : LogMap} {s : State} {a b : List ℕ} {l o : Last} {sourc
             let first = loss.shifts k next.0 next.1 in
             let one = next.2 in
             let two = first.2 in
-            let was = linked k first.0 first.1 in
+            let was = linked k first.1 in
             let now = links_less k in
             let none = nothing_at db k in
             let same_now : f.links ≡ links after k = omega (arith, one, two, was, now, none) in

@@ -23,7 +23,7 @@ PassesAll (c ∷ cs) = (c.0 ≡ false) × PassesAll cs
 stops : (s : State) (cs : List (Bool × Answer)) (otherwise : Answer × State) (x : Answer) → StopsAt cs x → checked s cs otherwise ≡ (x, s)
 stops s [] otherwise x at = absurd at
 stops s (c ∷ cs) otherwise x at = ⊎_elim
-    (λ here. refuses s c.0 c.1 cs otherwise here.0 ∙ ap (λ (y : Answer). (y, s)) here.1)
+    (λ here. refuses s c.1 cs otherwise here.0 ∙ ap (λ (y : Answer). (y, s)) here.1)
     (λ later. passes s c.0 c.1 cs otherwise later.0 ∙ stops s cs otherwise x later.1)
     at
 
@@ -148,15 +148,15 @@ none_new true y z = refl
 none_new false y z = refl
 
 -- what is so of two directories
-apart_only : (x y : ℕ) (c : Bool) → (x ≢ y → c ≡ false) → (not (x == y) && c) ≡ false
-apart_only x y c none = ⊎_elim
+apart_only : (x y : ℕ) {c : Bool} → (x ≢ y → c ≡ false) → (not (x == y) && c) ≡ false
+apart_only x y {c} none = ⊎_elim
     (λ (h : (eqb x y ≡ true) × (x ≡ y)). ap (λ (v : Bool). not v && c) h.0)
     (λ (h : (eqb x y ≡ false) × (x ≢ y)). (λ i. not (h.0 i) && none h.1 i))
     (eqb_tells x y)
 
-where_dir : (x y : ℕ) (dir c : Bool) → (x ≢ y → dir ≡ true → c ≡ false) → (dir && not false && not (x == y) && c) ≡ false
-where_dir x y true c none = apart_only x y c (λ ne. none ne refl)
-where_dir x y false c none = refl
+where_dir : (x y : ℕ) (dir : Bool) {c : Bool} → (x ≢ y → dir ≡ true → c ≡ false) → (dir && not false && not (x == y) && c) ≡ false
+where_dir x y true {c} none = apart_only x y {c = c} (λ ne. none ne refl)
+where_dir x y false none = refl
 
 -- ---- the call
 module _ (N : ℕ) (s : State) (a b : List ℕ) (da db : ℕ) where
@@ -332,5 +332,4 @@ module _ {N : ℕ} {s : State} {a b : List ℕ} {da db : ℕ} where
             passes_new free few =
                 pass named.pieces (pass named.names (pass source.short (pass (ap not source.there) (pass slash_a
                 (pass may.short (pass slash_b (pass same_none (pass (within_is within) (pass is_dir_none (pass not_dir_none
-                (pass empty_none (pass (full_is (apart_only da db (is_full s.tree db) free))
-                (pass (links_is (where_dir da db dir (nat_le 1000 (links s.tree db)) few)) tt)))))))))))))
+                (pass empty_none (pass (full_is (apart_only da db free)) (pass (links_is (where_dir da db dir few)) tt)))))))))))))

@@ -21,19 +21,18 @@ two_links (Some (File b)) t d dir = cc
 two_links (Some (Dir form ms)) t d dir = omega arith
 two_links (Some (Link text)) t d dir = cc
 
-module _ {N : ℕ} {m : LogMap} {s : State} (is : IsMapOf N m s) (n : ℕ) (h : Header) (fits : IsHeaderOf n (as_header h))
+module _ {N : ℕ} {m : LogMap} {s : State} (is : IsMapOf N m s) {n : ℕ} (h : Header) (fits : IsHeaderOf n (as_header h))
     (there : m.header n ≡ Some (as_header h)) (kind : is_dir (node s.tree n) ≡ is_directory h.kind) where
   dir_names : is_directory h.kind ≡ true → slot_len h.form * length (names_in s.tree n) ≡ h.size
   dir_names dir = size_of_directory N m s is n (kind ∙ dir) h there fits
 
   pub has_entries : is_directory h.kind ≡ true → 0 < h.size → nat_lt 0 (length (names_in s.tree n)) ≡ true
-  has_entries dir some = below 0 (length (names_in s.tree n))
-      (some_names h.form (length (names_in s.tree n)) h.size (dir_names dir) some)
+  has_entries dir some = below 0 (length (names_in s.tree n)) (some_names h.form (length (names_in s.tree n)) (dir_names dir) some)
 
   pub no_entries : (is_directory h.kind ≡ true → h.size ≡ 0) → nat_lt 0 (length (names_in s.tree n)) ≡ false
   no_entries empty = by (is_directory h.kind) refl
     where
       by : (b : Bool) → is_directory h.kind ≡ b → nat_lt 0 (length (names_in s.tree n)) ≡ false
       by true dir = not_below 0 (length (names_in s.tree n))
-          (let few = no_slots h.form (length (names_in s.tree n)) h.size (dir_names dir) (empty dir) in omega (arith, few))
+          (let few = no_slots h.form (length (names_in s.tree n)) (dir_names dir) (empty dir) in omega (arith, few))
       by false plain = ap (λ (ms : Names). nat_lt 0 (length ms)) (none_in (node s.tree n) (kind ∙ plain))

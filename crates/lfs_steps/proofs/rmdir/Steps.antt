@@ -19,8 +19,8 @@ rmdir_refused N s p r walk = record {
 }
 
 module _ (N : ℕ) (s : State) (p : List ℕ) (d : ℕ) (walk : Parent s.tree p (At d)) where
-  step_rmdir : (a : Answer) (s' : State) → removes_dir s p d ≡ (a, s') → Step N s (Rmdir p) a s'
-  step_rmdir a s' is = record {
+  step_rmdir : {a : Answer} {s' : State} → removes_dir s p d ≡ (a, s') → Step N s (Rmdir p) a s'
+  step_rmdir is = record {
     first_end = At d;
     second_end = At 1;
     first = walk;
@@ -51,24 +51,21 @@ module _ (N : ℕ) (s : State) (p : List ℕ) (d : ℕ) (walk : Parent s.tree p 
   from_dots = when (last_dots p) Inval ∷ from_long
 
   pub rmdir_root : no_last p ≡ true → Step N s (Rmdir p) (Refuse Busy) s
-  rmdir_root root = step_rmdir (Refuse Busy) s
-      (refuses s (no_last p) (Refuse Busy) from_dots done root)
+  rmdir_root root = step_rmdir (refuses s (Refuse Busy) from_dots done root)
 
   module _ (piece : no_last p ≡ false) where
     has_piece : removes_dir s p d ≡ checked s from_dots done
     has_piece = passes s (no_last p) (Refuse Busy) from_dots done piece
 
     pub rmdir_dots : last_dots p ≡ true → Step N s (Rmdir p) (Refuse Inval) s
-    rmdir_dots dots = step_rmdir (Refuse Inval) s
-        (has_piece ∙ refuses s (last_dots p) (Refuse Inval) from_long done dots)
+    rmdir_dots dots = step_rmdir (has_piece ∙ refuses s (Refuse Inval) from_long done dots)
 
     module _ (named : last_dots p ≡ false) where
       has_name : removes_dir s p d ≡ checked s from_long done
       has_name = has_piece ∙ passes s (last_dots p) (Refuse Inval) from_long done named
 
       pub rmdir_long : is_long s.tree d p ≡ true → Step N s (Rmdir p) (Refuse NameTooLong) s
-      rmdir_long long = step_rmdir (Refuse NameTooLong) s
-          (has_name ∙ refuses s (is_long s.tree d p) (Refuse NameTooLong) from_there done long)
+      rmdir_long long = step_rmdir (has_name ∙ refuses s (Refuse NameTooLong) from_there done long)
 
       module _ (short : is_long s.tree d p ≡ false) where
         is_short : removes_dir s p d ≡ checked s from_there done
@@ -76,9 +73,7 @@ module _ (N : ℕ) (s : State) (p : List ℕ) (d : ℕ) (walk : Parent s.tree p 
             ∙ passes s (is_long s.tree d p) (Refuse NameTooLong) from_there done short
 
         pub rmdir_missing : is_there s.tree d p ≡ false → Step N s (Rmdir p) (Refuse NoEntry) s
-        rmdir_missing none = step_rmdir (Refuse NoEntry) s
-            (is_short ∙ refuses s (not (is_there s.tree d p)) (Refuse NoEntry) from_kind done
-            (ap not none))
+        rmdir_missing none = step_rmdir (is_short ∙ refuses s {b = not (is_there s.tree d p)} (Refuse NoEntry) from_kind done (ap not none))
 
         module _ (there : is_there s.tree d p ≡ true) where
           is_found : removes_dir s p d ≡ checked s from_kind done
@@ -86,9 +81,7 @@ module _ (N : ℕ) (s : State) (p : List ℕ) (d : ℕ) (walk : Parent s.tree p 
               ∙ passes s (not (is_there s.tree d p)) (Refuse NoEntry) from_kind done (ap not there)
 
           pub rmdir_plain : gives_dir s.tree d p ≡ false → Step N s (Rmdir p) (Refuse NotDir) s
-          rmdir_plain plain = step_rmdir (Refuse NotDir) s
-              (is_found ∙ refuses s (not (gives_dir s.tree d p)) (Refuse NotDir) from_full done
-              (ap not plain))
+          rmdir_plain plain = step_rmdir (is_found ∙ refuses s (Refuse NotDir) from_full done (ap not plain))
 
           module _ (dir : gives_dir s.tree d p ≡ true) where
             is_directory : removes_dir s p d ≡ checked s from_full done
@@ -96,9 +89,7 @@ module _ (N : ℕ) (s : State) (p : List ℕ) (d : ℕ) (walk : Parent s.tree p 
                 ∙ passes s (not (gives_dir s.tree d p)) (Refuse NotDir) from_full done (ap not dir)
 
             pub rmdir_full : is_full ≡ true → Step N s (Rmdir p) (Refuse NotEmpty) s
-            rmdir_full full = step_rmdir (Refuse NotEmpty) s
-                (is_directory ∙ refuses s is_full (Refuse NotEmpty) [] done full)
+            rmdir_full full = step_rmdir (is_directory ∙ refuses s (Refuse NotEmpty) [] done full)
 
             pub rmdir_done : is_full ≡ false → Step N s (Rmdir p) Done (gone s p d)
-            rmdir_done empty = step_rmdir Done (gone s p d)
-                (is_directory ∙ passes s is_full (Refuse NotEmpty) [] done empty)
+            rmdir_done empty = step_rmdir (is_directory ∙ passes s is_full (Refuse NotEmpty) [] done empty)

@@ -37,5 +37,4 @@ pub unlink_done : (N : ℕ) (s : State) (p : List ℕ) (d : ℕ) → Parent s.tr
     → slash p ≡ false → gives_dir s.tree d p ≡ false → Step N s (Unlink p) Done (gone s p d)
 unlink_done N s p d walk named short there no_slash plain =
     let e : ChecksOld N s p d (Unlink p) = unlink_checks N s p d walk in
-    step_old N s p d (Unlink p) e Done (gone s p d)
-    (old_taken N s p d (Unlink p) e named short there no_slash plain)
+    step_old e (old_taken e named short there no_slash plain)

@@ -19,9 +19,9 @@ kind_by_node m n h kind.Directory dir = refl
 kind_by_node m n h kind.Link dir = absurd (cc)
 
 -- a map that has a name isn't empty
-some_names : (ms : Names) (nm : List ℕ) (n : ℕ) → find byte_cmp nm ms ≡ Some n → 0 < length ms
-some_names [] nm n found = cc
-some_names (e ∷ ms) nm n found = omega arith
+some_names : (ms : Names) (nm : List ℕ) {n : ℕ} → find byte_cmp nm ms ≡ Some n → 0 < length ms
+some_names [] nm found = cc
+some_names (e ∷ ms) nm found = omega arith
 
 module _ (N : ℕ) (m : LogMap) (s : State) (is : IsMapOf N m s) (d : ℕ) (dir : is_dir (node s.tree d) ≡ true) (head : Header)
     (there : m.header d ≡ Some (as_header head)) where
@@ -31,15 +31,14 @@ module _ (N : ℕ) (m : LogMap) (s : State) (is : IsMapOf N m s) (d : ℕ) (dir 
   -- so says its header
   pub directory_kind : head.kind ≡ kind.Directory
   directory_kind =
-      kind_by_node m d (as_header head) head.kind (ap is_dir (sym (node_by_header N m s is.log d (as_header head) in_range there)) ∙ dir)
+      kind_by_node m d (as_header head) head.kind (ap is_dir (sym (node_by_header is.log d in_range there)) ∙ dir)
 
   -- the names in it
   abbrev pub names_there : Names
   names_there = map_of head.form (slots m d (as_header head))
 
   pub directory_node : node s.tree d ≡ Some (Dir head.form names_there)
-  directory_node = node_by_header N m s is.log d (as_header head) in_range there
-      ∙ ap (λ (k : Kind). Some (node_by m k d (as_header head))) directory_kind
+  directory_node = node_by_header is.log d in_range there ∙ ap (λ (k : Kind). Some (node_by m k d (as_header head))) directory_kind
 
   pub names_in_directory : names_in s.tree d ≡ names_there
   names_in_directory = ap (λ (o : Option Node). names_of (unwrap_or o (File []))) directory_node
@@ -53,26 +52,26 @@ module _ (N : ℕ) (m : LogMap) (s : State) (is : IsMapOf N m s) (d : ℕ) (dir 
   -- so many bytes
   pub size_of_directory : IsHeaderOf d (as_header head) → slot_len head.form * length (names_in s.tree d) ≡ head.size
   size_of_directory fits =
-      slots_whole head.form (length (names_in s.tree d)) head.size
+      slots_whole head.form
       (ap length names_in_directory ∙ (is.log.formed d (as_header head) there directory_kind).1 ∙ slots_length m d (as_header head))
       (fits.slots directory_kind)
 
   -- one that has a name has a slot
-  pub slot_in_directory : IsHeaderOf d (as_header head) → (nm : List ℕ) (n : ℕ)
+  pub slot_in_directory : IsHeaderOf d (as_header head) → (nm : List ℕ) {n : ℕ}
       → find byte_cmp nm names_there ≡ Some n → slot_len head.form ≤ head.size
-  slot_in_directory fits nm n found =
+  slot_in_directory fits nm {n} found =
       let size = size_of_directory fits in
-      let some = some_names names_there nm n found in
+      let some = some_names names_there nm found in
       let same = ap length names_in_directory in
-      some_slot head.form (length (names_in s.tree d)) head.size size (omega (arith, some, same))
+      some_slot head.form (length (names_in s.tree d)) size (omega (arith, some, same))
 
   pub full_directory : IsHeaderOf d (as_header head) → 1023 * slot_len head.form < head.size → is_full s.tree d ≡ true
   full_directory fits full =
-      at_most 1024 (length (names_in s.tree d)) (all_slots head.form (length (names_in s.tree d)) head.size (size_of_directory fits) full)
+      at_most 1024 (length (names_in s.tree d)) (all_slots head.form (length (names_in s.tree d)) (size_of_directory fits) full)
 
   pub free_directory : IsHeaderOf d (as_header head) → head.size ≤ 1023 * slot_len head.form → is_full s.tree d ≡ false
   free_directory fits free = not_at_most 1024 (length (names_in s.tree d))
-      (free_slots head.form (length (names_in s.tree d)) head.size (size_of_directory fits) free)
+      (free_slots head.form (length (names_in s.tree d)) (size_of_directory fits) free)
 
   pub directory_formed : IsHeaderOf d (as_header head) → IsDirectory m d (as_header head)
   directory_formed fits = let formed = is.log.formed d (as_header head) there directory_kind in
@@ -90,7 +89,7 @@ module _ (N : ℕ) (m : LogMap) (s : State) (is : IsMapOf N m s) where
   -- a file has a node
   inode_node : (k : ℕ) → (1 ≤ k) × (k ≤ 4095) → HasInode m k → node s.tree k ≢ None
   inode_node k in_range has none =
-      let both : None ≡ Some (node_by m has.0.kind k has.0) = sym none ∙ node_by_header N m s is.log k has.0 in_range has.1 in cc
+      let both : None ≡ Some (node_by m has.0.kind k has.0) = sym none ∙ node_by_header is.log k in_range has.1 in cc
 
   -- the least that has no header
   pub least_number : (n : ℕ) → 1 ≤ n → n < 4096 → m.header n ≡ None → ((k : ℕ) → 1 ≤ k → k < n → HasInode m k) → least s.tree ≡ n
@@ -98,7 +97,7 @@ module _ (N : ℕ) (m : LogMap) (s : State) (is : IsMapOf N m s) where
       (λ (lower : least s.tree < n).
       absurd (inode_node (least s.tree) (least_is.0, omega arith) (below_n (least s.tree) least_is.0 lower) least_is.1))
       (λ (le : n ≤ least s.tree). ⊎_elim
-      (λ (higher : n < least s.tree). absurd (taken n some higher (no_header_none N m s is.log n free)))
+      (λ (higher : n < least s.tree). absurd (taken n some higher (no_header_none is.log n free)))
       (λ (ge : least s.tree ≤ n). omega arith)
       (cases_lt n (least s.tree)))
       (cases_lt (least s.tree) n)

@@ -18,7 +18,7 @@ use Rattle.lfs_steps.proofs.volume.Nodes.{IsMapOf, IsFileOf, IsShaped}
 abbrev pub IsFormed : LogMap → ℕ → Header → Type 0
 IsFormed m n h = AllByRecursion (λ b. slot_in h.form b ≢ None) (slots m n h) × (length (map_of h.form (slots m n h)) ≡ length (slots m n h))
 
-module _ (m m' : LogMap) (n : ℕ) (changed : IsChangedAt m n m') where
+module _ {m m' : LogMap} {n : ℕ} (changed : IsChangedAt m n m') where
   pub slots_same : (k : ℕ) (h : Header) → (k ≡ n → ⊥) → slots m' k h ≡ slots m k h
   unfolding slots
   slots_same k h ne = ap (λ (bytes : List ℕ).
@@ -56,7 +56,7 @@ module _ (m m' : LogMap) (n : ℕ) (changed : IsChangedAt m n m') where
 
 -- ---- the links of a tree in which a file has other bytes
 
-module _ (t : Tree) (n : ℕ) (old new : List ℕ) (in_order : T (is_sorted nat_cmp t)) (is : node t n ≡ Some (File old)) where
+module _ (t : Tree) (n : ℕ) {old : List ℕ} (new : List ℕ) (in_order : T (is_sorted nat_cmp t)) (is : node t n ≡ Some (File old)) where
   abbrev t' : Tree
   t' = with_node t n (File new)
 
@@ -89,13 +89,13 @@ module _ (t : Tree) (n : ℕ) (old new : List ℕ) (in_order : T (is_sorted nat_
 -- ---- the next log map
 
 -- A file is not a directory.
-pub not_directory : (m : LogMap) (n : ℕ) (h : Header) → m.header n ≡ Some h → h.kind ≡ kind.File → (g : Header) → m.header n ≡ Some g
+pub not_directory : (m : LogMap) (n : ℕ) {h : Header} → m.header n ≡ Some h → h.kind ≡ kind.File → (g : Header) → m.header n ≡ Some g
     → g.kind ≡ kind.Directory → ⊥
-not_directory m n h there file g at dir =
+not_directory m n {h} there file g at dir =
     let same : h ≡ g = (let both : Some h ≡ Some g = sym there ∙ at in cc) in
     let both : kind.File ≡ kind.Directory = sym file ∙ ap (λ (x : Header). x.kind) same ∙ dir in cc
 
-module _ (N : ℕ) (m m' : LogMap) (s : State) (is : IsMapOf N m s) (n : ℕ) (file : IsFileOf m s.tree n) (h' : Header)
+module _ (N : ℕ) (m m' : LogMap) (s : State) (is : IsMapOf N m s) (n : ℕ) (file : IsFileOf m s.tree n) {h' : Header}
     (changed : IsChangedAt m n m')
     (there : m'.header n ≡ Some h') (is_file : h'.kind ≡ kind.File) (links_same : h'.links ≡ file.head.links) (fits : IsObject m' n h')
     (new : List ℕ) (tree : tree_in m' ≡ with_node s.tree n (File new)) (good : IsWithinLimits (File new))
@@ -104,7 +104,7 @@ module _ (N : ℕ) (m m' : LogMap) (s : State) (is : IsMapOf N m s) (n : ℕ) (f
   next = with_tree s (with_node s.tree n (File new))
 
   same_links : (q : ℕ) → links (tree_in m') q ≡ links (tree_in m) q
-  same_links q = ap (λ (t : Tree). links t q) tree ∙ rewritten_links s.tree n (object m n file.head) new is.log.sound.in_order file.node q
+  same_links q = ap (λ (t : Tree). links t q) tree ∙ rewritten_links s.tree n new is.log.sound.in_order file.node q
       ∙ ap (λ (t : Tree). links t q) is.log.is
 
   links_kept : (k : ℕ) (h : Header) → m'.header k ≡ Some h → h.links ≡ links (tree_in m') k
@@ -119,15 +119,14 @@ module _ (N : ℕ) (m m' : LogMap) (s : State) (is : IsMapOf N m s) (n : ℕ) (f
   pub changed_map : IsMapOf N m' next
   changed_map = record {
     map = object_kept m m' n h' is.map changed there fits;
-    long = long_kept m m' n changed is.long fits.whole.long;
+    long = long_kept changed is.long fits.whole.long;
     log = record {
       sound = written_sound N s n (object m n file.head) new is.log.sound file.node good room;
       is = sym tree;
       version = is.log.version ∙ sym changed.version;
       formed = λ k h at dir. ⊎_elim
-          (λ (here : k ≡ n). absurd (not_directory m' n h' there is_file h (sym (ap m'.header here) ∙ at) dir))
-          (λ (ne : k ≡ n → ⊥). formed_same m m' n changed is.log.formed k h ne at dir)
-          (cases_eq k n);
+          (λ (here : k ≡ n). absurd (not_directory m' n there is_file h (sym (ap m'.header here) ∙ at) dir))
+          (λ (ne : k ≡ n → ⊥). formed_same changed is.log.formed k h ne at dir) (cases_eq k n);
       links = links_kept;
     };
   }

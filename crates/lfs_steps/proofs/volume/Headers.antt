@@ -7,24 +7,24 @@ use Rattle.lfs_files.specs.declared.header.Header.{Header}
 use Rattle.lfs_steps.proofs.volume.Slots.{whole_less, whole_more}
 
 -- the form of what a volume has
-pub known_form : (n : ℕ) (head : Header) → IsHeaderOf n (as_header head) → IsForm 2 head.kind head.form
-known_form n head fits = fits.form
+pub known_form : {n : ℕ} (head : Header) → IsHeaderOf n (as_header head) → IsForm 2 head.kind head.form
+known_form head fits = fits.form
 
 -- a file of another size
-pub file_fits : (n : ℕ) (head : Header) → IsHeaderOf n (as_header head) → head.kind ≡ kind.File → (size : ℕ) → size ≤ 8511488
+pub file_fits : (n : ℕ) (head : Header) → IsHeaderOf n (as_header head) → head.kind ≡ kind.File → {size : ℕ} → size ≤ 8511488
     → FitsHeader head.kind head.form head.links size
 unfolding IsSize
-file_fits n head fits file size small = record {
-  known = known_form n head fits;
+file_fits n head fits file {size} small = record {
+  known = known_form head fits;
   links_few = fits.links;
   size_fits = subst (λ (k : Kind). IsSize head.form k size) (sym file) small;
 }
 
 -- a file with another number of links, at most as many
-pub links_fit : (n : ℕ) (head : Header) → IsHeaderOf n (as_header head) → (links : ℕ) → links ≤ head.links
+pub links_fit : {n : ℕ} (head : Header) → IsHeaderOf n (as_header head) → {links : ℕ} → links ≤ head.links
     → FitsHeader head.kind head.form links head.size
-links_fit n head fits links le =
-    record { known = known_form n head fits; links_few = (let few = fits.links in omega (arith, few, le)); size_fits = fits.size }
+links_fit {n} head fits le =
+    record { known = known_form head fits; links_few = (let few = fits.links in omega (arith, few, le)); size_fits = fits.size }
 
 -- a directory with a slot more, where it has fewer than 1,024
 pub directory_grows : (d : ℕ) (head : Header) → IsHeaderOf d (as_header head) → head.kind ≡ kind.Directory
@@ -32,7 +32,7 @@ pub directory_grows : (d : ℕ) (head : Header) → IsHeaderOf d (as_header head
 unfolding IsSize
 directory_grows d head fits dir free =
     record {
-      known = known_form d head fits;
+      known = known_form head fits;
       links_few = fits.links;
       size_fits = subst (λ (k : Kind). IsSize head.form k (head.size + slot_len head.form)) (sym dir)
           (whole_more head.form head.size (fits.slots dir), omega (arith, free));
@@ -47,7 +47,7 @@ directory_shrinks d head fits dir some =
     let whole = sized.0 in
     let most = sized.1 in
     record {
-      known = known_form d head fits;
+      known = known_form head fits;
       links_few = fits.links;
       size_fits = subst (λ (k : Kind). IsSize head.form k (head.size - slot_len head.form)) (sym dir)
           (whole_less head.form head.size whole some, omega (arith, most));

@@ -69,10 +69,10 @@ off_at d x q ne = ⊎_elim
     by false = inr refl
 
 -- one object with another header
-pub shifts_at : (m m' : LogMap) (d : ℕ) (h h' : entry.Header) (x y : ℕ) → IsChangedAt m d m'
+pub shifts_at : (m : LogMap) {m' : LogMap} (d : ℕ) {h h' : entry.Header} (x y : ℕ) → IsChangedAt m d m'
     → m.header d ≡ Some h → m'.header d ≡ Some h' → h'.links + x ≡ h.links + y
     → Shifts m m' (only_at d x) (only_at d y)
-shifts_at m m' d h h' x y changed there now links k g' at = ⊎_elim
+shifts_at m {m'} d {h} {h'} x y changed there now links k g' at = ⊎_elim
     (λ (here : k ≡ d).
     let same : h' ≡ g' = (let both : Some h' ≡ Some g' = sym now ∙ ap m'.header (sym here)
     ∙ at in cc) in
@@ -87,9 +87,8 @@ shifts_at m m' d h h' x y changed there now links k g' at = ⊎_elim
     (cases_eq k d)
 
 -- one that is there no more
-pub shifts_gone : (m m' : LogMap) (d x : ℕ) → IsWithoutFile m d m'
-    → Shifts m m' (only_at d x) none_at
-shifts_gone m m' d x gone k g' at = ⊎_elim
+pub shifts_gone : {m : LogMap} (m' : LogMap) (d x : ℕ) → IsWithoutFile m d m' → Shifts m m' (only_at d x) none_at
+shifts_gone m' d x gone k g' at = ⊎_elim
     (λ (here : k ≡ d). absurd (let both : None ≡ Some g' = sym gone.header
     ∙ ap m'.header (sym here) ∙ at in cc))
     (λ (ne : k ≡ d → ⊥). let less = off_at d x k (λ e. ne (sym e)) in
@@ -102,7 +101,7 @@ module _ (m m' : LogMap) (k : ℕ) (h : entry.Header) (l : ℕ) (kept : IsShaped
     (there : m.header k ≡ Some h) (small : h.size ≤ 8511488)
     (made : IsWithHeader m k (Some (record h { links = l })) m') where
   changed : IsChangedAt m k m'
-  changed = with_header_at m m' k (Some (record h { links = l })) made
+  changed = with_header_at m m' k made
 
   was : IsObject m k h
   was = object_fits m k h kept.map (kept.long k) there small
@@ -152,21 +151,18 @@ module _ (m m' : LogMap) (k : ℕ) (h : entry.Header) (l : ℕ) (kept : IsShaped
       }
 
   pub relinked_kept : IsShaped m'
-  relinked_kept = shape_kept m m' k changed kept
-      (object_kept m m' k (record h { links = l }) kept.map changed made.own fits)
+  relinked_kept = shape_kept changed kept (object_kept m m' k (record h { links = l }) kept.map changed made.own fits)
       now_long directory_now
 
   pub relinked_tree : tree_in m' ≡ tree_in m
   relinked_tree = links_apart m m' k h (record h { links = l }) made there refl refl refl
 
   pub relinked_shifts : (x y : ℕ) → l + x ≡ h.links + y → Shifts m m' (only_at k x) (only_at k y)
-  relinked_shifts x y links = shifts_at m m' k h (record h { links = l })
-      x y changed there made.own links
+  relinked_shifts x y links = shifts_at m k x y changed there made.own links
 
 -- ---- an object gone
 
-module _ (m m' : LogMap) (k : ℕ) (kept : IsShaped m) (gone : IsWithoutFile m k m')
-    (not_root : k ≢ 1) where
+module _ (m : LogMap) {m' : LogMap} {k : ℕ} (kept : IsShaped m) (gone : IsWithoutFile m k m') (not_root : k ≢ 1) where
   changed_gone : IsChangedAt m k m'
   changed_gone = without_file_at m m' k gone
 
@@ -174,8 +170,7 @@ module _ (m m' : LogMap) (k : ℕ) (kept : IsShaped m) (gone : IsWithoutFile m k
   no_blocks i has = let none = ap length (gone.block i) in absurd (omega (arith, none, has))
 
   pub gone_kept : IsShaped m'
-  gone_kept = shape_kept m m' k changed_gone kept
-      (object_lost m m' k kept.map changed_gone gone.header gone.block not_root) no_blocks
+  gone_kept = shape_kept changed_gone kept (object_lost m m' k kept.map changed_gone gone.header gone.block not_root) no_blocks
       (λ g at dir. absurd (let both : None ≡ Some g = sym gone.header ∙ at in cc))
 
   pub gone_tree : tree_in m' ≡ without nat_cmp k (tree_in m)
@@ -190,20 +185,18 @@ pub record HasHolder (m : LogMap) (d : ℕ) (head : Header) : Type 0 where
   pub kind : head.kind ≡ kind.Directory
   pub few : head.size ≤ 1024 * slot_len head.form
 
-pub holder_directory : (m : LogMap) (d : ℕ) (head : Header) → IsShaped m → HasHolder m d head
-    → IsDirectory m d (as_header head)
-holder_directory m d head kept has = kept.directories d (as_header head) has.there has.kind
+pub holder_directory : {m : LogMap} {d : ℕ} {head : Header} → IsShaped m → HasHolder m d head → IsDirectory m d (as_header head)
+holder_directory {d} {head} kept has = kept.directories d (as_header head) has.there has.kind
 
 -- one whose slots are others
-directory_with : (m' : LogMap) (d : ℕ) (h : entry.Header) → m'.header d ≡ Some h
+directory_with : (m' : LogMap) (d : ℕ) {h : entry.Header} → m'.header d ≡ Some h
     → IsDirectory m' d h → (g : entry.Header) → m'.header d ≡ Some g → g.kind ≡ kind.Directory
     → IsDirectory m' d g
-directory_with m' d h now directory g at dir = subst (IsDirectory m' d)
-    (let both : Some h ≡ Some g = sym now ∙ at in cc) directory
+directory_with m' d {h} now directory g at dir = subst (IsDirectory m' d) (let both : Some h ≡ Some g = sym now ∙ at in cc) directory
 
 -- ---- a name taken out of it
 
-module _ (m m' : LogMap) (d : ℕ) (head : Header) (nm : List ℕ) (kept : IsShaped m)
+module _ {m m' : LogMap} {d : ℕ} {head : Header} {nm : List ℕ} (kept : IsShaped m)
     (has : HasHolder m d head) (cut : CutsSlot m m' d head) (takes : TakesName m m' d head nm)
   where
     was_object : IsObject m d (as_header head)
@@ -211,11 +204,9 @@ module _ (m m' : LogMap) (d : ℕ) (head : Header) (nm : List ℕ) (kept : IsSha
         has.there (let few = has.few in let most = (slot_some head.form).1 in omega (arith, few, most))
 
     pub taken_kept : IsShaped m'
-    taken_kept = shape_kept m m' d cut.only kept
-        (cut_kept m m' d head has.few
+    taken_kept = shape_kept cut.only kept (cut_kept has.few
         record { map = kept.map; there = has.there } (kept.long d) cut)
-        (cut.whole was_object.whole).long
-        (directory_with m' d (as_header (shrunk head)) cut.header takes.directory)
+        (cut.whole was_object.whole).long (directory_with m' d cut.header takes.directory)
 
     pub taken_tree : tree_in m' ≡ without_name (tree_in m) d nm
     taken_tree = name_off_tree m m' d head (shrunk head) nm
@@ -228,12 +219,11 @@ module _ (m m' : LogMap) (d : ℕ) (head : Header) (nm : List ℕ) (kept : IsSha
         takes.names
 
     pub taken_shifts : Shifts m m' (only_at d 0) (only_at d 0)
-    taken_shifts = shifts_at m m' d (as_header head) (as_header (shrunk head))
-        0 0 cut.only has.there cut.header refl
+    taken_shifts = shifts_at m d 0 0 cut.only has.there cut.header refl
 
 -- ---- a name written into it
 
-module _ (m m' : LogMap) (d n : ℕ) (head head' : Header) (at : ℕ) (w nm : List ℕ)
+module _ {m m' : LogMap} {d : ℕ} (n : ℕ) {head head' : Header} {at : ℕ} {w : List ℕ} (nm : List ℕ)
     (kept : IsShaped m) (has : HasHolder m d head) (is_dir : head'.kind ≡ kind.Directory)
     (form : head'.form ≡ head.form) (links : head'.links ≡ head.links) (small : head'.size ≤ 8511488)
     (writes : WritesFile m m' d head head' at w) (directory : IsDirectory m' d (as_header head'))
@@ -256,10 +246,8 @@ module _ (m m' : LogMap) (d n : ℕ) (head head' : Header) (at : ℕ) (w nm : Li
   }
 
   pub written_kept : IsShaped m'
-  written_kept = shape_kept m m' d writes.only kept
-      (object_kept m m' d (as_header head') kept.map writes.only writes.header written_object)
-      written_object.whole.long
-      (directory_with m' d (as_header head') writes.header directory)
+  written_kept = shape_kept writes.only kept (object_kept m m' d (as_header head') kept.map writes.only writes.header written_object)
+      written_object.whole.long (directory_with m' d writes.header directory)
 
   pub written_tree : tree_in m' ≡ with_name (tree_in m) d nm n
   written_tree = name_in_tree m m' d head head' nm n
@@ -272,5 +260,4 @@ module _ (m m' : LogMap) (d n : ℕ) (head head' : Header) (at : ℕ) (w nm : Li
       names
 
   pub written_shifts : Shifts m m' (only_at d 0) (only_at d 0)
-  written_shifts = shifts_at m m' d (as_header head) (as_header head')
-      0 0 writes.only has.there writes.header (omega (arith, links))
+  written_shifts = shifts_at m d 0 0 writes.only has.there writes.header (omega (arith, links))

@@ -33,8 +33,8 @@ LosesName s m m1 old h = KeepsLink s m m1 old h ⊎ LosesAll s m m1 old h
 not_both : (a b : ℕ) → (a ≢ 0) ⊎ (b ≢ 0) → (a == 0 && b == 0) ≡ false
 not_both a b some = grind (arith, nat_tests)
 
-both_none : (a b : ℕ) → a ≡ 0 → b ≡ 0 → (a == 0 && b == 0) ≡ true
-both_none a b e f = grind (arith, nat_tests)
+both_none : {a b : ℕ} → a ≡ 0 → b ≡ 0 → (a == 0 && b == 0) ≡ true
+both_none e f = grind (arith, nat_tests)
 
 leaf_links : (t : Tree) (n : ℕ) → is_dir (node t n) ≡ false → links t n ≡ names t n
 leaf_links t n = by (node t n)
@@ -87,15 +87,15 @@ module _ {N : ℕ} {m : LogMap} {s : State} {change : Tree → Tree} {old : ℕ}
   own_links = one_if (not (is_dir (node s.tree old)))
 
   node_is : node s.tree old ≡ Some (node_by m h.kind old h)
-  node_is = node_by_header N m s is.log old h (is.log.sound.numbers old named) there
+  node_is = node_by_header is.log old (is.log.sound.numbers old named) there
 
   pub names_plain : is_dir (node s.tree old) ≡ false → names s.tree old ≡ h.links
   names_plain off = sym (leaf_links s.tree old off)
       ∙ sym (is.log.links old h there ∙ ap (λ (t : Tree). links t old) (sym is.log.is))
 
-  let_go_by : (v : Bool) → (names after old == 0 && opened s.handles old == 0) ≡ v
+  let_go_by : {v : Bool} → (names after old == 0 && opened s.handles old == 0) ≡ v
       → let_go after s.handles old ≡ (if v then without nat_cmp old after else after)
-  let_go_by v = ap (λ (v : Bool). if v then without nat_cmp old after else after)
+  let_go_by {v} = ap (λ (v : Bool). if v then without nat_cmp old after else after)
 
   -- What becomes of the log map as it loses the name, and of the tree with it.
   pub record IsLoss (m1 : LogMap) : Type 0 where
@@ -126,7 +126,7 @@ module _ {N : ℕ} {m : LogMap} {s : State} {change : Tree → Tree} {old : ℕ}
         omega (arith, own, links, names_were, less)
 
     stay_after : let_go after s.handles old ≡ after
-    stay_after = let_go_by false (not_both (names after old) (opened s.handles old) (⊎_elim
+    stay_after = let_go_by (not_both (names after old) (opened s.handles old) (⊎_elim
         (λ (some : keeps.links ≢ 0). inl (λ none. some (
         let links = keeps.is in
         let names_were = names_plain plain in
@@ -137,7 +137,7 @@ module _ {N : ℕ} {m : LogMap} {s : State} {change : Tree → Tree} {old : ℕ}
     stays : IsLoss m1
     stays = record {
       shape = relinked_kept m m1 old h keeps.links shaped there small keeps.made;
-      changed = with_header_at m m1 old (Some (record h { links = keeps.links })) keeps.made;
+      changed = with_header_at m m1 old keeps.made;
       shifts = λ k f at. (
           let shift = relinked_shifts m m1 old h keeps.links shaped there small keeps.made own_links
           0 fewer k f at in
@@ -172,15 +172,14 @@ module _ {N : ℕ} {m : LogMap} {s : State} {change : Tree → Tree} {old : ℕ}
             let single = is.log.sound.one_name old not_root dir in omega (arith, single, less)
 
     gone_after : let_go after s.handles old ≡ without nat_cmp old after
-    gone_after = let_go_by true (both_none (names after old) (opened s.handles old)
-        shut_and_nameless.0 shut_and_nameless.1)
+    gone_after = let_go_by (both_none shut_and_nameless.0 shut_and_nameless.1)
 
     goes : IsLoss m1
     goes = record {
-      shape = gone_kept m m1 old shaped loses.gone not_root;
+      shape = gone_kept m shaped loses.gone not_root;
       changed = without_file_at m m1 old loses.gone;
-      shifts = shifts_gone m m1 old own_links loses.gone;
-      tree = ap change (gone_tree m m1 old shaped loses.gone not_root
+      shifts = shifts_gone m1 old own_links loses.gone;
+      tree = ap change (gone_tree m shaped loses.gone not_root
           ∙ ap (without nat_cmp old) (sym is.log.is)) ∙ lose.goes_first ∙ sym gone_after;
       links_of = λ k f at.
           sym (lose.links_gone shut_and_nameless.0 k

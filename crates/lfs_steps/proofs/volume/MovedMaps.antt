@@ -197,7 +197,7 @@ module _ {m1 m2 m3 m4 : LogMap} {da db : ℕ} {a b : Header} {la lb : ℕ} {na :
   linked_file = record { map = relinked_maps.0.map; there = a_3.there }
 
   pub linked_directory : IsDirectory m3 da (as_header (relinked a la))
-  linked_directory = holder_directory m3 da (relinked a la) relinked_maps.0 a_3
+  linked_directory = holder_directory relinked_maps.0 a_3
 
   pub cut : CutsSlot m3 m4 da (relinked a la)
   cut = drafts.cut linked_file
@@ -206,20 +206,19 @@ module _ {m1 m2 m3 m4 : LogMap} {da db : ℕ} {a b : Header} {la lb : ℕ} {na :
   takes = drafts.takes linked_file linked_directory
 
   pub moved_kept : IsShaped m4
-  moved_kept = taken_kept m3 m4 da (relinked a la) na relinked_maps.0 a_3 cut takes
+  moved_kept = taken_kept relinked_maps.0 a_3 cut takes
 
   moved_version : m4.version ≡ m1.version
   moved_version = cut.only.version ∙ relinked_version
 
   pub moved_tree : tree_in m4 ≡ without_name (tree_in m1) da na
-  moved_tree = taken_tree m3 m4 da (relinked a la) na relinked_maps.0 a_3 cut takes
-      ∙ ap (λ (t : Tree). without_name t da na) relinked_maps.1
+  moved_tree = taken_tree relinked_maps.0 a_3 cut takes ∙ ap (λ (t : Tree). without_name t da na) relinked_maps.1
 
   pub moved_shifts : (x y : ℕ) → la + x ≡ a.links → (da ≢ db → lb ≡ b.links + y)
       → (da ≡ db → y ≡ 0) → Shifts m1 m4 (only_at da x) (only_at db y)
   moved_shifts x y less more none =
       let first = linked_shifts_3 x y less more none in
-      let next = taken_shifts m3 m4 da (relinked a la) na relinked_maps.0 a_3 cut takes in
+      let next = taken_shifts relinked_maps.0 a_3 cut takes in
       shifts_as m1 m4 (λ k. only_at da x k + only_at da 0 k) (λ k. only_at db y k + only_at da 0 k)
       (only_at da x) (only_at db y)
       (λ k. omega arith)
@@ -253,7 +252,7 @@ module _ {m1 m2 m3 m4 : LogMap} {da db : ℕ} {a b : Header} {la lb : ℕ} {na :
       (eqb_tells da db)
 
   pub second_directory : IsDirectory m4 db (as_header b4)
-  second_directory = holder_directory m4 db b4 moved_kept second_holder
+  second_directory = holder_directory moved_kept second_holder
 
   -- what its names give
   pub second_entry : (nb : List ℕ)
@@ -300,7 +299,7 @@ module _ {m1 m2 m3 m4 : LogMap} {da db : ℕ} {a b : Header} {la lb : ℕ} {na :
 
   module _ {m5 : LogMap} {n : ℕ} {nb : List ℕ} (named : IsNamed m4 m5 db n b4 nb) where
     pub named_kept : IsShaped m5
-    named_kept = written_kept m4 m5 db n b4 named.after named.at named.slot nb moved_kept
+    named_kept = written_kept n nb moved_kept
         second_holder named.kind named.form named.links named.small named.writes named.directory named.names
 
     pub named_version : m5.version ≡ m1.version
@@ -308,15 +307,13 @@ module _ {m1 m2 m3 m4 : LogMap} {da db : ℕ} {a b : Header} {la lb : ℕ} {na :
 
     pub named_tree : tree_in m5 ≡ with_name (without_name (tree_in m1) da na) db nb n
     named_tree =
-        written_tree m4 m5 db n b4 named.after named.at named.slot nb moved_kept second_holder
-        named.kind named.form named.links named.small named.writes named.directory named.names
+        written_tree n nb moved_kept second_holder named.kind named.form named.links named.small named.writes named.directory named.names
         ∙ ap (λ (t : Tree). with_name t db nb n) moved_tree
 
     pub named_shifts : (x y : ℕ) → la + x ≡ a.links → (da ≢ db → lb ≡ b.links + y)
         → (da ≡ db → y ≡ 0) → Shifts m1 m5 (only_at da x) (only_at db y)
     named_shifts x y less more none =
-        let next = written_shifts m4 m5 db n b4 named.after named.at named.slot nb moved_kept
-        second_holder named.kind named.form named.links named.small named.writes named.directory
+        let next = written_shifts n nb moved_kept second_holder named.kind named.form named.links named.small named.writes named.directory
         named.names in
         shifts_as m1 m5 (λ k. only_at da x k + only_at db 0 k)
         (λ k. only_at db y k + only_at db 0 k) (only_at da x) (only_at db y)

@@ -191,11 +191,11 @@ module _ {t : Tree} {d form : ℕ} {m m' : Names} {gone come : Option ℕ}
       omega (arith, now, all))
 
 -- one name more
-pub links_more : (t : Tree) (d n form : ℕ) (ms : Names) (nm : List ℕ) → T (is_sorted nat_cmp t)
+pub links_more : (t : Tree) (d n : ℕ) {form : ℕ} {ms : Names} (nm : List ℕ) → T (is_sorted nat_cmp t)
     → node t d ≡ Some (Dir form ms) → T (is_sorted byte_cmp ms) → find byte_cmp nm ms ≡ None
     → (q : ℕ) → links (with_node t d (Dir form (put byte_cmp nm n ms))) q
     ≡ links t q + link_of (is_dir (node t n)) d n q
-links_more t d n form ms nm in_order is dir_order absent q =
+links_more t d n {form} {ms} nm in_order is dir_order absent q =
     let swapped : IsSwapped t d form ms (put byte_cmp nm n ms) None (Some n) = record {
       in_order = in_order;
       is = is;
@@ -280,14 +280,14 @@ free_links true da db n now was q x all is = ⊎_elim
     (eqb_tells da db)
 
 -- and where it gave a node of the same sort
-over_links : (b : Bool) (da db n old now was q x y : ℕ)
+over_links : (b : Bool) (da db n old now : ℕ) {was : ℕ} (q x y : ℕ)
     → now + link_of b da n q + link_of b db old q ≡ was + link_of b db n q → x ≡ one_if b
     → y ≡ one_if (not b) → now + (only_at old y q + only_at da x q) ≡ was
-over_links false da db n old now was q x y all x_is y_is =
+over_links false da db n old now q x y all x_is y_is =
     let a : only_at da x q ≡ 0 = ap (λ (x : ℕ). only_at da x q) x_is ∙ nothing_at da q in
     let b : only_at old y q ≡ one_if (old == q) = ap (λ (y : ℕ). only_at old y q) y_is in
     omega (arith, all, a, b)
-over_links true da db n old now was q x y all x_is y_is =
+over_links true da db n old now q x y all x_is y_is =
     let a : only_at da x q ≡ one_if (da == q) = ap (λ (x : ℕ). only_at da x q) x_is in
     let b : only_at old y q ≡ 0 = ap (λ (y : ℕ). only_at old y q) y_is ∙ nothing_at old q in
     omega (arith, all, a, b)
@@ -369,9 +369,8 @@ module _ {t : Tree} {da db n : ℕ} {na : List ℕ} (move : IsMove t da db n na)
       (k, shrinks.entry_after t da n form_a names_a na in_order at_a order_a found db nb k e))
       none
 
-  pub still_gives : (old : ℕ) → old ≢ n → entry t db nb ≡ Some old → entry lost db nb ≡ Some old
-  still_gives old ne is = shrinks.entry_kept t da n form_a names_a na in_order at_a order_a found
-      db nb old ne is
+  pub still_gives : {old : ℕ} → old ≢ n → entry t db nb ≡ Some old → entry lost db nb ≡ Some old
+  still_gives {old} ne is = shrinks.entry_kept t da n form_a names_a na in_order at_a order_a found db nb old ne is
 
   -- with the other
   abbrev pub moved : Tree
@@ -380,7 +379,7 @@ module _ {t : Tree} {da db n : ℕ} {na : List ℕ} (move : IsMove t da db n na)
   pub moved_order : T (is_sorted nat_cmp moved)
   moved_order = change_order lost lost_order (put byte_cmp nb n) db
 
-  module _ (o : Option ℕ) (gives_b : entry lost db nb ≡ o) where
+  module _ {o : Option ℕ} (gives_b : entry lost db nb ≡ o) where
     moved_swap : IsSwapped lost db form_b names_b (put byte_cmp nb n names_b) o (Some n)
     moved_swap = record {
       in_order = lost_order;
@@ -413,7 +412,7 @@ module _ {t : Tree} {da db n : ℕ} {na : List ℕ} (move : IsMove t da db n na)
       (x_is : x ≡ one_if (is_dir (node t n) && not (da == db))) where
     pub links_free : (q : ℕ) → links moved q + only_at da x q ≡ links t q + only_at db x q
     links_free q =
-        let all = moved_links None (still_free none) q in
+        let all = moved_links (still_free none) q in
         free_links (is_dir (node t n)) da db n (links moved q) (links t q) q x (omega (arith, all))
         x_is
 
@@ -421,18 +420,17 @@ module _ {t : Tree} {da db n : ℕ} {na : List ℕ} (move : IsMove t da db n na)
   module _ (old : ℕ) (there : entry t db nb ≡ Some old) (other : old ≢ n)
       (alike : is_dir (node t old) ≡ is_dir (node t n)) where
     pub names_over : names moved old + 1 ≡ names t old
-    names_over = let all = moved_names (Some old) (still_gives old other there) old in let one =
+    names_over = let all = moved_names (still_gives other there) old in let one =
         once old in omega (arith, all, one)
 
     pub links_over : (x y : ℕ) → x ≡ one_if (is_dir (node t n))
         → y ≡ one_if (not (is_dir (node t n))) → (q : ℕ)
         → links moved q + (only_at old y q + only_at da x q) ≡ links t q
     links_over x y x_is y_is q =
-        let all = moved_links (Some old) (still_gives old other there) q in
+        let all = moved_links (still_gives other there) q in
         let same : link_of (is_dir (node t old)) db old q ≡ link_of (is_dir (node t n)) db old q =
         ap (λ (b : Bool). link_of b db old q) alike in
-        over_links (is_dir (node t n)) da db n old (links moved q) (links t q)
-        q x y (omega (arith, all, same)) x_is y_is
+        over_links (is_dir (node t n)) da db n old (links moved q) q x y (omega (arith, all, same)) x_is y_is
 
     -- its node goes, before or after
     module _ (empty : names_in t old ≡ []) where

@@ -44,41 +44,41 @@ pub record IsFileOf (m : LogMap) (t : Tree) (n : ℕ) : Type 0 where
   pub bytes : the_node t n ≡ File (object m n head)
   pub small : head.size ≤ 8511488
 
-module _ (N : ℕ) (m : LogMap) (s : State) (log : IsLogOf N m s) where
+module _ {N : ℕ} {m : LogMap} {s : State} (log : IsLogOf N m s) where
   -- what stands at a number
   pub node_is : (n : ℕ) → (1 ≤ n) × (n ≤ 4095) → node s.tree n ≡ node_of m n (m.header n)
   node_is n in_range = ap (λ (t : Tree). node t n) log.is ∙ node_in m n in_range.0 in_range.1
 
-  pub node_by_header : (n : ℕ) (h : Header) → (1 ≤ n) × (n ≤ 4095) → m.header n ≡ Some h → node s.tree n ≡ Some (node_by m h.kind n h)
-  node_by_header n h in_range there = node_is n in_range ∙ ap (node_of m n) there
+  pub node_by_header : (n : ℕ) {h : Header} → (1 ≤ n) × (n ≤ 4095) → m.header n ≡ Some h → node s.tree n ≡ Some (node_by m h.kind n h)
+  node_by_header n in_range there = node_is n in_range ∙ ap (node_of m n) there
 
-  pub the_node_by_header : (n : ℕ) (h : Header) → (1 ≤ n) × (n ≤ 4095) → m.header n ≡ Some h → the_node s.tree n ≡ node_by m h.kind n h
-  the_node_by_header n h in_range there = ap (λ (o : Option Node). unwrap_or o (File [])) (node_by_header n h in_range there)
+  pub the_node_by_header : (n : ℕ) {h : Header} → (1 ≤ n) × (n ≤ 4095) → m.header n ≡ Some h → the_node s.tree n ≡ node_by m h.kind n h
+  the_node_by_header n {h} in_range there = ap (λ (o : Option Node). unwrap_or o (File [])) (node_by_header n in_range there)
 
   pub no_header_none : (n : ℕ) → m.header n ≡ None → node s.tree n ≡ None
   no_header_none n none = ap (λ (t : Tree). node t n) log.is ∙ no_header_no_node m n none
 
   -- a node has a number and a header
-  pub number_of : (n : ℕ) (x : Node) → node s.tree n ≡ Some x → (1 ≤ n) × (n ≤ 4095)
-  number_of n x is = log.sound.numbers n (λ none. absurd (let both : None ≡ Some x = sym none ∙ is in cc))
+  pub number_of : (n : ℕ) {x : Node} → node s.tree n ≡ Some x → (1 ≤ n) × (n ≤ 4095)
+  number_of n {x} is = log.sound.numbers n (λ none. absurd (let both : None ≡ Some x = sym none ∙ is in cc))
 
-  pub header_of : (n : ℕ) (x : Node) → node s.tree n ≡ Some x → (h : Header) × (m.header n ≡ Some h) × (node_by m h.kind n h ≡ x)
-  header_of n x is = by (m.header n) refl
+  pub header_of : (n : ℕ) {x : Node} → node s.tree n ≡ Some x → (h : Header) × (m.header n ≡ Some h) × (node_by m h.kind n h ≡ x)
+  header_of n {x} is = by (m.header n) refl
     where
       by : (o : Option Header) → m.header n ≡ o → (h : Header) × (m.header n ≡ Some h) × (node_by m h.kind n h ≡ x)
       by None none = absurd (let both : None ≡ Some x = sym (no_header_none n none) ∙ is in cc)
       by (Some h) there =
-          (h, there, (let both : Some (node_by m h.kind n h) ≡ Some x = sym (node_by_header n h (number_of n x is) there) ∙ is in cc))
+          (h, there, (let both : Some (node_by m h.kind n h) ≡ Some x = sym (node_by_header n (number_of n is) there) ∙ is in cc))
 
   -- ---- files
   pub file_of : (n : ℕ) → IsFile (node s.tree n) → IsFileOf m s.tree n
   file_of n is =
-      let found = header_of n (File is.0) is.1 in
+      let found = header_of n is.1 in
       let parts = file_by m found.0.kind n found.0 is.0 found.2 in
       let limits : IsWithinLimits (File is.0) = log.sound.limits n (File is.0) is.1 in
       let size : length is.0 ≡ found.0.size = ap length (sym parts.1) ∙ object_length m n found.0 in
       let most = limits.0 in record {
-        number = number_of n (File is.0) is.1;
+        number = number_of n is.1;
         head = found.0;
         there = found.1;
         kind = parts.0;
@@ -88,11 +88,11 @@ module _ (N : ℕ) (m : LogMap) (s : State) (log : IsLogOf N m s) where
       }
 
   -- the file that a handle gives
-  pub opened_file : (h n : ℕ) → find nat_cmp h s.handles ≡ Some n → IsFileOf m s.tree n
-  opened_file h n is = file_of n (log.sound.handles h n is).1
+  pub opened_file : (h : ℕ) {n : ℕ} → find nat_cmp h s.handles ≡ Some n → IsFileOf m s.tree n
+  opened_file h {n} is = file_of n (log.sound.handles h n is).1
 
   -- ---- stat
-  module _ (n : ℕ) (h : Header) (there : m.header n ≡ Some h) (fits : IsHeaderOf n h) where
+  module _ (n : ℕ) {h : Header} (there : m.header n ≡ Some h) (fits : IsHeaderOf n h) where
     kind_by : (k : Kind) → kind_of (node_by m k n h) ≡ k
     kind_by kind.File = refl
     kind_by kind.Directory = refl
@@ -116,7 +116,7 @@ module _ (N : ℕ) (m : LogMap) (s : State) (log : IsLogOf N m s) where
     stat_is = λ i. record { number = n; kind = kinds i; links = linked i; size = sizes i }
       where
         is : the_node s.tree n ≡ node_by m h.kind n h
-        is = the_node_by_header n h fits.number there
+        is = the_node_by_header n fits.number there
 
         kinds : kind_of (the_node s.tree n) ≡ h.kind
         kinds = ap kind_of is ∙ kind_by h.kind
@@ -129,7 +129,7 @@ module _ (N : ℕ) (m : LogMap) (s : State) (log : IsLogOf N m s) where
 
 -- ---- the ends of walks
 
-module _ (N : ℕ) (s : State) (sound : Sound N s) where
+module _ {N : ℕ} (s : State) (sound : Sound N s) where
   -- what a walk comes to is there
   abbrev pub IsThere : End → Type 0
   IsThere (At n) = node s.tree n ≢ None
@@ -139,8 +139,8 @@ module _ (N : ℕ) (s : State) (sound : Sound N s) where
   start_dir text d dir = elim (from_root text) as (λ b. is_dir (node s.tree (if b then 1 else d)) ≡ true)
       [ true ↦ sound.root | false ↦ dir ]
 
-  some_there : (n : ℕ) (x : Node) → node s.tree n ≡ Some x → node s.tree n ≢ None
-  some_there n x is none = let both : None ≡ Some x = sym none ∙ is in cc
+  some_there : (n : ℕ) {x : Node} → node s.tree n ≡ Some x → node s.tree n ≢ None
+  some_there n {x} is none = let both : None ≡ Some x = sym none ∙ is in cc
 
   pub walk_there : {follow : Bool} {d : ℕ} {ps : List (List ℕ)} {slashed : Bool} {k : ℕ} {e : End} → Walk s.tree follow d ps slashed k e
       → is_dir (node s.tree d) ≡ true → IsThere e
@@ -150,9 +150,9 @@ module _ (N : ℕ) (s : State) (sound : Sound N s) where
   walk_there (too_long long) dir = tt
   walk_there (not_there is none) dir = tt
   walk_there (directory g w) dir = walk_there w (ap is_dir g.is_node)
-  walk_there (file {n = n} {b = b} g last) dir = some_there n (File b) g.is_node
+  walk_there (file {n = n} {b = b} g last) dir = some_there n g.is_node
   walk_there (not_dir g last) dir = tt
-  walk_there (link {n = n} {text = text} g last) dir = some_there n (Link text) g.is_node
+  walk_there (link {n = n} {text = text} g last) dir = some_there n g.is_node
   walk_there (loops g last full) dir = tt
   walk_there (followed {d = d} {text = text} g last room w) dir = walk_there w (start_dir text d dir)
 
@@ -173,8 +173,8 @@ pub record IsShaped (m : LogMap) : Type 0 where
   pub directories : (n : ℕ) (h : Header) → m.header n ≡ Some h → h.kind ≡ kind.Directory → IsDirectory m n h
 
 -- That of a volume is one, where its headers are those of inodes.
-pub shape_of : (N : ℕ) (m : LogMap) (s : State) → IsMapOf N m s → ((n : ℕ) (h : Header) → m.header n ≡ Some h → IsHeaderOf n h) → IsShaped m
-shape_of N m s is fits = record {
+pub shape_of : (N : ℕ) {m : LogMap} {s : State} → IsMapOf N m s → ((n : ℕ) (h : Header) → m.header n ≡ Some h → IsHeaderOf n h) → IsShaped m
+shape_of N is fits = record {
   map = is.map;
   long = is.long;
   directories = λ n h there dir.
@@ -182,33 +182,33 @@ shape_of N m s is fits = record {
 }
 
 -- what its tree needs, by its totals
-pub need_shaped : TotalsOfTree → (m : LogMap) → IsShaped m → (blocks others : ℕ) → IsCounted m blocks others
+pub need_shaped : TotalsOfTree → {m : LogMap} → IsShaped m → {blocks others : ℕ} → IsCounted m blocks others
     → (need (tree_in m) ≡ blocks + 7 * others + 720) × (data_blocks (tree_in m) ≡ blocks) × (meta_blocks (tree_in m) ≡ others)
-need_shaped totals m shaped blocks others counted =
+need_shaped totals {m} shaped {blocks} {others} counted =
     let both = totals m shaped.map shaped.long shaped.directories in
     let stored : data_blocks (tree_in m) ≡ blocks = both.0 ∙ sym counted.stored in
     let above : meta_blocks (tree_in m) ≡ others = both.1 ∙ sym counted.above in
     (omega (arith, stored, above), stored, above)
 
 -- a state's tree has room for it
-pub room_shaped : TotalsOfTree → (N : ℕ) (m : LogMap) (s : State) → IsMapOf N m s → IsShaped m
-    → (blocks others : ℕ) → IsCounted m blocks others → blocks + 7 * others + 720 ≤ 47 * N
-room_shaped totals N m s is shaped blocks others counted =
-    let needs = (need_shaped totals m shaped blocks others counted).0 in
+pub room_shaped : TotalsOfTree → (N : ℕ) {m : LogMap} {s : State} → IsMapOf N m s → IsShaped m
+    → {blocks others : ℕ} → IsCounted m blocks others → blocks + 7 * others + 720 ≤ 47 * N
+room_shaped totals N {m} is shaped {blocks} {others} counted =
+    let needs = (need_shaped totals shaped counted).0 in
     subst (λ (x : ℕ). x ≤ 47 * N) (ap need is.log.is ∙ needs) is.log.sound.room
 
 pub need_counted : TotalsOfTree → (N : ℕ) (m : LogMap) (s : State) → IsMapOf N m s
     → ((n : ℕ) (h : Header) → m.header n ≡ Some h → IsHeaderOf n h)
-    → (blocks others : ℕ) → IsCounted m blocks others → (need s.tree ≡ blocks + 7 * others + 720) × (data_blocks s.tree ≡ blocks)
+    → {blocks others : ℕ} → IsCounted m blocks others → (need s.tree ≡ blocks + 7 * others + 720) × (data_blocks s.tree ≡ blocks)
     × (meta_blocks s.tree ≡ others)
-need_counted totals N m s is fits blocks others counted =
-    let all = need_shaped totals m (shape_of N m s is fits) blocks others counted in
+need_counted totals N m s is fits {blocks} {others} counted =
+    let all = need_shaped totals (shape_of N is fits) counted in
     (ap need is.log.is ∙ all.0, ap data_blocks is.log.is ∙ all.1, ap meta_blocks is.log.is ∙ all.2)
 
 -- so what space tells
 pub room_counted : TotalsOfTree → (N : ℕ) (m : LogMap) (s : State) → IsMapOf N m s
     → ((n : ℕ) (h : Header) → m.header n ≡ Some h → IsHeaderOf n h)
-    → (blocks others : ℕ) → IsCounted m blocks others → room N s.tree ≡ Room blocks others (blocks + 7 * others + 720) (47 * N)
-room_counted totals N m s is fits blocks others counted =
-    let all = need_counted totals N m s is fits blocks others counted in
+    → {blocks others : ℕ} → IsCounted m blocks others → room N s.tree ≡ Room blocks others (blocks + 7 * others + 720) (47 * N)
+room_counted totals N m s is fits {blocks} {others} counted =
+    let all = need_counted totals N m s is fits counted in
     λ i. Room (all.1 i) (all.2 i) (all.0 i) (47 * N)

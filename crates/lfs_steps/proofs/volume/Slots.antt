@@ -2,36 +2,36 @@
 use Rattle.lfs_steps.proofs.Prelude.{◌≡◌, ◌<◌, ◌≤◌, ◌+◌, ◌*◌, ◌-◌, ◌/◌, ◌%◌, ℕ, zero, suc, arith, slot_len}
 
 -- a directory of so many slots, each of one name
-pub slots_whole : (form names size : ℕ) → names ≡ size / slot_len form → size % slot_len form ≡ 0 → slot_len form * names ≡ size
-slots_whole zero names size many whole = omega (arith, many, whole)
-slots_whole (suc form) names size many whole = omega (arith, many, whole)
+pub slots_whole : (form : ℕ) {names size : ℕ} → names ≡ size / slot_len form → size % slot_len form ≡ 0 → slot_len form * names ≡ size
+slots_whole zero many whole = omega (arith, many, whole)
+slots_whole (suc form) many whole = omega (arith, many, whole)
 
-pub few_slots : (form names size : ℕ) → slot_len form * names ≡ size → names ≤ 1024 → size ≤ 1024 * slot_len form
-few_slots zero names size many few = omega (arith, many, few)
-few_slots (suc form) names size many few = omega (arith, many, few)
+pub few_slots : (form names : ℕ) {size : ℕ} → slot_len form * names ≡ size → names ≤ 1024 → size ≤ 1024 * slot_len form
+few_slots zero names many few = omega (arith, many, few)
+few_slots (suc form) names many few = omega (arith, many, few)
 
 -- one that has a name has a slot
-pub some_slot : (form names size : ℕ) → slot_len form * names ≡ size → 0 < names → slot_len form ≤ size
-some_slot zero names size many some = omega (arith, many, some)
-some_slot (suc form) names size many some = omega (arith, many, some)
+pub some_slot : (form names : ℕ) {size : ℕ} → slot_len form * names ≡ size → 0 < names → slot_len form ≤ size
+some_slot zero names many some = omega (arith, many, some)
+some_slot (suc form) names many some = omega (arith, many, some)
 
 -- one of more than 1,023 slots has 1,024 names at least, and one of fewer has fewer
-pub all_slots : (form names size : ℕ) → slot_len form * names ≡ size → 1023 * slot_len form < size → 1024 ≤ names
-all_slots zero names size many full = omega (arith, many, full)
-all_slots (suc form) names size many full = omega (arith, many, full)
+pub all_slots : (form names : ℕ) {size : ℕ} → slot_len form * names ≡ size → 1023 * slot_len form < size → 1024 ≤ names
+all_slots zero names many full = omega (arith, many, full)
+all_slots (suc form) names many full = omega (arith, many, full)
 
-pub free_slots : (form names size : ℕ) → slot_len form * names ≡ size → size ≤ 1023 * slot_len form → names < 1024
-free_slots zero names size many free = omega (arith, many, free)
-free_slots (suc form) names size many free = omega (arith, many, free)
+pub free_slots : (form names : ℕ) {size : ℕ} → slot_len form * names ≡ size → size ≤ 1023 * slot_len form → names < 1024
+free_slots zero names many free = omega (arith, many, free)
+free_slots (suc form) names many free = omega (arith, many, free)
 
-pub some_names : (form names size : ℕ) → slot_len form * names ≡ size → 0 < size → 0 < names
-some_names zero names size many some = omega (arith, many, some)
-some_names (suc form) names size many some = omega (arith, many, some)
+pub some_names : (form names : ℕ) {size : ℕ} → slot_len form * names ≡ size → 0 < size → 0 < names
+some_names zero names many some = omega (arith, many, some)
+some_names (suc form) names many some = omega (arith, many, some)
 
 -- no bytes are no names
-pub no_slots : (form names size : ℕ) → slot_len form * names ≡ size → size ≡ 0 → names ≡ 0
-no_slots zero names size many none = omega (arith, many, none)
-no_slots (suc form) names size many none = omega (arith, many, none)
+pub no_slots : (form names : ℕ) {size : ℕ} → slot_len form * names ≡ size → size ≡ 0 → names ≡ 0
+no_slots zero names many none = omega (arith, many, none)
+no_slots (suc form) names many none = omega (arith, many, none)
 
 pub slot_some : (form : ℕ) → (64 ≤ slot_len form) × (slot_len form ≤ 128)
 slot_some zero = (omega arith, omega arith)

@@ -13,9 +13,9 @@ use Rattle.lfs_model.proofs.Moments.{weaker}
 use Rattle.std.specs.List.{Contains}
 
 -- a content that stands for the map of a tree stands for that tree
-pub stands_saved : (segments : ℕ) (c : Content) (m : LogMap) → IsTree segments m → StandsOn segments c m
+pub stands_saved : {segments : ℕ} {c : Content} (m : LogMap) → IsTree segments m → StandsOn segments c m
     → Stands c (mounted m.version (tree_in m))
-stands_saved segments c m tree on = record {
+stands_saved m tree on = record {
   checkpoint = on.is.checkpoint;
   log = m;
   found = on.is.newest;
@@ -26,31 +26,30 @@ stands_saved segments c m tree on = record {
 }
 
 -- one that stands for the present map without its files of no links stands for the present state without its nodes of no name
-pub stands_dropped : (segments : ℕ) (c : Content) (m : LogMap) (s : State) → IsLogOf segments m s → StandsOn segments c (dropped m)
+pub stands_dropped : {segments : ℕ} (c : Content) (m : LogMap) (s : State) → IsLogOf segments m s → StandsOn segments c (dropped m)
     → Stands c (drop_nameless s)
-stands_dropped segments c m s log on =
+stands_dropped c m s log on =
     dropped_stands c on.is.checkpoint m s on.is.newest on.is.stands (subst (λ (l : ℕ). IsLogOf l m s) (sym on.same) log)
 
-module _ (d : DeviceState) (lawful : IsLawful d) (keeps : d.keeps_model) (k : CheckpointValue) (m0 : LogMap) (settled : IsSettled d k m0)
+module _ {d : DeviceState} (lawful : IsLawful d) (keeps : d.keeps_model) (k : CheckpointValue) (m0 : LogMap) (settled : IsSettled d k m0)
     (tree : IsTree k.segments m0) where
   here : StandsOn k.segments d.content m0
   here = record { is = record { checkpoint = k; newest = settled.newest; stands = settled.stands }; same = refl }
 
   -- the saved state may be left now
   pub saved_left : Left d (mounted m0.version (tree_in m0))
-  saved_left = record { content = d.content; may_leave = lawful.present keeps; stands = stands_saved k.segments d.content m0 tree here }
+  saved_left = record { content = d.content; may_leave = lawful.present keeps; stands = stands_saved m0 tree here }
 
   -- one that is left by either map
   either_left : (m : LogMap) (s : State) → IsLogOf k.segments m s → (c : Content) → StandsForOn k.segments m0 (dropped m) c
       → (ss : List State)
       → (t : State) × Stands c t × (Left d t ⊎ Contains (drop_nameless s ∷ ss) t)
   either_left m s log c either ss = ⊎_elim
-      (λ old. (mounted m0.version (tree_in m0), stands_saved k.segments c m0 tree old, inl saved_left))
-      (λ new. (drop_nameless s, stands_dropped k.segments c m s log new, inr (0, omega arith, refl)))
-      either
+      (λ old. (mounted m0.version (tree_in m0), stands_saved m0 tree old, inl saved_left))
+      (λ new. (drop_nameless s, stands_dropped c m s log new, inr (0, omega arith, refl))) either
 
-  pub leaves_states : (d' : DeviceState) (m : LogMap) (s : State) → IsLogOf k.segments m s → (ss : List State)
+  pub leaves_states : {d' : DeviceState} (m : LogMap) (s : State) → IsLogOf k.segments m s → (ss : List State)
       → LeavesOnly d d' (StandsForOn k.segments m0 (dropped m)) → LeavesStates d d' (drop_nameless s ∷ ss)
-  leaves_states d' m s log ss leaves =
-      weaker d d' (StandsForOn k.segments m0 (dropped m)) (λ c. (t : State) × Stands c t × (Left d t ⊎ Contains (drop_nameless s ∷ ss) t))
+  leaves_states {d'} m s log ss leaves =
+      weaker (StandsForOn k.segments m0 (dropped m)) (λ c. (t : State) × Stands c t × (Left d t ⊎ Contains (drop_nameless s ∷ ss) t))
       (λ c either. either_left m s log c either ss) leaves

@@ -33,33 +33,33 @@ module _ (N : ℕ) (s : State) (p : List ℕ) where
     abbrev by_version : List (Bool × Answer)
     by_version = when (s.version == 1) Inval ∷ by_form
 
-    step_widen : (a : Answer) (s' : State) → widens N s n ≡ (a, s') → Step N s (Widen p) a s'
-    step_widen a s' is =
+    step_widen : {a : Answer} {s' : State} → widens N s n ≡ (a, s') → Step N s (Widen p) a s'
+    step_widen is =
         record { first_end = At n; second_end = At 1; first = walk; second = refl; answer = ap (λ r. r.0) is; state = ap (λ r. r.1) is }
 
     pub widen_no_directory : is_dir (node s.tree n) ≡ false → Step N s (Widen p) (Refuse NotDir) s
     widen_no_directory other =
-        step_widen (Refuse NotDir) s (refuses s (not (is_dir (node s.tree n))) (Refuse NotDir) by_version wide_done (ap not other))
+        step_widen (refuses s (Refuse NotDir) by_version wide_done (ap not other))
 
     module _ (dir : is_dir (node s.tree n) ≡ true) where
       after_kind : widens N s n ≡ checked s by_version wide_done
       after_kind = passes s (not (is_dir (node s.tree n))) (Refuse NotDir) by_version wide_done (ap not dir)
 
       pub widen_old_volume : (s.version == 1) ≡ true → Step N s (Widen p) (Refuse Inval) s
-      widen_old_volume one = step_widen (Refuse Inval) s (after_kind ∙ refuses s (s.version == 1) (Refuse Inval) by_form wide_done one)
+      widen_old_volume one = step_widen (after_kind ∙ refuses s (Refuse Inval) by_form wide_done one)
 
       module _ (two : (s.version == 1) ≡ false) where
         pub widen_nothing : (form_of (node s.tree n) == 1) ≡ true → Step N s (Widen p) Done s
-        widen_nothing wide = step_widen Done s (after_kind ∙ passes s (s.version == 1) (Refuse Inval) by_form wide_done two
-            ∙ refuses s (form_of (node s.tree n) == 1) Done by_space wide_done wide)
+        widen_nothing wide = step_widen (after_kind ∙ passes s (s.version == 1) (Refuse Inval) by_form wide_done two
+            ∙ refuses s Done by_space wide_done wide)
 
         module _ (narrow : (form_of (node s.tree n) == 1) ≡ false) where
           pub widen_no_space : 47 * N < need t' → Step N s (Widen p) (Refuse NoSpace) s
-          widen_no_space lacks = step_widen (Refuse NoSpace) s (after_kind ∙ passes s (s.version == 1) (Refuse Inval) by_form wide_done two
+          widen_no_space lacks = step_widen (after_kind ∙ passes s (s.version == 1) (Refuse Inval) by_form wide_done two
               ∙ passes s (form_of (node s.tree n) == 1) Done by_space wide_done narrow
-              ∙ refuses s (nat_lt (47 * N) (need t')) (Refuse NoSpace) [] wide_done (below (47 * N) (need t') lacks))
+              ∙ refuses s (Refuse NoSpace) [] wide_done (below (47 * N) (need t') lacks))
 
           pub widen_done : need t' ≤ 47 * N → Step N s (Widen p) Done (with_tree s t')
-          widen_done room = step_widen Done (with_tree s t') (after_kind ∙ passes s (s.version == 1) (Refuse Inval) by_form wide_done two
+          widen_done room = step_widen (after_kind ∙ passes s (s.version == 1) (Refuse Inval) by_form wide_done two
               ∙ passes s (form_of (node s.tree n) == 1) Done by_space wide_done narrow
               ∙ passes s (nat_lt (47 * N) (need t')) (Refuse NoSpace) [] wide_done (not_below (47 * N) (need t') room))

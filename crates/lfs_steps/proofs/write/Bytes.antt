@@ -13,15 +13,15 @@ use Rattle.lfs_steps.proofs.volume.Nodes.{IsMapOf, IsFileOf, IsShaped, need_shap
 use Rattle.lfs_steps.proofs.volume.FileBytes.{changed_map, not_directory, shape_kept}
 use Rattle.lfs_steps.proofs.open_files.Steps.{file_is, written}
 
-module _ (N : ℕ) (m m' : LogMap) (s : State) (h n : ℕ) (is : IsMapOf N m s) (opens : find nat_cmp h s.handles ≡ Some n) (head : Header)
+module _ {N : ℕ} (m m' : LogMap) (s : State) (h n : ℕ) (is : IsMapOf N m s) (opens : find nat_cmp h s.handles ≡ Some n) (head : Header)
     (there : m.header n ≡ Some (as_header head)) where
   was : IsFileOf m s.tree n
-  was = opened_file N m s is.log h n opens
+  was = opened_file is.log h opens
 
   head_is : was.head ≡ as_header head
   head_is = let both : Some was.head ≡ Some (as_header head) = sym was.there ∙ there in cc
 
-  module _ (at : ℕ) (w : List ℕ) (writes : WritesFile m m' n head (resized head (max head.size (at + length w))) at w) where
+  module _ {at : ℕ} (w : List ℕ) (writes : WritesFile m m' n head (resized head (max head.size (at + length w))) at w) where
     -- the file's bytes with w laid over
     abbrev after : List ℕ
     after = put (object m n was.head) at w
@@ -68,14 +68,14 @@ module _ (N : ℕ) (m m' : LogMap) (s : State) (h n : ℕ) (is : IsMapOf N m s) 
       written_log = object_kept m m' n head' is.map writes.only writes.header fits
 
       pub written_shape : IsShaped m → IsShaped m'
-      written_shape shaped = shape_kept m m' n writes.only shaped written_log fits.whole.long
-          (λ g here dir. absurd (not_directory m' n head' writes.header is_file g here dir))
+      written_shape shaped = shape_kept writes.only shaped written_log fits.whole.long
+          (λ g here dir. absurd (not_directory m' n writes.header is_file g here dir))
 
       -- and what its tree needs
-      pub written_need : TotalsOfTree → IsShaped m → (blocks others : ℕ) → IsCounted m' blocks others
+      pub written_need : TotalsOfTree → IsShaped m → {blocks others : ℕ} → IsCounted m' blocks others
           → need (written N s h at w) ≡ blocks + 7 * others + 720
-      written_need totals shaped blocks others counted = ap need (sym written_tree)
-          ∙ (need_shaped totals m' (written_shape shaped) blocks others counted).0
+      written_need totals shaped {blocks} {others} counted = ap need (sym written_tree)
+          ∙ (need_shaped totals (written_shape shaped) counted).0
 
       module _ (bytes : AreBytes w) (room : need (written N s h at w) ≤ 47 * N) where
         good : IsWithinLimits (File after)
@@ -86,6 +86,6 @@ module _ (N : ℕ) (m m' : LogMap) (s : State) (h n : ℕ) (is : IsMapOf N m s) 
         -- the volume's log map after the call
         pub written_map : IsMapOf N m' (with_tree s (written N s h at w))
         written_map = subst (λ (t : Tree). IsMapOf N m' (with_tree s t)) (sym written_is)
-            (changed_map N m m' s is n was head' writes.only writes.header is_file (sym (ap (λ (x : entry.Header). x.links) head_is)) fits
+            (changed_map N m m' s is n was writes.only writes.header is_file (sym (ap (λ (x : entry.Header). x.links) head_is)) fits
             after tree_after good
             (subst (λ (t : Tree). need t ≤ 47 * N) written_is room))

@@ -18,11 +18,12 @@ use Rattle.lfs_steps.proofs.volume.Nodes.{IsMapOf, IsFileOf, IsShaped, opened_fi
 use Rattle.lfs_steps.proofs.volume.FileBytes.{changed_map, not_directory, shape_kept}
 use Rattle.lfs_steps.proofs.open_files.Steps.{file_is, shortened}
 
-module _ (N : ℕ) (m m' : LogMap) (s : State) (h n : ℕ) (is : IsMapOf N m s) (opens : find nat_cmp h s.handles ≡ Some n) (head : Header)
+module _ {N : ℕ} (m : LogMap) {m' : LogMap} (s : State) (h n : ℕ) (is : IsMapOf N m s) (opens : find nat_cmp h s.handles ≡ Some n)
+    {head : Header}
     (there : m.header n ≡ Some (as_header head))
     (len : ℕ) (sizes : SizesFile m m' n head (resized head len) len) where
   was : IsFileOf m s.tree n
-  was = opened_file N m s is.log h n opens
+  was = opened_file is.log h opens
 
   head_is : was.head ≡ as_header head
   head_is = let both : Some was.head ≡ Some (as_header head) = sym was.there ∙ there in cc
@@ -79,8 +80,8 @@ module _ (N : ℕ) (m m' : LogMap) (s : State) (h n : ℕ) (is : IsMapOf N m s) 
     shortened_log = object_kept m m' n head' is.map sizes.only sizes.header fits
 
     pub shortened_shape : IsShaped m → IsShaped m'
-    shortened_shape shaped = shape_kept m m' n sizes.only shaped shortened_log fits.whole.long
-        (λ g here dir. absurd (not_directory m' n head' sizes.header is_file g here dir))
+    shortened_shape shaped = shape_kept sizes.only shaped shortened_log fits.whole.long
+        (λ g here dir. absurd (not_directory m' n sizes.header is_file g here dir))
 
     good : IsWithinLimits (File after)
     good =
@@ -91,5 +92,5 @@ module _ (N : ℕ) (m m' : LogMap) (s : State) (h n : ℕ) (is : IsMapOf N m s) 
     -- and the volume's
     pub shortened_map : IsMapOf N m' (with_tree s (shortened N s h len))
     shortened_map = subst (λ (t : Tree). IsMapOf N m' (with_tree s t)) (sym shortened_is)
-        (changed_map N m m' s is n was head' sizes.only sizes.header is_file (sym (ap (λ (x : entry.Header). x.links) head_is)) fits after
+        (changed_map N m m' s is n was sizes.only sizes.header is_file (sym (ap (λ (x : entry.Header). x.links) head_is)) fits after
         tree_after good room_after)

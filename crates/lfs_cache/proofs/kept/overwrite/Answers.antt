@@ -8,4 +8,4 @@ pub returns-in-Some : goal.returns-in-Some
 returns-in-Some c =
     let kept = c.args.kept.now in
     let found = sym c.get_mut.ensures.value ∙ ap option_copied_mut c.in-Some.is in
-    rw c.fill.ensures (inl (ap (λ es. lru_cache es kept.cap) (overwritten kept c.args.sector c.args.bytes.now c.in-Some.row.now found)))
+    rw c.fill.ensures (inl (ap (λ es. lru_cache es kept.cap) (overwritten kept c.args.sector c.args.bytes.now found)))

@@ -15,7 +15,7 @@ pub returns-then-has_quarter-clause-done : goal.returns-then-has_quarter-clause-
 returns-then-has_quarter-clause-done g c =
     let h = c.args.log.now in
     let running : h.halted ≡ false = sym c.is_halted.ensures ∙ c.if-is_halted.false in record {
-      makes = makes_none g.D.SectorDevice.state h (g.met.D.SectorDevice.lawful h.device) running;
+      makes = makes_none g.D.SectorDevice.state (g.met.D.SectorDevice.lawful h.device) running;
       once = inr (c.if-has_quarter.ensures.yes (search rules), refl);
     }
 
@@ -24,14 +24,14 @@ returns-in-Err-clause-full g c is =
     let h = c.args.log.now in
     let running : h.halted ≡ false = sym c.is_halted.ensures ∙ c.if-is_halted.false in
     let full = c.in-Err.ensures.full (search rules) in
-    lacks_commit g.D.SectorDevice.state h c.commit_unsaved.new.log (g.met.D.SectorDevice.lawful h.device) running full.0 full.1 full.2
+    lacks_commit g.D.SectorDevice.state (g.met.D.SectorDevice.lawful h.device) running full.0 full.1 full.2
 
 pub returns-in-Err-clause-device : goal.returns-in-Err-clause-device
 returns-in-Err-clause-device g c is = absurd (c.in-Err.ensures.other (search rules))
 
 pub returns-in-Err-clause-halted : goal.returns-in-Err-clause-halted
 returns-in-Err-clause-halted g c is ne =
-    halts_first g.D.SectorDevice.state c.args.log.now c.commit_unsaved.new.log (c.in-Err.ensures.halted (search rules))
+    halts_first g.D.SectorDevice.state (c.in-Err.ensures.halted (search rules))
 
 pub returns-in-Err-clause-unsaved : goal.returns-in-Err-clause-unsaved
 returns-in-Err-clause-unsaved g c ne none =
@@ -47,9 +47,7 @@ returns-clause-done g c =
     on_success c.pass_where_due.result _ _ _
     (λ due same. record {
       makes =
-          makes_after g.D.SectorDevice.state a b end c.in-Ok.ensures.done
-          1 (omega (arith, least))
-          (keeps_due g.D.SectorDevice.state b end
+          makes_after g.D.SectorDevice.state c.in-Ok.ensures.done (omega (arith, least)) (keeps_due g.D.SectorDevice.state b end
           (g.met.D.SectorDevice.lawful b.device) c.in-Ok.ensures.done.keeps.running due c.pass_where_due.ensures.totals);
       once = once_behind g.D.SectorDevice.state a b end
           c.in-Ok.ensures.done.commits due;
@@ -66,20 +64,20 @@ pub returns-clause-full : goal.returns-clause-full
 returns-clause-full g c is =
     let b = c.commit_unsaved.new.log in
     let refused = c.pass_where_due.ensures.full is in
-    lacks_after g.D.SectorDevice.state c.args.log.now b c.pass_where_due.new.log c.in-Ok.ensures.done 0 (omega arith)
-    (lacks_pass g.D.SectorDevice.state b c.pass_where_due.new.log (g.met.D.SectorDevice.lawful b.device) c.in-Ok.ensures.done.keeps.running
+    lacks_after g.D.SectorDevice.state c.in-Ok.ensures.done (omega arith)
+    (lacks_pass g.D.SectorDevice.state b (g.met.D.SectorDevice.lawful b.device) c.in-Ok.ensures.done.keeps.running
     c.in-Ok.ensures.done.nothing refused.0 refused.1)
 
 pub returns-clause-device : goal.returns-clause-device
 returns-clause-device g c is =
     let b = c.commit_unsaved.new.log in
-    fails_after g.D.SectorDevice.state c.args.log.now b c.pass_where_due.new.log c.in-Ok.ensures.done 0 (omega arith)
-    (fails_pass g.D.SectorDevice.state b c.pass_where_due.new.log (g.met.D.SectorDevice.lawful b.device) c.in-Ok.ensures.done.keeps.running
+    fails_after g.D.SectorDevice.state c.in-Ok.ensures.done (omega arith)
+    (fails_pass g.D.SectorDevice.state b (g.met.D.SectorDevice.lawful b.device) c.in-Ok.ensures.done.keeps.running
     (c.pass_where_due.ensures.device is))
 
 pub returns-clause-halted : goal.returns-clause-halted
 returns-clause-halted g c is ne =
-    halts_after g.D.SectorDevice.state c.args.log.now c.commit_unsaved.new.log c.pass_where_due.new.log c.in-Ok.ensures.done 0 (omega arith)
+    halts_after g.D.SectorDevice.state c.in-Ok.ensures.done (omega arith)
     (halts_at_once g.D.SectorDevice.state c.commit_unsaved.new.log c.pass_where_due.new.log (c.pass_where_due.ensures.halted is))
 
 pub returns-clause-totals : goal.returns-clause-totals
@@ -90,7 +88,6 @@ returns-clause-told g c =
     once_told (length (g.D.SectorDevice.state c.args.log.now.device).told)
     (length (g.D.SectorDevice.state c.commit_unsaved.new.log.device).told)
     (length (g.D.SectorDevice.state c.pass_where_due.new.log.device).told)
-    c.args.log.now.segments c.commit_unsaved.new.log.segments
     c.in-Ok.ensures.done.keeps.segments c.commit_unsaved.ensures.told c.pass_where_due.ensures.told
 
 pub returns-clause-saved : goal.returns-clause-saved

@@ -15,7 +15,7 @@ returns-in_default-clause-full g c is = record {
   reads = search rules;
   unfit = λ k m0 m keeps can.
       let whole = c.are_tables_whole.ensures in
-      let there = pressed_there g.D.SectorDevice.state c.args.log.now c.args.log.now k m0 m can whole c.meta.result c.meta.ensures in
+      let there = pressed_there c.args.log.now k m0 m can whole c.meta.ensures in
       let limit = c.most_victims-most.ensures ∙ ap most_victims (c.segments.ensures ∙ whole.segments)
       ∙ ap pass_limit (sym c.usage.ensures) in
       let bad : false ≡ true = c.in_default.ensures.found
@@ -31,21 +31,17 @@ returns-in-Ok-commit_relocated-clause-done g c =
     let vs = c.as_slice.result.now in
     record {
       victims = vs;
-      gain = carried (λ t a m x vs. AreVictims t a m vs) c.usage.result.now h.usage c.meta.result h.totals.meta_blocks
-          c.most_victims-most.result (pass_limit h.usage) c.number.result h.number _ vs
+      gain = carried (λ t a m x vs. AreVictims t a m vs) _
           c.usage.ensures c.meta.ensures limit c.number.ensures (sym c.as_slice.ensures.value) c.in-Some.ensures.some;
-      choice = carried (λ t a m x vs. IsChosen t a m x vs) c.usage.result.now h.usage c.meta.result h.totals.meta_blocks
-          c.most_victims-most.result (pass_limit h.usage) c.number.result h.number _ vs
+      choice = carried (λ t a m x vs. IsChosen t a m x vs) _
           c.usage.ensures c.meta.ensures limit c.number.ensures (sym c.as_slice.ensures.value) c.in-Some.ensures.choice;
-      cleans = pass_done g.D.SectorDevice.state h c.relocate.new.self c.commit_relocated.new.self vs
-          (g.met.D.SectorDevice.lawful h.device) c.in-Ok.ensures.done
+      cleans = pass_done g.D.SectorDevice.state c.commit_relocated.new.self (g.met.D.SectorDevice.lawful h.device) c.in-Ok.ensures.done
           (c.in-Ok-commit_relocated.ensures.done vs c.in-Ok.ensures.done.emptied);
     }
 
 pub returns-in-Err-commit_relocated-clause-halted : goal.returns-in-Err-commit_relocated-clause-halted
 returns-in-Err-commit_relocated-clause-halted g c is ne =
-    pass_halts g.D.SectorDevice.state c.args.log.now c.relocate.new.self c.commit_relocated.new.self c.as_slice.result.now
-    (g.met.D.SectorDevice.lawful c.args.log.now.device) c.in-Ok.ensures.done
+    pass_halts g.D.SectorDevice.state c.commit_relocated.new.self (g.met.D.SectorDevice.lawful c.args.log.now.device) c.in-Ok.ensures.done
     (c.in-Err-commit_relocated.ensures.halted is (λ on. ne (sym c.in-Ok.ensures.done.reads.halted ∙ on)))
 
 pub returns-in-Err-clause-full : goal.returns-in-Err-clause-full
@@ -56,7 +52,7 @@ returns-in-Err-clause-full g c is = record {
       let most = c.most_victims-most.result in
       let are : AreVictims c.usage.result.now c.meta.result most vs =
       subst (AreVictims c.usage.result.now c.meta.result most) (sym c.as_slice.ensures.value) c.in-Some.ensures.some in
-      not_refused g.D.SectorDevice.state c.args.log.now c.relocate.new.self k m0 m can c.are_tables_whole.ensures keeps c.meta.result
+      not_refused c.relocate.new.self k m0 m can c.are_tables_whole.ensures keeps
       most vs c.meta.ensures (c.most_victims-most.ensures ∙ ap most_victims c.segments.ensures)
       (subst (λ (t : UsageTable). AreVictims t c.meta.result most vs) c.usage.ensures are) (c.in-Err.ensures.lacks is);
 }

@@ -17,14 +17,14 @@ returns-in-Err-clause-full g c is =
     let h = c.args.log.now in
     let running : h.halted ≡ false = sym c.is_halted.ensures ∙ c.if-is_halted.false in
     let full = c.in-Err.ensures.full (search rules) in
-    lacks_commit g.D.SectorDevice.state h c.commit_unsaved.new.log (g.met.D.SectorDevice.lawful h.device) running full.0 full.1 full.2
+    lacks_commit g.D.SectorDevice.state (g.met.D.SectorDevice.lawful h.device) running full.0 full.1 full.2
 
 pub returns-in-Err-clause-device : goal.returns-in-Err-clause-device
 returns-in-Err-clause-device g c is = absurd (c.in-Err.ensures.other (search rules))
 
 pub returns-in-Err-clause-halted : goal.returns-in-Err-clause-halted
 returns-in-Err-clause-halted g c is ne =
-    halts_first g.D.SectorDevice.state c.args.log.now c.commit_unsaved.new.log (c.in-Err.ensures.halted (search rules))
+    halts_first g.D.SectorDevice.state (c.in-Err.ensures.halted (search rules))
 
 pub returns-in-Err-clause-unsaved : goal.returns-in-Err-clause-unsaved
 returns-in-Err-clause-unsaved g c ne none =
@@ -34,27 +34,23 @@ pub returns-clause-done : goal.returns-clause-done
 returns-clause-done g c =
     let size = c.in-Ok.ensures.done.keeps.segments in
     on_success c.pass_until_quarter.result _ _ _
-    (quarter_after g.D.SectorDevice.state c.args.log.now c.commit_unsaved.new.log c.pass_until_quarter.new.log c.in-Ok.ensures.done _
-    (omega (arith, size)))
+    (quarter_after g.D.SectorDevice.state {c = c.pass_until_quarter.new.log} c.in-Ok.ensures.done (omega (arith, size)))
     c.pass_until_quarter.ensures.done c.pass_until_quarter.ensures.enough
 
 pub returns-clause-full : goal.returns-clause-full
 returns-clause-full g c is =
     let size = c.in-Ok.ensures.done.keeps.segments in
-    lacks_after g.D.SectorDevice.state c.args.log.now c.commit_unsaved.new.log c.pass_until_quarter.new.log c.in-Ok.ensures.done _
-    (omega (arith, size)) (c.pass_until_quarter.ensures.full is)
+    lacks_after g.D.SectorDevice.state c.in-Ok.ensures.done (omega (arith, size)) (c.pass_until_quarter.ensures.full is)
 
 pub returns-clause-device : goal.returns-clause-device
 returns-clause-device g c is =
     let size = c.in-Ok.ensures.done.keeps.segments in
-    fails_after g.D.SectorDevice.state c.args.log.now c.commit_unsaved.new.log c.pass_until_quarter.new.log c.in-Ok.ensures.done _
-    (omega (arith, size)) (c.pass_until_quarter.ensures.device is)
+    fails_after g.D.SectorDevice.state c.in-Ok.ensures.done (omega (arith, size)) (c.pass_until_quarter.ensures.device is)
 
 pub returns-clause-halted : goal.returns-clause-halted
 returns-clause-halted g c is ne =
     let size = c.in-Ok.ensures.done.keeps.segments in
-    halts_after g.D.SectorDevice.state c.args.log.now c.commit_unsaved.new.log c.pass_until_quarter.new.log c.in-Ok.ensures.done _
-    (omega (arith, size)) (c.pass_until_quarter.ensures.halted is)
+    halts_after g.D.SectorDevice.state c.in-Ok.ensures.done (omega (arith, size)) (c.pass_until_quarter.ensures.halted is)
 
 pub returns-clause-totals : goal.returns-clause-totals
 returns-clause-totals g c = c.pass_until_quarter.ensures.totals ∙ c.commit_unsaved.ensures.totals
@@ -64,13 +60,10 @@ returns-clause-told g c =
     room_told (length (g.D.SectorDevice.state c.args.log.now.device).told)
     (length (g.D.SectorDevice.state c.commit_unsaved.new.log.device).told)
     (length (g.D.SectorDevice.state c.pass_until_quarter.new.log.device).told)
-    c.args.log.now.segments c.commit_unsaved.new.log.segments
     c.in-Ok.ensures.done.keeps.segments c.commit_unsaved.ensures.told c.pass_until_quarter.ensures.told
 
 pub returns-clause-passes : goal.returns-clause-passes
 returns-clause-passes g c all =
-    passes_told (g.D.SectorDevice.state c.args.log.now.device).told (g.D.SectorDevice.state c.commit_unsaved.new.log.device).told
-    (length (g.D.SectorDevice.state c.pass_until_quarter.new.log.device).told)
-    c.args.log.now.segments c.commit_unsaved.new.log.segments
+    passes_told (length (g.D.SectorDevice.state c.pass_until_quarter.new.log.device).told)
     c.in-Ok.ensures.done.keeps.segments (ap (λ (h : LogState g.row.D.Denot). (g.D.SectorDevice.state h.device).told)
     (c.commit_unsaved.ensures.quiet all)) c.pass_until_quarter.ensures.told

@@ -6,7 +6,7 @@ use Rattle.lfs_cleaner.specs.Room.{PassesInNeed}
 use Rattle.lfs_cleaner.proofs.room.pass_until_quarter.Goals as goal
 
 pub loop-init : goal.loop-init
-loop-init g c = passes_none g.D.SectorDevice.state c.args.log.now (g.met.D.SectorDevice.lawful c.args.log.now.device) c.requires.running
+loop-init g c = passes_none g.D.SectorDevice.state (g.met.D.SectorDevice.lawful c.args.log.now.device) c.requires.running
 
 pub returns-in-Err-clause-full : goal.returns-in-Err-clause-full
 returns-in-Err-clause-full g c is =
@@ -16,14 +16,11 @@ returns-in-Err-clause-full g c is =
     let size = c.segments.ensures in
     let le : c.loop.counter < c.args.log.now.segments / 8 = omega (arith, lt, most, size) in
     let refuses = c.in-Err.ensures.full (search rules) in
-    let reads = keeps_reads g.D.SectorDevice.state c.loop.log c.pass.new.log (g.met.D.SectorDevice.lawful c.loop.log.device) done.running
-    refuses.reads in record {
-      keeps = keeps_weaker g.D.SectorDevice.state c.args.log.now c.pass.new.log (c.loop.counter + 0) _
-          (keeps_then g.D.SectorDevice.state c.args.log.now c.loop.log c.pass.new.log c.loop.counter done 0 reads) (omega (arith, le));
+    let reads = keeps_reads g.D.SectorDevice.state (g.met.D.SectorDevice.lawful c.loop.log.device) done.running refuses.reads in record {
+      keeps = keeps_weaker g.D.SectorDevice.state (keeps_then g.D.SectorDevice.state c.pass.new.log done reads) (omega (arith, le));
       never = λ k m0 m keeps may.
           (let next =
-          may_pass g.D.SectorDevice.state c.args.log.now c.loop.log c.loop.counter c.requires.nothing c.loop.invariant
-          (c.if-has_quarter.ensures.no (search rules)) k m0 m
+          may_pass g.D.SectorDevice.state c.requires.nothing c.loop.invariant (c.if-has_quarter.ensures.no (search rules)) k m
           (refuses.reads.looks.carries.kept_before keeps) may le in
           refuses.unfit next.0 next.1 m keeps next.2);
     }
@@ -36,11 +33,9 @@ returns-in-Err-clause-device g c is =
     let size = c.segments.ensures in
     let le : c.loop.counter + 0 ≤ c.args.log.now.segments / 8 = omega (arith, lt, most, size) in
     let fails = c.in-Err.ensures.device (search rules) in
-    let reads = keeps_reads g.D.SectorDevice.state c.loop.log c.pass.new.log (g.met.D.SectorDevice.lawful c.loop.log.device) done.running
-    fails.reads in record {
-      keeps = keeps_weaker g.D.SectorDevice.state c.args.log.now c.pass.new.log (c.loop.counter + 0) _
-          (keeps_then g.D.SectorDevice.state c.args.log.now c.loop.log c.pass.new.log c.loop.counter done 0 reads) le;
-      fault = fault_then g.D.SectorDevice.state c.args.log.now c.loop.log c.pass.new.log c.loop.counter done
+    let reads = keeps_reads g.D.SectorDevice.state (g.met.D.SectorDevice.lawful c.loop.log.device) done.running fails.reads in record {
+      keeps = keeps_weaker g.D.SectorDevice.state (keeps_then g.D.SectorDevice.state c.pass.new.log done reads) le;
+      fault = fault_then g.D.SectorDevice.state c.pass.new.log done
           fails.reads.looks.carries (read_fault g.D.SectorDevice.state c.loop.log c.pass.new.log fails.fault);
     }
 
@@ -53,19 +48,17 @@ returns-in-Err-clause-halted g c is =
     let le : c.loop.counter + 0 ≤ c.args.log.now.segments / 8 = omega (arith, lt, most, size) in
     let running : c.loop.log.halted ≡ false = done.running in
     let halts = c.in-Err.ensures.halted (search rules) (λ (is : c.loop.log.halted ≡ true). absurd (cc)) in
-    halts_weaker g.D.SectorDevice.state c.args.log.now c.pass.new.log (c.loop.counter + 0) _
-    (halts_then g.D.SectorDevice.state c.args.log.now c.loop.log c.pass.new.log c.loop.counter done 0
+    halts_weaker g.D.SectorDevice.state (halts_then g.D.SectorDevice.state c.pass.new.log done
     (halts_at_once g.D.SectorDevice.state c.loop.log c.pass.new.log halts)) le
 
 pub loop-preserved : goal.loop-preserved
 loop-preserved g c =
     let need : PassesInNeed g.D.SectorDevice.state c.loop.log c.pass.new.log = record {
-      nothing = nothing_between g.D.SectorDevice.state c.args.log.now c.loop.log c.loop.counter c.requires.nothing c.loop.invariant;
+      nothing = nothing_between g.D.SectorDevice.state c.requires.nothing c.loop.invariant;
       few = c.if-has_quarter.ensures.no (search rules);
       passes = c.in-Ok.ensures.done;
     } in
-    passes_more g.D.SectorDevice.state c.args.log.now c.loop.log c.pass.new.log c.loop.counter c.loop.invariant need c.in-Ok.ensures.totals
-    c.pass.ensures.told
+    passes_more g.D.SectorDevice.state c.pass.new.log c.loop.invariant need c.in-Ok.ensures.totals c.pass.ensures.told
 
 pub returns-clause-full : goal.returns-clause-full
 returns-clause-full g c is =
@@ -74,11 +67,10 @@ returns-clause-full g c is =
     let most = c.most_passes-most.ensures in
     let size = c.segments.ensures in
     let all : c.loop.counter ≡ c.args.log.now.segments / 8 = omega (arith, low, high, most, size) in record {
-      keeps = keeps_weaker g.D.SectorDevice.state c.args.log.now c.loop.log c.loop.counter _ c.loop.invariant.repeats.keeps
-          (omega (arith, all));
+      keeps = keeps_weaker g.D.SectorDevice.state c.loop.invariant.repeats.keeps (omega (arith, all));
       never = λ k m0 m keeps may.
-          passes_suffice g.D.SectorDevice.state c.args.log.now c.loop.log c.loop.counter c.requires.nothing
-          c.loop.invariant (c.if-has_quarter-2.ensures.no (search rules)) k m0 m keeps may
+          passes_suffice g.D.SectorDevice.state c.requires.nothing
+          c.loop.invariant (c.if-has_quarter-2.ensures.no (search rules)) k m keeps may
           (g.met.D.SectorDevice.lawful c.args.log.now.device) all;
     }
 
@@ -99,8 +91,8 @@ returns-in-Err-clause-told g c =
     passes_most (length (g.D.SectorDevice.state c.args.log.now.device).told) (length (g.D.SectorDevice.state c.pass.new.log.device).told)
     (c.loop.counter + 1) _ (pass_orders c.args.log.now.segments) (omega (arith, lt, most, size))
     (pass_more (length (g.D.SectorDevice.state c.args.log.now.device).told) (length (g.D.SectorDevice.state c.loop.log.device).told)
-    (length (g.D.SectorDevice.state c.pass.new.log.device).told) c.loop.counter c.args.log.now.segments
-    c.loop.log.segments c.loop.invariant.repeats.keeps.segments c.loop.invariant.told c.pass.ensures.told)
+    (length (g.D.SectorDevice.state c.pass.new.log.device).told) c.loop.counter
+    c.loop.invariant.repeats.keeps.segments c.loop.invariant.told c.pass.ensures.told)
 
 pub returns-then-has_quarter-clause-told : goal.returns-then-has_quarter-clause-told
 returns-then-has_quarter-clause-told g c =

@@ -7,8 +7,8 @@ use Rattle.lfs_device.proofs.unsynced.list_sector.Goals as goal
 pub unwrap-requires : goal.unwrap-requires
 unwrap-requires c =
     let none : is_none c.index.result.now.written ≡ true = search rules in
-    let left = room_left c.args.unsynced.now.items c.args.rows.now.items c.args.sector c.requires.listed c.requires.within
-    (looked_at c.args.rows.now.items c.args.sector c.index.result.now true c.requires.within c.index.ensures none) in
+    let left = room_left c.args.sector c.requires.listed c.requires.within
+    (looked_at c.args.rows.now.items c.args.sector true c.requires.within c.index.ensures none) in
     let room = c.requires.room in
     c.push.ensures.succeeds (omega (arith, left, room))
 
@@ -17,11 +17,11 @@ returns-then-is_none-clause-listed c = λ row now.
     let none : is_none c.index.result.now.written ≡ true = search rules in
     let came : c.push.new.self.items ≡ c.args.unsynced.now.items ++ c.args.sector ∷ [] = search rules in
     subst (λ (l : List ℕ). IsUnsyncedList l (slice_set c.args.rows.now.items c.args.sector row)) (sym came)
-    (listed_anew c.args.unsynced.now.items c.args.rows.now.items c.args.sector c.requires.listed c.requires.within
-    (looked_at c.args.rows.now.items c.args.sector c.index.result.now true c.requires.within c.index.ensures none) row now)
+    (listed_anew c.args.sector c.requires.listed c.requires.within
+    (looked_at c.args.rows.now.items c.args.sector true c.requires.within c.index.ensures none) row now)
 
 pub returns-else-is_none-clause-listed : goal.returns-else-is_none-clause-listed
 returns-else-is_none-clause-listed c = λ row now.
     let some : is_none c.index.result.now.written ≡ false = search rules in
-    listed_again c.args.unsynced.now.items c.args.rows.now.items c.args.sector c.requires.listed c.requires.within
-    (looked_at c.args.rows.now.items c.args.sector c.index.result.now false c.requires.within c.index.ensures some) row now
+    listed_again c.args.sector c.requires.listed c.requires.within
+    (looked_at c.args.rows.now.items c.args.sector false c.requires.within c.index.ensures some) row now

@@ -5,27 +5,23 @@ use Rattle.lfs_device.proofs.unsynced.settle.Goals as goal
 
 pub loop-sector-init : goal.loop-sector-init
 loop-sector-init c =
-    settling_begins c.args.rows.now.items c.deref-sector-items.result.now
-    (subst (λ (l : List ℕ). IsUnsyncedList l c.args.rows.now.items) (sym c.deref-sector-items.ensures.value) c.requires)
+    settling_begins (subst (λ (l : List ℕ). IsUnsyncedList l c.args.rows.now.items) (sym c.deref-sector-items.ensures.value) c.requires)
 
 pub index_mut-row-requires : goal.index_mut-row-requires
 index_mut-row-requires c =
-    let within = settling_within c.args.rows.now.items c.loop-sector.rows.items c.deref-sector-items.result.now
+    let within = settling_within
     (subst (λ (l : List ℕ). IsUnsyncedList l c.args.rows.now.items) (sym c.deref-sector-items.ensures.value) c.requires)
-    c.loop-sector.sector-index c.loop-sector.invariant c.loop-sector-test.true in
+    c.loop-sector.invariant c.loop-sector-test.true in
     let long = c.loop-sector.rows.ok in
     omega (arith, within, long)
 
 pub loop-sector-preserved : goal.loop-sector-preserved
 loop-sector-preserved c =
-    settling_next c.args.rows.now.items c.loop-sector.rows.items c.deref-sector-items.result.now
-    (subst (λ (l : List ℕ). IsUnsyncedList l c.args.rows.now.items) (sym c.deref-sector-items.ensures.value) c.requires)
-    c.loop-sector.sector-index c.loop-sector.invariant c.loop-sector-test.true c.index_mut-row.result.now c.stands.result
-    c.index_mut-row.ensures.value c.stands.ensures
+    settling_next (subst (λ (l : List ℕ). IsUnsyncedList l c.args.rows.now.items) (sym c.deref-sector-items.ensures.value) c.requires)
+    c.loop-sector.invariant c.loop-sector-test.true c.index_mut-row.ensures.value c.stands.ensures
 
 pub returns-clause-rows : goal.returns-clause-rows
 returns-clause-rows c =
     let t = c.loop-sector-test.false in
-    settling_ends c.args.rows.now.items c.loop-sector.rows.items c.deref-sector-items.result.now
-    (subst (λ (l : List ℕ). IsUnsyncedList l c.args.rows.now.items) (sym c.deref-sector-items.ensures.value) c.requires)
-    c.loop-sector.sector-index c.loop-sector.invariant (omega (arith, t))
+    settling_ends (subst (λ (l : List ℕ). IsUnsyncedList l c.args.rows.now.items) (sym c.deref-sector-items.ensures.value) c.requires)
+    c.loop-sector.invariant (omega (arith, t))

@@ -14,12 +14,12 @@ loop-index-init g c =
     let e = c.div_ceil-index.ensures in
     let slots = c.slots_of-slots.ensures in
     let whole = c.slots_in_block-whole.ensures.value in
-    let up = blocks_up c.args.header.form c.slots_of-slots.result c.slots_in_block-whole.result whole in
+    let up = blocks_up c.args.header.form c.slots_of-slots.result whole in
     let times = ap (λ (i : ℕ). per_block c.args.header.form * i) e in (
       omega (arith, times, up, slots),
-      list_begins c.args.directory.value c.args.header (g.F.Files.state c.args.files.now) c.div_ceil-index.result c.new-entries.result.items
+      list_begins c.args.directory.value c.args.header (g.F.Files.state c.args.files.now) c.div_ceil-index.result
           c.new-entries.ensures.items (let past = blocks_past c.args.header.form c.div_ceil-index.result c.slots_of-slots.result
-          c.slots_in_block-whole.result whole (omega (arith, e)) in omega (arith, past, slots)),
+          whole (omega (arith, e)) in omega (arith, past, slots)),
     )
 
 pub loop-index-preserved : goal.loop-index-preserved
@@ -35,9 +35,8 @@ loop-index-preserved g c =
     let is : c.min-count.result ≡ min (slot_count c.args.header - per_block c.args.header.form * (c.loop-index.index - 1))
     (per_block c.args.header.form) = omega (arith, m, first, whole, slots) in (
       omega (arith, low),
-      list_goes_on c.args.directory.value c.args.header (g.F.Files.state c.args.files.now) (g.F.Files.state c.loop-index.files)
-          (g.F.Files.state c.list_block.new.files)
-          c.loop-index.index (c.loop-index.index - 1) c.min-count.result c.loop-index.entries.items is low c.loop-index.invariant.1
+      list_goes_on c.args.directory.value c.args.header (g.F.Files.state c.list_block.new.files)
+          (c.loop-index.index - 1) is low c.loop-index.invariant.1
           c.list_block.new.entries.items (g.met.F.Files.lawful c.args.files.now) t refl c.list_block.ensures.reads
           c.in_ok-list_block.ensures.done,
     )
@@ -55,10 +54,8 @@ returns-in_err-list_block-clause-failed g c =
     let one = block_before c.args.header.form c.loop-index.index t in omega (arith, u, one) in
     let is : c.min-count.result ≡ min (slot_count c.args.header - per_block c.args.header.form * (c.loop-index.index - 1))
     (per_block c.args.header.form) = omega (arith, m, first, whole, slots) in
-    list_fails c.args.directory.value c.args.header (g.F.Files.state c.args.files.now) (g.F.Files.state c.loop-index.files)
-    (g.F.Files.state c.list_block.new.files)
-    c.loop-index.index (c.loop-index.index - 1) c.min-count.result c.loop-index.entries.items is low c.loop-index.invariant.1
-    (c.in_err-list_block.ensures.failed other))
+    list_fails c.args.directory.value c.args.header (g.F.Files.state c.list_block.new.files)
+    (c.loop-index.index - 1) is low c.loop-index.invariant.1 (c.in_err-list_block.ensures.failed other))
 
 pub returns-in_err-list_block-clause-malformed : goal.returns-in_err-list_block-clause-malformed
 returns-in_err-list_block-clause-malformed g c =
@@ -73,21 +70,18 @@ returns-in_err-list_block-clause-malformed g c =
     let one = block_before c.args.header.form c.loop-index.index t in omega (arith, u, one) in
     let is : c.min-count.result ≡ min (slot_count c.args.header - per_block c.args.header.form * (c.loop-index.index - 1))
     (per_block c.args.header.form) = omega (arith, m, first, whole, slots) in
-    slot_lacks c.args.directory.value c.args.header (g.F.Files.state c.args.files.now) (g.F.Files.state c.loop-index.files)
-    (g.F.Files.state c.list_block.new.files)
-    c.loop-index.index (c.loop-index.index - 1) c.min-count.result c.loop-index.entries.items is low c.loop-index.invariant.1
+    slot_lacks c.args.directory.value c.args.header (g.F.Files.state c.list_block.new.files)
+    (c.loop-index.index - 1) is low c.loop-index.invariant.1
     (c.in_err-list_block.ensures.malformed (other_result c.in_err-list_block.field-0.0 ListFault.NoSlot same)))
 
 pub returns-in_err-list_block-clause-device : goal.returns-in_err-list_block-clause-device
 returns-in_err-list_block-clause-device g c =
     let p = err_from_is_err_and c.from_residual.result c.from_residual.ensures.1 in rw (p.1, p.2)
-    (λ same. fault_more (g.F.Files.state c.args.files.now) (g.F.Files.state c.loop-index.files) (g.F.Files.state c.list_block.new.files)
-    c.loop-index.invariant.1.reads
+    (λ same. fault_more (g.F.Files.state c.list_block.new.files) c.loop-index.invariant.1.reads
     (c.in_err-list_block.ensures.device (other_result c.in_err-list_block.field-0.0 (ListFault.Log LogFault.Device) same)))
 
 pub returns-in-Ok-clause-answer : goal.returns-in-Ok-clause-answer
 returns-in-Ok-clause-answer g c =
     let t = c.loop-index-test.false in
-    list_ends c.args.directory.value c.args.header (g.F.Files.state c.args.files.now)
-    (g.F.Files.state c.loop-index.files) c.loop-index.index c.loop-index.entries.items c.put_in_order.new.entries.items
+    list_ends c.args.directory.value c.args.header c.put_in_order.new.entries.items
     (omega (arith, t)) c.loop-index.invariant.1 c.in-Ok.ensures

@@ -11,7 +11,7 @@ returns-then-has_name-clause-found c =
     let is : slot_in c.args.form (part (slot_len c.args.form * c.loop-place.place) (slot_len c.args.form) c.args.block.now)
     ≡ Some c.in-Some.view = sym (ap (slot_in c.args.form) c.nth_slot-slot.ensures.bytes) ∙ there in
     let same = (c.has_name.ensures c.args.form c.in-Some.view there).0 c.if-has_name.true in
-    scan_hit c.args.form c.args.block.now c.args.count c.args.name.now c.loop-place.place _ c.in-Some.view c.loop-place-test.true
+    scan_hit c.args.form c.args.block.now c.args.count c.args.name.now c.loop-place.place _ c.loop-place-test.true
     c.loop-place.invariant is (sym same) c.number.ensures
 
 pub loop-place-preserved : goal.loop-place-preserved

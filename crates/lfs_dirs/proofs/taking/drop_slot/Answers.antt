@@ -18,50 +18,38 @@ returns-then-place-last-clause-done g c =
     let inside = c.requires.inside in
     let less = count_less c.args.header.form c.args.header.size in
     on_ok_weaker c.shrink.result
-    (λ shrinks. drops_last (g.F.Files.state c.args.files.now) (g.F.Files.state c.shrink.new.self) c.args.directory.value c.args.header
-    c.args.place (omega (arith, at, inside, less))
+    (λ shrinks. drops_last c.args.place (omega (arith, at, inside, less))
     (subst (λ (n : ℕ). Shrinks (g.F.Files.state c.args.files.now) (g.F.Files.state c.shrink.new.self) c.args.directory.value c.args.header
     (c.args.header.size - n)) value shrinks))
     c.shrink.ensures.done
 
 pub returns-in-Err-clause-redrafts : goal.returns-in-Err-clause-redrafts
 returns-in-Err-clause-redrafts g c =
-    redrafts_read (g.F.Files.state c.args.files.now) (g.F.Files.state c.block.new.self) c.block.ensures.reads
+    redrafts_read c.block.ensures.reads
 
 pub returns-in_err-shrink-clause-redrafts : goal.returns-in_err-shrink-clause-redrafts
 returns-in_err-shrink-clause-redrafts g c =
-    redrafts_more (g.F.Files.state c.args.files.now) (g.F.Files.state c.block.new.self) (g.F.Files.state c.shrink-2.new.self)
-    (g.met.F.Files.lawful c.args.files.now) (redrafts_read (g.F.Files.state c.args.files.now)
-    (g.F.Files.state c.block.new.self) c.block.ensures.reads) c.shrink-2.ensures.redrafts
+    redrafts_more (g.met.F.Files.lawful c.args.files.now) (redrafts_read c.block.ensures.reads) c.shrink-2.ensures.redrafts
 
 pub returns-in_err-write_at-clause-redrafts : goal.returns-in_err-write_at-clause-redrafts
 returns-in_err-write_at-clause-redrafts g c =
-    redrafts_more (g.F.Files.state c.args.files.now) (g.F.Files.state c.shrink-2.new.self) (g.F.Files.state c.write_at.new.self)
-    (g.met.F.Files.lawful c.args.files.now)
-    (redrafts_more (g.F.Files.state c.args.files.now) (g.F.Files.state c.block.new.self) (g.F.Files.state c.shrink-2.new.self)
-    (g.met.F.Files.lawful c.args.files.now) (redrafts_read (g.F.Files.state c.args.files.now)
-    (g.F.Files.state c.block.new.self) c.block.ensures.reads) c.shrink-2.ensures.redrafts) c.write_at.ensures.redrafts
+    redrafts_more (g.met.F.Files.lawful c.args.files.now) (redrafts_more (g.met.F.Files.lawful c.args.files.now) (redrafts_read
+    c.block.ensures.reads) c.shrink-2.ensures.redrafts) c.write_at.ensures.redrafts
 
 pub returns-clause-redrafts : goal.returns-clause-redrafts
 returns-clause-redrafts g c =
-    redrafts_more (g.F.Files.state c.args.files.now) (g.F.Files.state c.shrink-2.new.self) (g.F.Files.state c.write_at.new.self)
-    (g.met.F.Files.lawful c.args.files.now)
-    (redrafts_more (g.F.Files.state c.args.files.now) (g.F.Files.state c.block.new.self) (g.F.Files.state c.shrink-2.new.self)
-    (g.met.F.Files.lawful c.args.files.now) (redrafts_read (g.F.Files.state c.args.files.now)
-    (g.F.Files.state c.block.new.self) c.block.ensures.reads) c.shrink-2.ensures.redrafts) c.write_at.ensures.redrafts
+    redrafts_more (g.met.F.Files.lawful c.args.files.now) (redrafts_more (g.met.F.Files.lawful c.args.files.now) (redrafts_read
+    c.block.ensures.reads) c.shrink-2.ensures.redrafts) c.write_at.ensures.redrafts
 
 pub returns-in_err-shrink-clause-failed : goal.returns-in_err-shrink-clause-failed
 returns-in_err-shrink-clause-failed g c =
     let p = err_from_is_err_and c.from_residual.result c.from_residual.ensures.1 in rw (p.1, p.2)
-    (λ other. fault_more (g.F.Files.state c.args.files.now) (g.F.Files.state c.block.new.self)
-    (g.F.Files.state c.shrink-2.new.self) c.block.ensures.reads (c.in_err-shrink.ensures.failed other))
+    (λ other. fault_more (g.F.Files.state c.shrink-2.new.self) c.block.ensures.reads (c.in_err-shrink.ensures.failed other))
 
 pub returns-in_err-write_at-clause-failed : goal.returns-in_err-write_at-clause-failed
 returns-in_err-write_at-clause-failed g c =
     let p = err_from_is_err_and c.from_residual-in_err-write_at.result c.from_residual-in_err-write_at.ensures.1 in rw (p.1, p.2)
-    (λ other. fails_last (g.F.Files.state c.args.files.now) (g.F.Files.state c.block.new.self) (g.F.Files.state c.shrink-2.new.self)
-    (g.F.Files.state c.write_at.new.self) c.args.directory.value c.args.header (c.args.header.size - c.slot_len-slot.result)
-    c.block.ensures.reads c.shrink-2.ensures.redrafts c.write_at.ensures.redrafts c.in_ok-shrink.ensures.done
+    (λ other. fails_last c.block.ensures.reads c.shrink-2.ensures.redrafts c.write_at.ensures.redrafts c.in_ok-shrink.ensures.done
     (c.in_err-write_at.ensures.failed other))
 
 pub returns-clause-done : goal.returns-clause-done
@@ -75,7 +63,7 @@ returns-clause-done g c =
     count_less c.args.header.form c.args.header.size in
     let long = c.nth_slot-bytes.ensures.long in
     let read = slot_read (g.F.Files.state c.args.files.now) (g.F.Files.state c.block.new.self) c.args.directory.value c.args.header
-    ((c.args.header.size - slot_len c.args.header.form) / slot_len c.args.header.form) c.block.new.out c.nth_slot-bytes.result.now
+    ((c.args.header.size - slot_len c.args.header.form) / slot_len c.args.header.form) c.block.new.out
     (subst (λ (n : ℕ). c.nth_slot-bytes.result.now ≡ part (slot_len c.args.header.form
     * ((c.args.header.size - n) / n % per_block c.args.header.form)) (slot_len c.args.header.form) c.block.new.out) value
     (subst (λ (p : ℕ). c.nth_slot-bytes.result.now ≡ part (slot_len c.args.header.form * ((c.args.header.size - c.slot_len-slot.result)
@@ -84,8 +72,7 @@ returns-clause-done g c =
     ((c.args.header.size - n) / n / per_block c.args.header.form) c.block.new.out) value
     (subst (λ (p : ℕ). TellsBlock (g.F.Files.state c.args.files.now) (g.F.Files.state c.block.new.self) c.args.directory.value
     ((c.args.header.size - c.slot_len-slot.result) / c.slot_len-slot.result / p) c.block.new.out) per c.in-Ok.ensures.answer)) in
-    drops_other (g.F.Files.state c.args.files.now) (g.F.Files.state c.block.new.self) (g.F.Files.state c.shrink-2.new.self)
-    (g.F.Files.state c.write_at.new.self) c.args.directory.value c.args.header c.args.place c.nth_slot-bytes.result.now
+    drops_other c.args.place
     (omega (arith, other, inside, last)) long c.block.ensures.reads c.shrink-2.ensures.redrafts c.write_at.ensures.redrafts
     (subst (λ (p : ℕ). ReadsSlot (g.F.Files.state c.args.files.now) (g.F.Files.state c.block.new.self) c.args.directory.value c.args.header
     p c.nth_slot-bytes.result.now) last read)
@@ -115,7 +102,7 @@ returns-clause-counted g c =
     count_less c.args.header.form c.args.header.size in
     let long = c.nth_slot-bytes.ensures.long in
     let read = slot_read (g.F.Files.state c.args.files.now) (g.F.Files.state c.block.new.self) c.args.directory.value c.args.header
-    ((c.args.header.size - slot_len c.args.header.form) / slot_len c.args.header.form) c.block.new.out c.nth_slot-bytes.result.now
+    ((c.args.header.size - slot_len c.args.header.form) / slot_len c.args.header.form) c.block.new.out
     (subst (λ (n : ℕ). c.nth_slot-bytes.result.now ≡ part (slot_len c.args.header.form
     * ((c.args.header.size - n) / n % per_block c.args.header.form)) (slot_len c.args.header.form) c.block.new.out) value
     (subst (λ (p : ℕ). c.nth_slot-bytes.result.now ≡ part (slot_len c.args.header.form * ((c.args.header.size - c.slot_len-slot.result)
@@ -124,8 +111,7 @@ returns-clause-counted g c =
     ((c.args.header.size - n) / n / per_block c.args.header.form) c.block.new.out) value
     (subst (λ (p : ℕ). TellsBlock (g.F.Files.state c.args.files.now) (g.F.Files.state c.block.new.self) c.args.directory.value
     ((c.args.header.size - c.slot_len-slot.result) / c.slot_len-slot.result / p) c.block.new.out) per c.in-Ok.ensures.answer)) in
-    counts_other (g.F.Files.state c.args.files.now) (g.F.Files.state c.block.new.self) (g.F.Files.state c.shrink-2.new.self)
-    (g.F.Files.state c.write_at.new.self) c.args.directory.value c.args.header c.args.place c.nth_slot-bytes.result.now
+    counts_other c.args.place
     (omega (arith, other, inside, last)) long c.block.ensures.reads c.shrink-2.ensures.redrafts c.write_at.ensures.redrafts
     (subst (λ (p : ℕ). ReadsSlot (g.F.Files.state c.args.files.now) (g.F.Files.state c.block.new.self) c.args.directory.value c.args.header
     p c.nth_slot-bytes.result.now) last read)

@@ -11,8 +11,7 @@ loop-place-preserved c =
     let more = c.in_ok-put_wide_slot.ensures.long in
     let low = c.loop-place-test.true in (
       omega (arith, was, more, low),
-      wide_goes_on c.args.form c.args.block.now c.args.count c.args.slots.now.items c.loop-place.slots.items c.put_wide_slot.new.slots.items
-          c.nth_slot.result.now c.loop-place.place
+      wide_goes_on c.args.form c.args.block.now c.args.count c.put_wide_slot.new.slots.items
           c.loop-place-test.true c.nth_slot.ensures.bytes c.loop-place.invariant.1 c.in_ok-put_wide_slot.ensures.done
           c.in_ok-put_wide_slot.ensures.formed,
     )
@@ -21,5 +20,4 @@ pub returns-clause-long : goal.returns-clause-long
 returns-clause-long c = let was = c.loop-place.invariant.0 in let past = c.loop-place-test.false in omega (arith, was, past)
 
 pub returns-clause-done : goal.returns-clause-done
-returns-clause-done c = wide_ends c.args.form c.args.block.now c.args.count c.args.slots.now.items c.loop-place.slots.items
-    c.loop-place.place c.loop-place-test.false c.loop-place.invariant.1
+returns-clause-done c = wide_ends c.args.form c.args.block.now c.args.count c.loop-place-test.false c.loop-place.invariant.1

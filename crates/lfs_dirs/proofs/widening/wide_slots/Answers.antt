@@ -7,8 +7,7 @@ use Rattle.lfs_dirs.proofs.Widths.{blocks_low, blocks_past}
 use Rattle.lfs_dirs.proofs.widening.wide_slots.Goals as goal
 
 pub loop-index-init : goal.loop-index-init
-loop-index-init g c = widening_begins c.args.directory.value c.args.header (g.F.Files.state c.args.files.now) c.new-slots.result.items
-    c.new-slots.ensures.items
+loop-index-init g c = widening_begins c.args.directory.value c.args.header c.new-slots.ensures.items
 
 pub loop-index-preserved : goal.loop-index-preserved
 loop-index-preserved g c =
@@ -16,13 +15,11 @@ loop-index-preserved g c =
     let e = c.div_ceil-index-end.ensures in
     let all = c.slots_of-all.ensures in
     let low : per_block c.args.header.form * c.loop-index.index < slot_count c.args.header =
-    (let less = blocks_low c.args.header.form c.loop-index.index c.slots_of-all.result c.slots_in_block-whole.result
+    (let less = blocks_low c.args.header.form c.loop-index.index c.slots_of-all.result
     c.slots_in_block-whole.ensures.value (omega (arith, t, e)) in omega (arith, less, all)) in
-    widening_goes_on c.args.directory.value c.args.header (g.F.Files.state c.args.files.now) (g.F.Files.state c.loop-index.files)
-    (g.F.Files.state c.widen_nth.new.files)
-    c.loop-index.index (count_in_nth c.args.header c.loop-index.index) c.loop-index.slots.items refl low c.loop-index.invariant
-    c.widen_nth.new.slots.items (g.met.F.Files.lawful c.args.files.now) c.widen_nth.ensures.gathers.reads c.in_ok-widen_nth.ensures.long
-    c.in_ok-widen_nth.ensures.done
+    widening_goes_on c.args.directory.value c.args.header (g.F.Files.state c.widen_nth.new.files)
+    (count_in_nth c.args.header c.loop-index.index) refl low c.loop-index.invariant
+    (g.met.F.Files.lawful c.args.files.now) c.widen_nth.ensures.gathers.reads c.in_ok-widen_nth.ensures.long c.in_ok-widen_nth.ensures.done
 
 pub returns-in_err-widen_nth-clause-failed : goal.returns-in_err-widen_nth-clause-failed
 returns-in_err-widen_nth-clause-failed g c =
@@ -31,20 +28,16 @@ returns-in_err-widen_nth-clause-failed g c =
     let e = c.div_ceil-index-end.ensures in
     let all = c.slots_of-all.ensures in
     let low : per_block c.args.header.form * c.loop-index.index < slot_count c.args.header =
-    (let less = blocks_low c.args.header.form c.loop-index.index c.slots_of-all.result c.slots_in_block-whole.result
+    (let less = blocks_low c.args.header.form c.loop-index.index c.slots_of-all.result
     c.slots_in_block-whole.ensures.value (omega (arith, t, e)) in omega (arith, less, all)) in
-    widening_fails c.args.directory.value c.args.header (g.F.Files.state c.args.files.now) (g.F.Files.state c.loop-index.files)
-    (g.F.Files.state c.widen_nth.new.files)
-    c.loop-index.index (count_in_nth c.args.header c.loop-index.index) c.loop-index.slots.items refl low c.loop-index.invariant
-    (c.in_err-widen_nth.ensures.failed other))
+    widening_fails c.args.directory.value c.args.header (g.F.Files.state c.widen_nth.new.files)
+    (count_in_nth c.args.header c.loop-index.index) refl low c.loop-index.invariant (c.in_err-widen_nth.ensures.failed other))
 
 pub returns-clause-answer : goal.returns-clause-answer
 returns-clause-answer g c =
     let t = c.loop-index-test.false in
     let e = c.div_ceil-index-end.ensures in
-    widening_ends c.args.directory.value c.args.header (g.F.Files.state c.args.files.now)
-    (g.F.Files.state c.loop-index.files) c.loop-index.index c.loop-index.slots.items
-    (let past = blocks_past c.args.header.form c.loop-index.index c.slots_of-all.result c.slots_in_block-whole.result
+    widening_ends c.args.directory.value c.args.header (let past = blocks_past c.args.header.form c.loop-index.index c.slots_of-all.result
     c.slots_in_block-whole.ensures.value (omega (arith, t, e)) in let all = c.slots_of-all.ensures in
     omega (arith, past, all)) c.loop-index.invariant
 
@@ -52,9 +45,7 @@ pub returns-clause-long : goal.returns-clause-long
 returns-clause-long g c =
     let t = c.loop-index-test.false in
     let e = c.div_ceil-index-end.ensures in
-    widening_long c.args.directory.value c.args.header (g.F.Files.state c.args.files.now)
-    (g.F.Files.state c.loop-index.files) c.loop-index.index c.loop-index.slots.items
-    (let past = blocks_past c.args.header.form c.loop-index.index c.slots_of-all.result c.slots_in_block-whole.result
+    widening_long c.args.directory.value c.args.header (let past = blocks_past c.args.header.form c.loop-index.index c.slots_of-all.result
     c.slots_in_block-whole.ensures.value (omega (arith, t, e)) in let all = c.slots_of-all.ensures in
     omega (arith, past, all)) c.loop-index.invariant
 
@@ -62,8 +53,7 @@ pub returns-clause-few : goal.returns-clause-few
 returns-clause-few g c =
     let t = c.loop-index-test.false in
     let e = c.div_ceil-index-end.ensures in
-    widening_few c.args.directory.value c.args.header (g.F.Files.state c.args.files.now)
-    (g.F.Files.state c.loop-index.files) c.loop-index.index c.loop-index.slots.items c.requires.size
-    (let past = blocks_past c.args.header.form c.loop-index.index c.slots_of-all.result c.slots_in_block-whole.result
+    widening_few c.args.directory.value c.args.header c.requires.size
+    (let past = blocks_past c.args.header.form c.loop-index.index c.slots_of-all.result
     c.slots_in_block-whole.ensures.value (omega (arith, t, e)) in let all = c.slots_of-all.ensures in
     omega (arith, past, all)) c.loop-index.invariant

@@ -10,39 +10,25 @@ use Rattle.lfs_dirs.proofs.widening.widen.Goals as goal
 
 pub returns-in_err-slots-clause-redrafts : goal.returns-in_err-slots-clause-redrafts
 returns-in_err-slots-clause-redrafts g c =
-    redrafts_read (g.F.Files.state c.args.files.now) (g.F.Files.state c.wide_slots.new.files) c.wide_slots.ensures.gathers.reads
+    redrafts_read c.wide_slots.ensures.gathers.reads
 
 pub returns-in_err-reform-clause-redrafts : goal.returns-in_err-reform-clause-redrafts
 returns-in_err-reform-clause-redrafts g c =
-    redrafts_more (g.F.Files.state c.args.files.now) (g.F.Files.state c.wide_slots.new.files) (g.F.Files.state c.reform.new.self)
-    (g.met.F.Files.lawful c.args.files.now)
-    (redrafts_read (g.F.Files.state c.args.files.now) (g.F.Files.state c.wide_slots.new.files) c.wide_slots.ensures.gathers.reads)
-    c.reform.ensures.redrafts
+    redrafts_more (g.met.F.Files.lawful c.args.files.now) (redrafts_read c.wide_slots.ensures.gathers.reads) c.reform.ensures.redrafts
 
 pub returns-then-is_empty-clause-redrafts : goal.returns-then-is_empty-clause-redrafts
 returns-then-is_empty-clause-redrafts g c =
-    redrafts_more (g.F.Files.state c.args.files.now) (g.F.Files.state c.wide_slots.new.files) (g.F.Files.state c.reform.new.self)
-    (g.met.F.Files.lawful c.args.files.now)
-    (redrafts_read (g.F.Files.state c.args.files.now) (g.F.Files.state c.wide_slots.new.files) c.wide_slots.ensures.gathers.reads)
-    c.reform.ensures.redrafts
+    redrafts_more (g.met.F.Files.lawful c.args.files.now) (redrafts_read c.wide_slots.ensures.gathers.reads) c.reform.ensures.redrafts
 
 pub returns-in_err-write_at-clause-redrafts : goal.returns-in_err-write_at-clause-redrafts
 returns-in_err-write_at-clause-redrafts g c =
-    redrafts_more (g.F.Files.state c.args.files.now) (g.F.Files.state c.reform.new.self) (g.F.Files.state c.write_at.new.self)
-    (g.met.F.Files.lawful c.args.files.now)
-    (redrafts_more (g.F.Files.state c.args.files.now) (g.F.Files.state c.wide_slots.new.files) (g.F.Files.state c.reform.new.self)
-    (g.met.F.Files.lawful c.args.files.now)
-    (redrafts_read (g.F.Files.state c.args.files.now) (g.F.Files.state c.wide_slots.new.files) c.wide_slots.ensures.gathers.reads)
-    c.reform.ensures.redrafts) c.write_at.ensures.redrafts
+    redrafts_more (g.met.F.Files.lawful c.args.files.now) (redrafts_more (g.met.F.Files.lawful c.args.files.now)
+    (redrafts_read c.wide_slots.ensures.gathers.reads) c.reform.ensures.redrafts) c.write_at.ensures.redrafts
 
 pub returns-clause-redrafts : goal.returns-clause-redrafts
 returns-clause-redrafts g c =
-    redrafts_more (g.F.Files.state c.args.files.now) (g.F.Files.state c.reform.new.self) (g.F.Files.state c.write_at.new.self)
-    (g.met.F.Files.lawful c.args.files.now)
-    (redrafts_more (g.F.Files.state c.args.files.now) (g.F.Files.state c.wide_slots.new.files) (g.F.Files.state c.reform.new.self)
-    (g.met.F.Files.lawful c.args.files.now)
-    (redrafts_read (g.F.Files.state c.args.files.now) (g.F.Files.state c.wide_slots.new.files) c.wide_slots.ensures.gathers.reads)
-    c.reform.ensures.redrafts) c.write_at.ensures.redrafts
+    redrafts_more (g.met.F.Files.lawful c.args.files.now) (redrafts_more (g.met.F.Files.lawful c.args.files.now)
+    (redrafts_read c.wide_slots.ensures.gathers.reads) c.reform.ensures.redrafts) c.write_at.ensures.redrafts
 
 pub returns-then-is_empty-clause-done : goal.returns-then-is_empty-clause-done
 returns-then-is_empty-clause-done g c =

@@ -9,9 +9,8 @@ returns-in-Err-clause-failed g c other =
 
 pub returns-in-Ok-put_wide_slots-clause-done : goal.returns-in-Ok-put_wide_slots-clause-done
 returns-in-Ok-put_wide_slots-clause-done g c =
-    block_widened (g.F.Files.state c.args.files.now) (g.F.Files.state c.block.new.self) c.args.form c.args.directory.value c.args.index
-    c.args.count c.requires.few
-    c.block.new.out c.in-Ok.ensures.answer c.args.slots.now.items c.put_wide_slots.new.slots.items c.in-Ok-put_wide_slots.ensures.done
+    block_widened (g.F.Files.state c.args.files.now) (g.F.Files.state c.block.new.self) c.args.directory.value c.args.index
+    c.args.count c.requires.few c.block.new.out c.in-Ok.ensures.answer c.in-Ok-put_wide_slots.ensures.done
 
 pub returns-in-Err-NoSlot-clause-failed : goal.returns-in-Err-NoSlot-clause-failed
 returns-in-Err-NoSlot-clause-failed g c other =

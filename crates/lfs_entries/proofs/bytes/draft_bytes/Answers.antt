@@ -3,5 +3,4 @@ use Rattle.lfs_entries.proofs.bytes.draft_bytes.Goals as goal
 
 pub returns-clause-counted : goal.returns-clause-counted
 returns-clause-counted g c =
-    counts_then (g.F.Files.state c.args.files.now) (g.F.Files.state c.header_of.new.files) (g.F.Files.state c.write_at.new.self)
-    c.header_of.ensures.reads c.in_ok-write_at.ensures.counted
+    counts_then (g.F.Files.state c.write_at.new.self) c.header_of.ensures.reads c.in_ok-write_at.ensures.counted

@@ -8,12 +8,11 @@ returns-then-not-changes-clause-done g c =
     subst (λ t.
     Relinks (g.F.Files.state c.args.files.now) (g.F.Files.state c.args.files.now) t c.args.number.value c.args.header c.args.links)
     (sym c.if-not-changes.true)
-    (links_stay (g.F.Files.state c.args.files.now) c.args.number.value c.args.header c.args.links (c.requires.same c.if-not-changes.true))
+    (links_stay (g.F.Files.state c.args.files.now) c.args.number.value c.args.header (c.requires.same c.if-not-changes.true))
 
 pub returns-clause-done : goal.returns-clause-done
 returns-clause-done g c =
     subst (λ t.
     Relinks (g.F.Files.state c.args.files.now) (g.F.Files.state c.set_links.new.self) t c.args.number.value c.args.header c.args.links)
-    (sym c.if-not-changes.false)
-    (links_drafted (g.F.Files.state c.args.files.now) (g.F.Files.state c.set_links.new.self) c.args.number.value c.args.header c.args.links
+    (sym c.if-not-changes.false) (links_drafted
     (c.requires.linked c.if-not-changes.false) c.in_ok-set_links.ensures.done c.in_ok-set_links.ensures.counted)

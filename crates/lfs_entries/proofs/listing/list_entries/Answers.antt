@@ -12,14 +12,12 @@ returns-in_err-names-clause-failed g c =
 
 pub returns-clause-answer : goal.returns-clause-answer
 returns-clause-answer g c =
-    IfOk-weaker c.entries_of.result _ _ (λ told. listed_told (λ m. IsListed m) (g.F.Files.state c.args.files.now)
-    (g.F.Files.state c.list.new.files) (g.F.Files.state c.entries_of.new.files) c.args.directory.value
+    IfOk-weaker c.entries_of.result _ _ (λ told. listed_told (λ m. IsListed m) c.args.directory.value
     c.args.header c.in_ok-names.names.items c.in_ok-names.ensures.reads c.entries_of.ensures.only.reads c.in_ok-names.ensures.answer
     told.items) c.entries_of.ensures.answer
 
 pub returns-clause-failed : goal.returns-clause-failed
 returns-clause-failed g c =
-    IfErr-weaker c.entries_of.result _ _ (listed_fails (λ m. IsListed m) (g.F.Files.state c.args.files.now)
-    (g.F.Files.state c.list.new.files) (g.F.Files.state c.entries_of.new.files) c.args.directory.value
+    IfErr-weaker c.entries_of.result _ _ (listed_fails (λ m. IsListed m) c.args.directory.value
     c.args.header c.in_ok-names.names.items c.in_ok-names.ensures.reads c.entries_of.ensures.only.reads c.in_ok-names.ensures.answer)
     c.entries_of.ensures.failed

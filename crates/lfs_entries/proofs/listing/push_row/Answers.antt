@@ -6,8 +6,7 @@ pub returns-clause-done : goal.returns-clause-done
 returns-clause-done g c = (
   _,
   c.in-Ok.ensures.items,
-  row_listed (g.F.Files.state c.args.files.now) (g.F.Files.state c.header_of.new.files)
-      (g.F.Files.state c.read_head.new.files) c.args.directory.value c.args.name c.in_ok-header.header
+  row_listed c.args.name c.in_ok-header.header
       c.header_of.ensures.reads c.read_head.ensures.only.reads c.in_ok-header.ensures.answer _ c.from.ensures refl
       (c.from-2).ensures refl refl
       (c.from-3).ensures c.in_ok-head.ensures.answer,

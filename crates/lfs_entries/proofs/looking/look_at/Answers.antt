@@ -7,8 +7,7 @@ use Rattle.lfs_entries.proofs.looking.look_at.Goals as goal
 
 pub returns-in_err-header-clause-refused : goal.returns-in_err-header-clause-refused
 returns-in_err-header-clause-refused g c =
-    let p = err_from_is_err_and c.from_residual-in_err-header.result c.from_residual-in_err-header.ensures.1 in rw (p.1, p.2)
-    (object_failed (g.F.Files.state c.args.files.now) (g.F.Files.state c.look_in.new.files) (g.F.Files.state c.header_of.new.files)
+    let p = err_from_is_err_and c.from_residual-in_err-header.result c.from_residual-in_err-header.ensures.1 in rw (p.1, p.2) (object_failed
     c.args.directory.value c.in-Some.found.number.value c.args.name.now c.in_ok-holder.holder
     c.look_in.ensures.only.reads c.header_of.ensures.reads
     (subst (λ o. FindsNumber (g.F.Files.state c.args.files.now) (g.F.Files.state c.look_in.new.files) c.args.directory.value

@@ -23,18 +23,15 @@ returns-in_err-take_name-clause-failed g c =
 
 pub draft_target-requires-clause-size : goal.draft_target-requires-clause-size
 draft_target-requires-clause-size g c =
-    (later_fits c.args.source c.args.target c.requires.may _ _ c.later_holder-holder.result c.in_ok-from.ensures.first
-    c.in_ok-from.ensures.second c.later_holder-holder.ensures).size
+    (later_fits c.requires.may c.in_ok-from.ensures.first c.in_ok-from.ensures.second c.later_holder-holder.ensures).size
 
 pub draft_target-requires-clause-room : goal.draft_target-requires-clause-room
 draft_target-requires-clause-room g c =
-    (later_fits c.args.source c.args.target c.requires.may _ _ c.later_holder-holder.result c.in_ok-from.ensures.first
-    c.in_ok-from.ensures.second c.later_holder-holder.ensures).room
+    (later_fits c.requires.may c.in_ok-from.ensures.first c.in_ok-from.ensures.second c.later_holder-holder.ensures).room
 
 pub draft_target-requires-clause-name : goal.draft_target-requires-clause-name
 draft_target-requires-clause-name g c =
-    (later_fits c.args.source c.args.target c.requires.may _ _ c.later_holder-holder.result c.in_ok-from.ensures.first
-    c.in_ok-from.ensures.second c.later_holder-holder.ensures).is_name
+    (later_fits c.requires.may c.in_ok-from.ensures.first c.in_ok-from.ensures.second c.later_holder-holder.ensures).is_name
 
 pub returns-clause-done : goal.returns-clause-done
 returns-clause-done g c =
@@ -85,7 +82,6 @@ returns-clause-failed g c =
     c.relink_holders.ensures.redrafts c.take_name.ensures.only.redrafts c.in_ok-drop_replaced.ensures.done c.in_ok-from.ensures.done
     (subst (λ (h : Header). Takes (g.F.Files.state c.relink_holders.new.files) (g.F.Files.state c.take_name.new.files)
     c.args.source.directory.value h c.args.source.name.now) c.in_ok-from.ensures.first c.in_ok-take_name.ensures.done)
-    (g.F.Files.state c.draft_target.new.files) c.draft_target.ensures.only.redrafts)
-    (subst (λ (h : Header).
+    c.draft_target.ensures.only.redrafts) (subst (λ (h : Header).
     IfErr c.draft_target.result (FailsWhere (g.F.Files.state c.take_name.new.files) (g.F.Files.state c.draft_target.new.files)
     (HasFoundName c.args.target.replaced c.args.target.directory.value h c.args.target.name.now))) holder c.draft_target.ensures.failed)

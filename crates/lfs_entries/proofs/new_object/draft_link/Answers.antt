@@ -5,13 +5,10 @@ use Rattle.lfs_entries.proofs.new_object.draft_link.Goals as goal
 pub returns-clause-done : goal.returns-clause-done
 returns-clause-done g c =
     let few : length c.args.text.now ≤ 1023 = search rules in
-    link_drafted (g.F.Files.state c.args.files.now) (g.F.Files.state c.create_link.new.self)
-    (g.F.Files.state c.write_at.new.self) c.args.number.value
-    c.args.text.now few c.in_ok-create_link.ensures.done c.in_ok-write_at.ensures.done
+    link_drafted (g.F.Files.state c.write_at.new.self) c.args.text.now few c.in_ok-create_link.ensures.done c.in_ok-write_at.ensures.done
 
 pub returns-clause-counted : goal.returns-clause-counted
 returns-clause-counted g c =
     let few : length c.args.text.now ≤ 1023 = search rules in
-    link_counted (g.F.Files.state c.args.files.now) (g.F.Files.state c.create_link.new.self)
-    (g.F.Files.state c.write_at.new.self) c.args.number.value
+    link_counted (g.F.Files.state c.write_at.new.self)
     c.args.text.now few c.in_ok-create_link.ensures.done c.in_ok-create_link.ensures.counted c.in_ok-write_at.ensures.counted

@@ -6,7 +6,7 @@ pub returns-then-is_directory-clause-refused : goal.returns-then-is_directory-cl
 returns-then-is_directory-clause-refused g c = inr (
   sym c.is_dots.ensures ∙ c.if-is_dots.false,
   gives_some (g.F.Files.state c.args.files.now) (g.F.Files.state c.look_at.new.files) c.args.directory.value c.args.last.name.now
-      c.in_ok-holder.holder c.in_ok-holder.ensures.short c.in_ok-holder.found c.in-Some.object c.in-Some.is c.in_ok-holder.ensures.found
+      c.in_ok-holder.holder c.in_ok-holder.ensures.short c.in-Some.is c.in_ok-holder.ensures.found
       _ (c.is_directory.ensures.yes c.if-is_directory.true),
 )
 
@@ -15,6 +15,6 @@ returns-then-last-clause-refused g c = (
   sym c.is_dots.ensures ∙ c.if-is_dots.false,
   c.if-last.true,
   gives_some (g.F.Files.state c.args.files.now) (g.F.Files.state c.look_at.new.files) c.args.directory.value c.args.last.name.now
-      c.in_ok-holder.holder c.in_ok-holder.ensures.short c.in_ok-holder.found c.in-Some.object c.in-Some.is c.in_ok-holder.ensures.found
+      c.in_ok-holder.holder c.in_ok-holder.ensures.short c.in-Some.is c.in_ok-holder.ensures.found
       _ (c.is_directory.ensures.no c.if-is_directory.false),
 )

@@ -4,7 +4,6 @@ use Rattle.lfs_entries.proofs.reading.read_link.Goals as goal
 
 pub returns-clause-answer : goal.returns-clause-answer
 returns-clause-answer g c =
-    IfOk-weaker c.read_sized.result _ _ (λ bytes. text_read (g.F.Files.state c.args.files.now) (g.F.Files.state c.header_of.new.files)
-    (g.F.Files.state c.read_sized.new.files) c.header_of.ensures.reads
+    IfOk-weaker c.read_sized.result _ _ (λ bytes. text_read c.header_of.ensures.reads
     c.read_sized.ensures.only.reads c.args.number.value c.in_ok-header.header c.in_ok-header.ensures.answer
     (c.is_link.ensures.yes c.if-not-is_link.false) bytes.items) c.read_sized.ensures.answer

@@ -15,11 +15,9 @@ returns-in_err-target-clause-refused g c =
     (let s = g.F.Files.state c.args.files.now in
     let a = g.F.Files.state c.find_source.new.files in
     let b = g.F.Files.state c.find_target.new.files in
-    of_second c.in_ok-source.source
-    (source_still s a b c.in_ok-source.ensures.only.reads c.in_err-target.ensures.only.reads c.args.directory.value c.args.from.name.now
-    c.args.from.slash c.in_ok-source.source c.in_ok-source.ensures.found)
-    (next_behind s a b c.in_ok-source.ensures.only.reads c.in_err-target.ensures.only.reads
-    (here c.args.chain) c.args.to.name.now c.args.to.slash
+    of_second c.in_ok-source.source (source_still c.in_ok-source.ensures.only.reads c.in_err-target.ensures.only.reads
+     c.in_ok-source.ensures.found)
+    (next_behind c.in_ok-source.ensures.only.reads c.in_err-target.ensures.only.reads (here c.args.chain) c.args.to.name.now c.args.to.slash
     c.in_ok-source.source.object.header.kind c.in_err-target.field-0.0
     (subst (λ (d : ℕ). RefusesNext a b d c.args.to.name.now c.args.to.slash c.in_ok-source.source.object.header.kind
     c.in_err-target.field-0.0) c.directory.ensures.value c.in_err-target.ensures.refused)))
@@ -28,13 +26,9 @@ returns-in_err-target-clause-refused g c =
 pub returns-then-has_two_forms-clause-refused : goal.returns-then-has_two_forms-clause-refused
 returns-then-has_two_forms-clause-refused g c =
     let two = c.has_two_forms.ensures.two c.if-has_two_forms.true in
-    of_second c.in_ok-source.source
-    (source_still (g.F.Files.state c.args.files.now) (g.F.Files.state c.find_source.new.files) (g.F.Files.state c.find_target.new.files)
-    c.in_ok-source.ensures.only.reads c.in_ok-target.ensures.only.reads c.args.directory.value c.args.from.name.now c.args.from.slash
-    c.in_ok-source.source c.in_ok-source.ensures.found)
-    (λ may. never_two (g.F.Files.state c.args.files.now) (g.F.Files.state c.find_source.new.files) (g.F.Files.state c.find_target.new.files)
-    c.in_ok-source.ensures.only.reads c.in_ok-target.ensures.only.reads c.args.directory.value c.args.from.name.now c.args.from.slash
-    (here c.args.chain) c.args.to.name.now c.args.to.slash c.in_ok-source.source c.in_ok-target.target c.in_ok-source.ensures.found
+    of_second c.in_ok-source.source (source_still c.in_ok-source.ensures.only.reads c.in_ok-target.ensures.only.reads
+    c.in_ok-source.ensures.found)
+    (λ may. never_two c.in_ok-source.ensures.only.reads c.in_ok-target.ensures.only.reads c.in_ok-source.ensures.found
     (subst (λ (d : ℕ). FindsTarget (g.F.Files.state c.find_source.new.files) (g.F.Files.state c.find_target.new.files) d c.args.to.name.now
     c.args.to.slash c.in_ok-source.source.object.header.kind c.in_ok-target.target) c.directory.ensures.value
     c.in_ok-target.ensures.found) two.0 two.1)
@@ -43,10 +37,7 @@ pub returns-then-is_object-clause-taken : goal.returns-then-is_object-clause-tak
 returns-then-is_object-clause-taken g c = record {
   source = c.in_ok-source.source;
   target = c.in_ok-target.target;
-  both = both_found (g.F.Files.state c.args.files.now) (g.F.Files.state c.find_source.new.files) (g.F.Files.state c.find_target.new.files)
-      c.in_ok-source.ensures.only.reads c.in_ok-target.ensures.only.reads c.args.directory.value c.args.from.name.now c.args.from.slash
-      (here c.args.chain) c.args.to.name.now c.args.to.slash c.in_ok-source.source c.in_ok-target.target c.in_ok-source.ensures.found
-      (subst
+  both = both_found c.in_ok-source.ensures.only.reads c.in_ok-target.ensures.only.reads c.in_ok-source.ensures.found (subst
       (λ (d : ℕ). FindsTarget (g.F.Files.state c.find_source.new.files) (g.F.Files.state c.find_target.new.files) d c.args.to.name.now
       c.args.to.slash c.in_ok-source.source.object.header.kind c.in_ok-target.target) c.directory.ensures.value
       c.in_ok-target.ensures.found);
@@ -55,10 +46,8 @@ returns-then-is_object-clause-taken g c = record {
 
 pub returns-then-stands_in-clause-refused : goal.returns-then-stands_in-clause-refused
 returns-then-stands_in-clause-refused g c =
-    of_within c.in_ok-source.source c.in_ok-target.target
-    (both_found (g.F.Files.state c.args.files.now) (g.F.Files.state c.find_source.new.files) (g.F.Files.state c.find_target.new.files)
-    c.in_ok-source.ensures.only.reads c.in_ok-target.ensures.only.reads c.args.directory.value c.args.from.name.now c.args.from.slash
-    (here c.args.chain) c.args.to.name.now c.args.to.slash c.in_ok-source.source c.in_ok-target.target c.in_ok-source.ensures.found
+    of_within c.in_ok-source.source c.in_ok-target.target (both_found c.in_ok-source.ensures.only.reads c.in_ok-target.ensures.only.reads
+     c.in_ok-source.ensures.found
     (subst (λ (d : ℕ). FindsTarget (g.F.Files.state c.find_source.new.files) (g.F.Files.state c.find_target.new.files) d c.args.to.name.now
     c.args.to.slash c.in_ok-source.source.object.header.kind c.in_ok-target.target) c.directory.ensures.value
     c.in_ok-target.ensures.found))
@@ -67,10 +56,8 @@ returns-then-stands_in-clause-refused g c =
 pub returns-in_err-check_target-clause-refused : goal.returns-in_err-check_target-clause-refused
 returns-in_err-check_target-clause-refused g c =
     let p = err_from_is_err_and c.from_residual-in_err-check_target.result c.from_residual-in_err-check_target.ensures.1 in rw (p.1, p.2)
-    (of_target c.in_ok-source.source c.in_ok-target.target
-    (both_found (g.F.Files.state c.args.files.now) (g.F.Files.state c.find_source.new.files) (g.F.Files.state c.find_target.new.files)
-    c.in_ok-source.ensures.only.reads c.in_ok-target.ensures.only.reads c.args.directory.value c.args.from.name.now c.args.from.slash
-    (here c.args.chain) c.args.to.name.now c.args.to.slash c.in_ok-source.source c.in_ok-target.target c.in_ok-source.ensures.found
+    (of_target c.in_ok-source.source c.in_ok-target.target (both_found c.in_ok-source.ensures.only.reads c.in_ok-target.ensures.only.reads
+     c.in_ok-source.ensures.found
     (subst (λ (d : ℕ). FindsTarget (g.F.Files.state c.find_source.new.files) (g.F.Files.state c.find_target.new.files) d c.args.to.name.now
     c.args.to.slash c.in_ok-source.source.object.header.kind c.in_ok-target.target) c.directory.ensures.value
     c.in_ok-target.ensures.found))
@@ -79,10 +66,7 @@ returns-in_err-check_target-clause-refused g c =
 
 pub returns-clause-taken : goal.returns-clause-taken
 returns-clause-taken g c = record {
-  both = both_found (g.F.Files.state c.args.files.now) (g.F.Files.state c.find_source.new.files) (g.F.Files.state c.find_target.new.files)
-      c.in_ok-source.ensures.only.reads c.in_ok-target.ensures.only.reads c.args.directory.value c.args.from.name.now c.args.from.slash
-      (here c.args.chain) c.args.to.name.now c.args.to.slash c.in_ok-source.source c.in_ok-target.target c.in_ok-source.ensures.found
-      (subst
+  both = both_found c.in_ok-source.ensures.only.reads c.in_ok-target.ensures.only.reads c.in_ok-source.ensures.found (subst
       (λ (d : ℕ). FindsTarget (g.F.Files.state c.find_source.new.files) (g.F.Files.state c.find_target.new.files) d c.args.to.name.now
       c.args.to.slash c.in_ok-source.source.object.header.kind c.in_ok-target.target) c.directory.ensures.value
       c.in_ok-target.ensures.found);

@@ -5,7 +5,7 @@ use Rattle.lfs_entries.proofs.renaming.find_source.Goals as goal
 pub returns-then-lacks_directory-clause-refused : goal.returns-then-lacks_directory-clause-refused
 returns-then-lacks_directory-clause-refused g c =
     gives_some (g.F.Files.state c.args.files.now) (g.F.Files.state c.look_at.new.files) c.args.directory.value c.args.last.name.now
-    c.in_ok-holder.holder c.in_ok-holder.ensures.short c.in_ok-holder.found c.in-Some.object c.in-Some.is c.in_ok-holder.ensures.found
+    c.in_ok-holder.holder c.in_ok-holder.ensures.short c.in-Some.is c.in_ok-holder.ensures.found
     _ (sym c.lacks_directory.ensures ∙ c.if-lacks_directory.true)
 
 pub returns-then-holder-lt2-clause-refused : goal.returns-then-holder-lt2-clause-refused

@@ -4,8 +4,7 @@ use Rattle.lfs_entries.proofs.renaming.stands_in.Goals as goal
 
 pub loop-directory-preserved : goal.loop-directory-preserved
 loop-directory-preserved c = record {
-  rises = subst (RisesTo c.args.chain c.args.number.value) (sym c.ascend.ensures)
-      (rises_more c.args.chain c.args.number.value c.loop-directory.chain c.loop-directory.invariant.rises
+  rises = subst (RisesTo c.args.chain c.args.number.value) (sym c.ascend.ensures) (rises_more c.loop-directory.invariant.rises
       (λ at. c.loop-directory-test.true (c.loop-directory.invariant.here ∙ at)));
   here = c.directory-above.ensures.value;
 }

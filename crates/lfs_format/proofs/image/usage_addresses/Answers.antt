@@ -7,4 +7,4 @@ pub returns : goal.returns
 returns c =
     let all : c.loop-index.index ≡ usage_blocks c.args.segments =
     omega (arith, c.usage_count-index-end.ensures, c.loop-index-test.false, c.loop-index.auto.index-end) in
-    addressed c.args.segments c.loop-index.index c.loop-index.usage all c.loop-index.invariant.count c.loop-index.invariant.each
+    addressed c.args.segments all c.loop-index.invariant.count c.loop-index.invariant.each

@@ -11,67 +11,67 @@ pub returns-in_err-write-clause-writes : goal.returns-in_err-write-clause-writes
 returns-in_err-write-clause-writes g c =
     let lawful = g.met.D.SectorDevice.lawful in
     let n = c.args.shape.segments in
-    let none = writes_none n _ (lawful c.args.device.now) in
-    writes_write n _ _ _ 2 _ (omega arith) (omega arith) (lawful c.args.device.now) none c.write.ensures.crash c.write.ensures.carries
+    let none = writes_none n (lawful c.args.device.now) in
+    writes_write n 2 _ (omega arith) (omega arith) (lawful c.args.device.now) none c.write.ensures.crash c.write.ensures.carries
     c.write.ensures.time
 
 pub returns-in_err-write-2-clause-writes : goal.returns-in_err-write-2-clause-writes
 returns-in_err-write-2-clause-writes g c =
     let lawful = g.met.D.SectorDevice.lawful in
     let n = c.args.shape.segments in
-    let none = writes_none n _ (lawful c.args.device.now) in
+    let none = writes_none n (lawful c.args.device.now) in
     let one =
-    writes_write n _ _ _ 2 _ (omega arith) (omega arith) (lawful c.args.device.now) none c.write.ensures.crash c.write.ensures.carries
+    writes_write n 2 _ (omega arith) (omega arith) (lawful c.args.device.now) none c.write.ensures.crash c.write.ensures.carries
     c.write.ensures.time in
-    writes_write n _ _ _ 3 _ (omega arith) (omega arith) (lawful c.write.new.self) one c.write-2.ensures.crash c.write-2.ensures.carries
+    writes_write n 3 _ (omega arith) (omega arith) (lawful c.write.new.self) one c.write-2.ensures.crash c.write-2.ensures.carries
     c.write-2.ensures.time
 
 pub returns-in_err-write-3-clause-writes : goal.returns-in_err-write-3-clause-writes
 returns-in_err-write-3-clause-writes g c =
     let lawful = g.met.D.SectorDevice.lawful in
     let n = c.args.shape.segments in
-    let none = writes_none n _ (lawful c.args.device.now) in
+    let none = writes_none n (lawful c.args.device.now) in
     let one =
-    writes_write n _ _ _ 2 _ (omega arith) (omega arith) (lawful c.args.device.now) none c.write.ensures.crash c.write.ensures.carries
+    writes_write n 2 _ (omega arith) (omega arith) (lawful c.args.device.now) none c.write.ensures.crash c.write.ensures.carries
     c.write.ensures.time in
     let two =
-    writes_write n _ _ _ 3 _ (omega arith) (omega arith) (lawful c.write.new.self) one c.write-2.ensures.crash c.write-2.ensures.carries
+    writes_write n 3 _ (omega arith) (omega arith) (lawful c.write.new.self) one c.write-2.ensures.crash c.write-2.ensures.carries
     c.write-2.ensures.time in
-    writes_write n _ _ _ 4 _ (omega arith) (omega arith) (lawful c.write-2.new.self) two c.write-3.ensures.crash c.write-3.ensures.carries
+    writes_write n 4 _ (omega arith) (omega arith) (lawful c.write-2.new.self) two c.write-3.ensures.crash c.write-3.ensures.carries
     c.write-3.ensures.time
 
 pub returns-in_err-write-4-clause-writes : goal.returns-in_err-write-4-clause-writes
 returns-in_err-write-4-clause-writes g c =
     let lawful = g.met.D.SectorDevice.lawful in
     let n = c.args.shape.segments in
-    let none = writes_none n _ (lawful c.args.device.now) in
+    let none = writes_none n (lawful c.args.device.now) in
     let some : 5 < 5 + usage_blocks n = omega (arith, c.args.shape.count.least) in
     let one =
-    writes_write n _ _ _ 2 _ (omega arith) (omega arith) (lawful c.args.device.now) none c.write.ensures.crash c.write.ensures.carries
+    writes_write n 2 _ (omega arith) (omega arith) (lawful c.args.device.now) none c.write.ensures.crash c.write.ensures.carries
     c.write.ensures.time in
     let two =
-    writes_write n _ _ _ 3 _ (omega arith) (omega arith) (lawful c.write.new.self) one c.write-2.ensures.crash c.write-2.ensures.carries
+    writes_write n 3 _ (omega arith) (omega arith) (lawful c.write.new.self) one c.write-2.ensures.crash c.write-2.ensures.carries
     c.write-2.ensures.time in
     let three =
-    writes_write n _ _ _ 4 _ (omega arith) (omega arith) (lawful c.write-2.new.self) two c.write-3.ensures.crash c.write-3.ensures.carries
+    writes_write n 4 _ (omega arith) (omega arith) (lawful c.write-2.new.self) two c.write-3.ensures.crash c.write-3.ensures.carries
     c.write-3.ensures.time in
-    writes_write n _ _ _ 5 _ (omega arith) some (lawful c.write-3.new.self) three c.write-4.ensures.crash c.write-4.ensures.carries
+    writes_write n 5 _ (omega arith) some (lawful c.write-3.new.self) three c.write-4.ensures.crash c.write-4.ensures.carries
     c.write-4.ensures.time
 
 pub returns-clause-writes : goal.returns-clause-writes
 returns-clause-writes g c =
     let lawful = g.met.D.SectorDevice.lawful in
     let n = c.args.shape.segments in
-    let none = writes_none n _ (lawful c.args.device.now) in
+    let none = writes_none n (lawful c.args.device.now) in
     let some : 5 < 5 + usage_blocks n = omega (arith, c.args.shape.count.least) in
     let one =
-    writes_write n _ _ _ 2 _ (omega arith) (omega arith) (lawful c.args.device.now) none c.write.ensures.crash c.write.ensures.carries
+    writes_write n 2 _ (omega arith) (omega arith) (lawful c.args.device.now) none c.write.ensures.crash c.write.ensures.carries
     c.write.ensures.time in
     let two =
-    writes_write n _ _ _ 3 _ (omega arith) (omega arith) (lawful c.write.new.self) one c.write-2.ensures.crash c.write-2.ensures.carries
+    writes_write n 3 _ (omega arith) (omega arith) (lawful c.write.new.self) one c.write-2.ensures.crash c.write-2.ensures.carries
     c.write-2.ensures.time in
     let three =
-    writes_write n _ _ _ 4 _ (omega arith) (omega arith) (lawful c.write-2.new.self) two c.write-3.ensures.crash c.write-3.ensures.carries
+    writes_write n 4 _ (omega arith) (omega arith) (lawful c.write-2.new.self) two c.write-3.ensures.crash c.write-3.ensures.carries
     c.write-3.ensures.time in
-    writes_write n _ _ _ 5 _ (omega arith) some (lawful c.write-3.new.self) three c.write-4.ensures.crash c.write-4.ensures.carries
+    writes_write n 5 _ (omega arith) some (lawful c.write-3.new.self) three c.write-4.ensures.crash c.write-4.ensures.carries
     c.write-4.ensures.time

@@ -6,7 +6,7 @@ use Rattle.lfs_format.proofs.making.write_later_usage.Goals as goal
 
 pub loop-index-init : goal.loop-index-init
 loop-index-init g c = record {
-  writes = writes_none c.args.segments _ (g.met.D.SectorDevice.lawful c.args.device.now);
+  writes = writes_none c.args.segments (g.met.D.SectorDevice.lawful c.args.device.now);
   chunk = λ keeps version before first. first;
   failures = refl;
 }
@@ -15,7 +15,7 @@ pub returns-in_err-write-clause-writes : goal.returns-in_err-write-clause-writes
 returns-in_err-write-clause-writes g c =
     let low : 5 + c.loop-index.index < 5 + usage_blocks c.args.segments =
     omega (arith, c.usage_count-index-end.ensures, c.loop-index-test.true) in
-    writes_write c.args.segments _ _ _ (5 + c.loop-index.index) _ (omega arith) low (g.met.D.SectorDevice.lawful c.loop-index.device)
+    writes_write c.args.segments (5 + c.loop-index.index) _ (omega arith) low (g.met.D.SectorDevice.lawful c.loop-index.device)
     c.loop-index.invariant.writes c.write.ensures.crash c.write.ensures.carries c.write.ensures.time
 
 pub loop-index-preserved : goal.loop-index-preserved
@@ -24,7 +24,7 @@ loop-index-preserved g c =
     let low : 5 + c.loop-index.index < 5 + usage_blocks c.args.segments =
     omega (arith, c.usage_count-index-end.ensures, c.loop-index-test.true) in
     record {
-      writes = writes_write c.args.segments _ _ _ (5 + c.loop-index.index) _ (omega arith) low (g.met.D.SectorDevice.lawful
+      writes = writes_write c.args.segments (5 + c.loop-index.index) _ (omega arith) low (g.met.D.SectorDevice.lawful
           c.loop-index.device) so_far.writes c.write.ensures.crash c.write.ensures.carries c.write.ensures.time;
       chunk = λ keeps version before first.
           let room : 5 + c.loop-index.index < length before =
@@ -38,7 +38,7 @@ loop-index-preserved g c =
             c.usage_count-index-end.ensures,
             c.loop-index-test.true,
           ) in
-          chunk_more version c.args.segments c.loop-index.index before _ _ (omega (arith, c.loop-index.auto.index)) room
+          chunk_more c.args.segments _ _ (omega (arith, c.loop-index.auto.index)) room
           (so_far.chunk (c.write.ensures.carries.kept_before keeps) version before first) (c.in_ok-write.ensures.written keeps);
       failures = c.in_ok-write.ensures.no_failure ∙ so_far.failures;
     }

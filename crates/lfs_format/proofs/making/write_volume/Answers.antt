@@ -8,13 +8,12 @@ checkpoint-requires-clause-known g c = known_version _ c.args.shape.first c.args
 
 pub returns-in_err-clear_slots-clause-making : goal.returns-in_err-clear_slots-clause-making
 returns-in_err-clear_slots-clause-making g c =
-    making_cleared c.args.shape.version c.args.shape.segments _ _ c.clear_slots.ensures.any_moment c.clear_slots.ensures.carries
+    making_cleared c.args.shape.segments _ _ c.clear_slots.ensures.any_moment c.clear_slots.ensures.carries
 
 pub returns-in_err-write_chunk-clause-making : goal.returns-in_err-write_chunk-clause-making
 returns-in_err-write_chunk-clause-making g c =
     let cleared = c.in_ok-clear_slots.ensures in
-    making_chunked c.args.shape.version c.args.shape.segments _ _ _ (g.met.D.SectorDevice.lawful c.clear_slots.new.device)
-    cleared.any_moment
+    making_chunked (g.met.D.SectorDevice.lawful c.clear_slots.new.device) cleared.any_moment
     cleared.carries cleared.clear cleared.durable c.write_chunk.ensures.writes
 
 pub returns-in_err-sync-clause-making : goal.returns-in_err-sync-clause-making
@@ -22,8 +21,7 @@ returns-in_err-sync-clause-making g c =
     let cleared = c.in_ok-clear_slots.ensures in
     let lawful = g.met.D.SectorDevice.lawful in
     let sync = c.sync.ensures in
-    making_synced c.args.shape.version c.args.shape.segments _ _ _ (lawful c.clear_slots.new.device) cleared.any_moment cleared.carries
-    cleared.clear
+    making_synced (lawful c.clear_slots.new.device) cleared.any_moment cleared.carries cleared.clear
     cleared.durable c.write_chunk.ensures.writes _ (lawful c.write_chunk.new.device) sync.untouched sync.carries sync.time
 
 pub returns-in_err-replace-clause-making : goal.returns-in_err-replace-clause-making
@@ -33,8 +31,7 @@ returns-in_err-replace-clause-making g c =
     let chunk = c.in_ok-write_chunk.ensures in
     let sync = c.in_ok-sync.ensures in
     let replaced = c.replace.ensures in
-    making_written c.args.shape.version c.args.shape.segments _ _ _ (lawful c.clear_slots.new.device) cleared.any_moment cleared.carries
-    cleared.clear
+    making_written (lawful c.clear_slots.new.device) cleared.any_moment cleared.carries cleared.clear
     cleared.durable chunk.writes _ (lawful c.write_chunk.new.device) sync.untouched sync.carries sync.time _ _ (lawful c.sync.new.self)
     c.checkpoint.ensures.value (known_version _ c.args.shape.first c.args.shape.last) c.args.shape.count c.requires.size chunk.chunk
     sync.durable replaced.any_moment
@@ -47,8 +44,7 @@ returns-clause-making g c =
     let chunk = c.in_ok-write_chunk.ensures in
     let sync = c.in_ok-sync.ensures in
     let replaced = c.replace.ensures in
-    making_written c.args.shape.version c.args.shape.segments _ _ _ (lawful c.clear_slots.new.device) cleared.any_moment cleared.carries
-    cleared.clear
+    making_written (lawful c.clear_slots.new.device) cleared.any_moment cleared.carries cleared.clear
     cleared.durable chunk.writes _ (lawful c.write_chunk.new.device) sync.untouched sync.carries sync.time _ _ (lawful c.sync.new.self)
     c.checkpoint.ensures.value (known_version _ c.args.shape.first c.args.shape.last) c.args.shape.count c.requires.size chunk.chunk
     sync.durable replaced.any_moment
@@ -61,8 +57,7 @@ returns-clause-made g c =
     let chunk = c.in_ok-write_chunk.ensures in
     let sync = c.in_ok-sync.ensures in
     let replaced = c.in_ok-replace.ensures in
-    volume_made c.args.shape.version c.args.shape.segments _ _ _ (lawful c.clear_slots.new.device) cleared.any_moment cleared.carries
-    cleared.clear
+    volume_made (lawful c.clear_slots.new.device) cleared.any_moment cleared.carries cleared.clear
     cleared.durable chunk.writes _ (lawful c.write_chunk.new.device) sync.untouched sync.carries sync.time _ _
     c.checkpoint.ensures.value (known_version _ c.args.shape.first c.args.shape.last) c.args.shape.count c.requires.size cleared.others
     chunk.chunk replaced.carries

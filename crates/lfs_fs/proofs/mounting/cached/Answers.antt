@@ -9,13 +9,13 @@ returns-then-sectors-lt-LEAST_SECTORS-clause-cause g c =
     let d = g.D.SectorDevice.state c.args.device in
     let lawful = g.met.D.SectorDevice.lawful c.args.device in
     let small : d.size < 4098 = let low = c.if-sectors-lt-LEAST_SECTORS.true in let size = c.sectors.ensures in omega (arith, low, size) in
-    fault_of_volume d d lawful fault.TooSmall (λ keeps. below_all d lawful small)
+    fault_of_volume d lawful fault.TooSmall (λ keeps. below_all lawful small)
 
 pub returns-then-sectors-lt-LEAST_SECTORS-clause-reason : goal.returns-then-sectors-lt-LEAST_SECTORS-clause-reason
 returns-then-sectors-lt-LEAST_SECTORS-clause-reason g c =
     let d = g.D.SectorDevice.state c.args.device in
     let small : d.size < 4098 = let low = c.if-sectors-lt-LEAST_SECTORS.true in let size = c.sectors.ensures in omega (arith, low, size) in
-    λ keeps. below_all d (g.met.D.SectorDevice.lawful c.args.device) small
+    λ keeps. below_all (g.met.D.SectorDevice.lawful c.args.device) small
 
 pub returns-in-Ok-clause-below_all : goal.returns-in-Ok-clause-below_all
 returns-in-Ok-clause-below_all g c =

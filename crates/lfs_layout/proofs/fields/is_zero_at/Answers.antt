@@ -35,6 +35,6 @@ returns c =
           (λ (lane : k < rest). c.loop-step.invariant k low (omega arith))
           (λ (behind : rest ≤ k). zero_byte rest left s room zero k behind (omega arith))
           (cases_lt k rest))),
-      (λ e. each.1 (each_of_zeros bytes left (is ∙ zero_part rest left s room
+      (λ e. each.1 (each_of_zeros left (is ∙ zero_part rest left s room
           (λ k low high. zero_byte c.args.at c.args.len s (omega (arith, long, inside)) e k (omega arith) (omega arith))))),
     )

@@ -19,4 +19,4 @@ returns-in-3-clause-found c = one_byte 0 c.args.sector.now (omega arith) ∙ ap 
 pub returns-in_default-clause-none : goal.returns-in_default-clause-none
 returns-in_default-clause-none c k e =
     let byte = ap (λ (b : List ℕ). get_or b 0 0) (sym (one_byte 0 c.args.sector.now (omega arith)) ∙ e) in
-    not_a_kind (get_or c.args.sector.now 0 0) k (search rules) (search rules) (search rules) byte
+    not_a_kind k (search rules) (search rules) (search rules) byte

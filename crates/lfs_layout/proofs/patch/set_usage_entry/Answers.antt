@@ -8,5 +8,5 @@ pub returns-clause-entries : goal.returns-clause-entries
 returns-clause-entries c =
     subst (λ (u : SegmentUse). usage_of c.set_word.new.block ≡ slice_set (usage_of c.args.block.now) c.args.entry u) c.usage.view_is
     (entry_put c.args.entry (record { used = c.usage.inside.used; live = c.usage.inside.live; age = c.usage.inside.age })
-    c.args.block.now c.set_half.new.block c.set_half-2.new.block c.set_word.new.block c.requires
+    c.args.block.now c.requires
     (search rules) c.set_half.ensures c.set_half-2.ensures c.set_word.ensures (search rules) (search rules) (search rules))

@@ -18,5 +18,4 @@ returns-clause-bytes c =
     (appended_join [] (fields_of (fields c.args.form record { number = c.args.number; name = c.args.name.now })))
 
 pub returns-clause-long : goal.returns-clause-long
-returns-clause-long c = ap (λ (b : List ℕ). length b) (returns-clause-bytes c)
-    ∙ length-slot c.args.form record { number = c.args.number; name = c.args.name.now } c.requires
+returns-clause-long c = ap (λ (b : List ℕ). length b) (returns-clause-bytes c) ∙ length-slot c.args.form c.requires

@@ -15,8 +15,8 @@ record NameStands (b : List ℕ) (s : SlotValue) : Type 0 where
 stands : (form : ℕ) (b : List ℕ) (s : SlotValue) → slot_in form b ≡ Some s → NameStands b s
 stands form b s is =
     let f = slot_found form b s is in
-    let long = ap length f.1 ∙ length-slot form s f.0 in
-    let reads = reads_from form b s f.1 in
+    let long = ap length f.1 ∙ length-slot form f.0 in
+    let reads = reads_from form s f.1 in
     let short = f.0.name.short in
     record { len = length_at form b s long reads; name = reads.name; room = omega (arith, long, short) }
 

@@ -6,7 +6,7 @@ pub returns-then-not-is_zero_from : goal.returns-then-not-is_zero_from
 returns-then-not-is_zero_from c = (
   (λ no. cc),
   (λ e.
-      let yes = c.is_zero_from.ensures.1 (λ k low high. each_of_zeros c.args.bytes.now 512 e k (omega arith)) in
+      let yes = c.is_zero_from.ensures.1 (λ k low high. each_of_zeros 512 e k (omega arith)) in
       cc),
 )
 

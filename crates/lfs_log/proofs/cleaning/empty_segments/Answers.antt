@@ -5,17 +5,14 @@ use Rattle.lfs_log.proofs.cleaning.empty_segments.Goals as goal
 pub returns-then-not-are_emptied-clause-reads : goal.returns-then-not-are_emptied-clause-reads
 returns-then-not-are_emptied-clause-reads g c = record {
   looks = c.in-Ok.ensures.relocates.relocates.looks;
-  failed = λ is. not_emptied (g.D.SectorDevice.state c.args.device.now) (g.D.SectorDevice.state c.relocate_all.new.device)
-      c.args.memory.now c.relocate_all.new.memory c.args.victims.now
+  failed = λ is. not_emptied c.args.victims.now
       c.in-Ok.ensures.relocates.relocates c.in-Ok.ensures.vacates c.requires.victims (c.if-not-are_emptied.ensures.no (search rules));
   no_failure = tt;
 }
 
 pub returns-clause-done : goal.returns-clause-done
 returns-clause-done g c =
-    empties (g.D.SectorDevice.state c.args.device.now) (g.D.SectorDevice.state c.relocate_all.new.device) c.args.memory.now
-    c.relocate_all.new.memory c.tighten.new.memory c.args.victims.now
-    c.in-Ok.ensures.relocates.relocates (c.if-not-are_emptied.ensures.yes (search rules)) c.tighten.ensures
+    empties c.in-Ok.ensures.relocates.relocates (c.if-not-are_emptied.ensures.yes (search rules)) c.tighten.ensures
 
 pub returns-in-Err-clause-full : goal.returns-in-Err-clause-full
 returns-in-Err-clause-full g c is = record {

@@ -11,10 +11,9 @@ returns-in-Ok-clause-done g c =
     let d = g.D.SectorDevice.state c.args.device.now in
     let d' = g.D.SectorDevice.state c.empty_segments.new.device in
     let none = c.set_limit.ensures.blocks ∙ ap (λ (t : TableValue). t.blocks) c.clear.ensures.empty ∙ sym c.requires.nothing in
-    empties_beside c.args.memory.now c.set_limit.new.self c.args.pass.now.chunk none c.requires.closed c.requires.ended d d'
-    c.empty_segments.new.memory c.args.victims.now
-    (by_tables (λ (v : LogMemory). Empties d d' v c.empty_segments.new.memory c.args.victims.now) c.args.memory.now c.copy_from.new.self
-    c.copy_from-2.new.self c.set_limit.new.self c.args.pass.now.chunk c.copy_from.ensures c.copy_from-2.ensures c.in-Ok.ensures.done)
+    empties_beside c.args.memory.now c.set_limit.new.self c.args.pass.now.chunk none c.requires.closed c.requires.ended d
+    (by_tables (λ (v : LogMemory). Empties d d' v c.empty_segments.new.memory c.args.victims.now) c.args.memory.now
+    c.set_limit.new.self c.args.pass.now.chunk c.copy_from.ensures c.copy_from-2.ensures c.in-Ok.ensures.done)
 
 pub returns-in-Err-clause-reads : goal.returns-in-Err-clause-reads
 returns-in-Err-clause-reads g c =
@@ -24,7 +23,7 @@ returns-in-Err-clause-reads g c =
     record {
       looks = c.in-Err.ensures.reads.looks;
       failed = λ is. fails_beside c.args.memory.now c.set_limit.new.self c.args.pass.now.chunk none c.requires.closed c.requires.ended d d'
-          (by_tables (FailsFromDevice d d') c.args.memory.now c.copy_from.new.self c.copy_from-2.new.self c.set_limit.new.self
+          (by_tables (FailsFromDevice d d') c.args.memory.now c.set_limit.new.self
           c.args.pass.now.chunk c.copy_from.ensures c.copy_from-2.ensures (c.in-Err.ensures.reads.failed (search rules)));
       no_failure = tt;
     }
@@ -34,8 +33,7 @@ returns-in-Err-clause-full g c is =
     let d = g.D.SectorDevice.state c.args.device.now in
     let d' = g.D.SectorDevice.state c.empty_segments.new.device in
     let none = c.set_limit.ensures.blocks ∙ ap (λ (t : TableValue). t.blocks) c.clear.ensures.empty ∙ sym c.requires.nothing in
-    overfills c.args.memory.now c.set_limit.new.self c.args.pass.now.chunk none c.requires.closed c.requires.ended d d' c.args.most
-    c.empty_segments.new.memory c.args.victims.now c.set_limit.ensures.limit
-    (by_tables (λ (v : LogMemory). Crowds d d' v c.empty_segments.new.memory c.args.victims.now) c.args.memory.now c.copy_from.new.self
-    c.copy_from-2.new.self c.set_limit.new.self c.args.pass.now.chunk c.copy_from.ensures c.copy_from-2.ensures
-    (c.in-Err.ensures.full (search rules)))
+    overfills c.args.memory.now c.set_limit.new.self c.args.pass.now.chunk none c.requires.closed c.requires.ended d d'
+     c.set_limit.ensures.limit
+    (by_tables (λ (v : LogMemory). Crowds d d' v c.empty_segments.new.memory c.args.victims.now) c.args.memory.now
+    c.set_limit.new.self c.args.pass.now.chunk c.copy_from.ensures c.copy_from-2.ensures (c.in-Err.ensures.full (search rules)))

@@ -9,7 +9,7 @@ pub loop-victim-init : goal.loop-victim-init
 loop-victim-init g c =
     let old = g.D.SectorDevice.state c.args.device.now in
     record {
-      so_far = relocated_none old c.args.memory.now (IsAmong c.args.victims.now) c.requires.memory;
+      so_far = relocated_none old (IsAmong c.args.victims.now) c.requires.memory;
       vacates = vacates_none old c.args.memory.now c.args.victims.now;
     }
 

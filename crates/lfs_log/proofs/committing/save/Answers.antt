@@ -12,8 +12,7 @@ pub returns-in_err-write_out-clause-stopped : goal.returns-in_err-write_out-clau
 returns-in_err-write_out-clause-stopped g c =
     on_err c.from_residual.result
     (CommitFails (g.D.SectorDevice.state c.args.device.now) (g.D.SectorDevice.state c.write_out.new.device) c.args.memory.now
-    (number_of c.args.version) c.args.number)
-    (out_stops (g.D.SectorDevice.state c.args.device.now) (g.D.SectorDevice.state c.write_out.new.device) c.args.memory.now
+    (number_of c.args.version) c.args.number) (out_stops
     (number_of c.args.version) c.args.number c.write_out.ensures.told c.in_err-write_out.ensures.stopped)
 
 -- src/committing.rt:102:5
@@ -21,21 +20,15 @@ pub returns-in_err-publish-clause-stopped : goal.returns-in_err-publish-clause-s
 returns-in_err-publish-clause-stopped g c =
     on_err c.from_residual-in_err-publish.result
     (CommitFails (g.D.SectorDevice.state c.args.device.now) (g.D.SectorDevice.state c.publish.new.device) c.args.memory.now
-    (number_of c.args.version) c.args.number)
-    (publish_fails (g.D.SectorDevice.state c.args.device.now) (g.D.SectorDevice.state c.write_out.new.device)
-    (g.D.SectorDevice.state c.publish.new.device)
-    c.args.memory.now c.write_out.new.memory _ (number_of c.args.version) c.args.number c.in_ok-write_out.ensures.done
-    c.write_out.ensures.told c.publish.ensures.told c.in_err-publish.ensures.stopped)
+    (number_of c.args.version) c.args.number) (publish_fails (g.D.SectorDevice.state c.args.device.now)
+    c.args.memory.now _ c.in_ok-write_out.ensures.done c.write_out.ensures.told c.publish.ensures.told c.in_err-publish.ensures.stopped)
 
 -- src/committing.rt:86:1
 pub returns-clause-done : goal.returns-clause-done
 returns-clause-done g c =
     let out = c.in_ok-write_out.ensures.out in
     let dirty = c.in_ok-publish.ensures.only.dirty in
-    commits (g.D.SectorDevice.state c.args.device.now) (g.D.SectorDevice.state c.write_out.new.device)
-    (g.D.SectorDevice.state c.publish.new.device)
-    c.args.memory.now c.write_out.new.memory c.publish.new.memory _ (number_of c.args.version) c.args.number c.in_ok-write_out.ensures.done
-    c.in_ok-publish.ensures.done c.in_ok-write_out.ensures.taken c.requires.spare
+    commits _ c.in_ok-write_out.ensures.done c.in_ok-publish.ensures.done c.in_ok-write_out.ensures.taken c.requires.spare
     (ap (λ (x : Chunk). x.names) c.in_ok-publish.ensures.only.chunk ∙ out.chunk) (ap (λ (t : TableValue). t.blocks) dirty ∙ out.dirty)
     (ap (λ (t : TableValue). t.capacity) dirty ∙ c.in_ok-write_out.ensures.capacity)
     c.write_out.ensures.told c.publish.ensures.told

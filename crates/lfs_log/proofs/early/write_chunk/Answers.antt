@@ -10,12 +10,9 @@ use Rattle.lfs_log.proofs.early.write_chunk.Goals as goal
 
 pub loop-init : goal.loop-init
 loop-init g c = record {
-  saves = saves_none (g.D.SectorDevice.state c.args.device.now) (record c.args.memory.now { usage = c.end_last.new.self })
-      (g.met.D.SectorDevice.lawful c.args.device.now)
-      (ended_goes (g.D.SectorDevice.state c.args.device.now) c.args.memory.now c.end_last.new.self c.end_last.ensures
+  saves = saves_none (g.met.D.SectorDevice.lawful c.args.device.now) (ended_goes c.args.memory.now c.end_last.ensures
       (g.met.D.SectorDevice.lawful c.args.device.now) c.requires.memory c.requires.closed).memory;
-  early = early_none (record c.args.memory.now { usage = c.end_last.new.self })
-      (ended_fresh c.args.memory.now c.end_last.new.self c.end_last.ensures c.requires.closed);
+  early = early_none (ended_fresh c.args.memory.now c.end_last.ensures c.requires.closed);
   left = omega arith;
   capacity = refl;
 }
@@ -30,8 +27,7 @@ loop-preserved g c =
     let one = c.in_ok-save_block.ensures.data_blocks kind in
     record {
       saves = saves_then c.loop.invariant.saves c.in_ok-save_block.ensures.saves.done;
-      early = early_then (record c.args.memory.now { usage = c.end_last.new.self }) c.loop.memory c.save_block.new.memory _ 1
-          c.loop.invariant.early (c.in_ok-save_block.ensures.early c.loop.invariant.early.fresh);
+      early = early_then _ 1 c.loop.invariant.early (c.in_ok-save_block.ensures.early c.loop.invariant.early.fresh);
       left = omega (arith, left, one);
       capacity = c.in_ok-save_block.ensures.capacity ∙ c.loop.invariant.capacity;
     }
@@ -40,9 +36,8 @@ pub returns-in_err-save_block-clause-stopped : goal.returns-in_err-save_block-cl
 returns-in_err-save_block-clause-stopped g c =
     let d = g.D.SectorDevice.state c.args.device.now in
     let v = c.args.memory.now in
-    on_err c.from_residual.result (Stops d (g.D.SectorDevice.state c.save_block.new.device) v)
-    (stops_then 62 d d (g.D.SectorDevice.state c.save_block.new.device) v (record v { usage = c.end_last.new.self }) 0
-    (ended_goes d v c.end_last.new.self c.end_last.ensures (g.met.D.SectorDevice.lawful c.args.device.now) c.requires.memory
+    on_err c.from_residual.result (Stops d (g.D.SectorDevice.state c.save_block.new.device) v) (stops_then
+    (ended_goes v c.end_last.ensures (g.met.D.SectorDevice.lawful c.args.device.now) c.requires.memory
     c.requires.closed) (stops_behind c.loop.invariant.saves c.in_err-save_block.ensures.saves.stopped).stops)
 
 pub returns-in_err-save_block-clause-most : goal.returns-in_err-save_block-clause-most
@@ -52,7 +47,7 @@ returns-in_err-save_block-clause-most g c =
     let most = here.tells in
     let room = here.room in
     let same = ap (λ (u : UsageTable). clean_in u.segments) c.end_last.ensures in
-    let le = chunk_told c.args.memory.now c.save_block.new.memory c.end_last.new.self
+    let le = chunk_told c.args.memory.now c.save_block.new.memory
     (length (g.D.SectorDevice.state c.args.device.now).told) (length (g.D.SectorDevice.state c.save_block.new.device).told) 64
     c.end_last.ensures c.requires.closed (omega (arith, same, room, lt)) (omega (arith, most, lt)) in
     omega (arith, le)
@@ -62,10 +57,8 @@ returns-in_err-seal_rest-clause-stopped g c =
     let d = g.D.SectorDevice.state c.args.device.now in
     let v = c.args.memory.now in
     let middle = g.D.SectorDevice.state c.loop.device in
-    on_err c.from_residual-in_err-seal_rest.result (Stops d (g.D.SectorDevice.state c.seal_rest.new.device) v)
-    (stops_then 62 d middle (g.D.SectorDevice.state c.seal_rest.new.device) v c.loop.memory 63
-    (goes_then 62 62 d d middle v (record v { usage = c.end_last.new.self }) c.loop.memory 0 63
-    (ended_goes d v c.end_last.new.self c.end_last.ensures (g.met.D.SectorDevice.lawful c.args.device.now) c.requires.memory
+    on_err c.from_residual-in_err-seal_rest.result (Stops d (g.D.SectorDevice.state c.seal_rest.new.device) v) (stops_then (goes_then
+    (ended_goes v c.end_last.ensures (g.met.D.SectorDevice.lawful c.args.device.now) c.requires.memory
     c.requires.closed) (saves_at_most 63 63 (omega arith) (omega arith) c.loop.invariant.saves).goes)
     c.in_err-seal_rest.ensures.stopped)
 
@@ -76,7 +69,7 @@ returns-in_err-seal_rest-clause-most g c =
     let before = ap (λ (u : UsageTable). clean_in u.segments) c.end_last.ensures in
     let after = ap (λ (u : UsageTable). clean_in u.segments) c.seal_rest.ensures.only.usage in
     let room = c.loop.invariant.saves.goes.room in
-    let le = chunk_told c.args.memory.now c.loop.memory c.end_last.new.self
+    let le = chunk_told c.args.memory.now c.loop.memory
     (length (g.D.SectorDevice.state c.args.device.now).told) (length (g.D.SectorDevice.state c.seal_rest.new.device).told) 63
     c.end_last.ensures c.requires.closed (omega (arith, before, room)) (omega (arith, tells, told, after)) in
     omega (arith, le)
@@ -86,9 +79,7 @@ returns-clause-done g c =
     let d = g.D.SectorDevice.state c.args.device.now in
     let v = c.args.memory.now in
     let middle = g.D.SectorDevice.state c.loop.device in
-    goes_then 62 62 d middle (g.D.SectorDevice.state c.seal_rest.new.device) v c.loop.memory c.seal_rest.new.memory 63 62
-    (goes_then 62 62 d d middle v (record v { usage = c.end_last.new.self }) c.loop.memory 0 63
-    (ended_goes d v c.end_last.new.self c.end_last.ensures (g.met.D.SectorDevice.lawful c.args.device.now) c.requires.memory
+    goes_then (goes_then (ended_goes v c.end_last.ensures (g.met.D.SectorDevice.lawful c.args.device.now) c.requires.memory
     c.requires.closed) (saves_at_most 63 63 (omega arith) (omega arith) c.loop.invariant.saves).goes)
     c.in_ok-seal_rest.ensures.done
 
@@ -100,7 +91,7 @@ returns-clause-fewer g c =
 
 pub returns-clause-due : goal.returns-clause-due
 returns-clause-due g c =
-    chunk_due c.args.memory.now c.loop.memory c.seal_rest.new.memory c.end_last.new.self c.end_last.ensures
+    chunk_due c.args.memory.now c.loop.memory c.seal_rest.new.memory c.end_last.ensures
     c.seal_rest.ensures.only.dirty c.seal_rest.ensures.only.usage c.loop.invariant.early.due
 
 pub returns-clause-capacity : goal.returns-clause-capacity
@@ -121,7 +112,7 @@ returns-clause-told g c =
     let before = ap (λ (u : UsageTable). clean_in u.segments) c.end_last.ensures in
     let after = ap (λ (u : UsageTable). clean_in u.segments) c.seal_rest.ensures.only.usage in
     let room = c.loop.invariant.saves.goes.room in
-    chunk_told c.args.memory.now c.loop.memory c.end_last.new.self (length (g.D.SectorDevice.state c.args.device.now).told)
+    chunk_told c.args.memory.now c.loop.memory (length (g.D.SectorDevice.state c.args.device.now).told)
     (length (g.D.SectorDevice.state c.seal_rest.new.device).told) 63
     c.end_last.ensures c.requires.closed (omega (arith, before, room)) (omega (arith, tells, told, after))
 

@@ -11,8 +11,7 @@ use Rattle.lfs_log.proofs.early.write_chunks.Goals as goal
 
 pub loop-memory-init : goal.loop-memory-init
 loop-memory-init g c = record {
-  chunks = chunks_none (g.D.SectorDevice.state c.args.device.now) c.args.memory.now
-      (g.met.D.SectorDevice.lawful c.args.device.now) c.requires.memory c.requires.closed;
+  chunks = chunks_none (g.met.D.SectorDevice.lawful c.args.device.now) c.requires.memory c.requires.closed;
   reserve = inl (refl, refl);
   idle = λ few. (refl, refl);
 }
@@ -22,8 +21,7 @@ write_chunk-requires-clause-memory g c = c.loop-memory.invariant.chunks.goes.1.m
 
 pub write_chunk-requires-clause-size : goal.write_chunk-requires-clause-size
 write_chunk-requires-clause-size g c =
-    has_room_still 62 (g.D.SectorDevice.state c.args.device.now) (g.D.SectorDevice.state c.loop-memory.device) c.args.memory.now
-    c.loop-memory.memory _ c.loop-memory.invariant.chunks.goes.1 c.requires.size
+    has_room_still c.loop-memory.invariant.chunks.goes.1 c.requires.size
 
 pub write_chunk-requires-clause-closed : goal.write_chunk-requires-clause-closed
 write_chunk-requires-clause-closed g c = c.loop-memory.invariant.chunks.closed
@@ -31,10 +29,8 @@ write_chunk-requires-clause-closed g c = c.loop-memory.invariant.chunks.closed
 pub returns-in_err-write_chunk-clause-stopped : goal.returns-in_err-write_chunk-clause-stopped
 returns-in_err-write_chunk-clause-stopped g c =
     on_err c.from_residual.result
-    (Stops (g.D.SectorDevice.state c.args.device.now) (g.D.SectorDevice.state c.write_chunk.new.device) c.args.memory.now)
-    (stops_then 62 (g.D.SectorDevice.state c.args.device.now) (g.D.SectorDevice.state c.loop-memory.device)
-    (g.D.SectorDevice.state c.write_chunk.new.device)
-    c.args.memory.now c.loop-memory.memory _ c.loop-memory.invariant.chunks.goes.1 c.in_err-write_chunk.ensures.stopped)
+    (Stops (g.D.SectorDevice.state c.args.device.now) (g.D.SectorDevice.state c.write_chunk.new.device) c.args.memory.now) (stops_then
+     c.loop-memory.invariant.chunks.goes.1 c.in_err-write_chunk.ensures.stopped)
 
 pub loop-memory-preserved : goal.loop-memory-preserved
 loop-memory-preserved g c =
@@ -49,9 +45,7 @@ loop-memory-preserved g c =
     let taken = done.taken in
     let size = goes.segments in
     record {
-      chunks = chunks_more (g.D.SectorDevice.state c.args.device.now) (g.D.SectorDevice.state c.loop-memory.device)
-          (g.D.SectorDevice.state c.write_chunk.new.device)
-          c.args.memory.now c.loop-memory.memory c.write_chunk.new.memory 125 c.loop-memory.invariant.chunks goes done.closed done.capacity
+      chunks = chunks_more 125 c.loop-memory.invariant.chunks goes done.closed done.capacity
           done.fewer done.data_blocks done.due taken (let told = done.told in omega (arith, told));
       reserve = inr (omega (arith, above, taken, size));
       idle = λ few.

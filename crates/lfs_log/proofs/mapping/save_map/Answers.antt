@@ -8,8 +8,7 @@ use Rattle.std.proofs.lemmas.Bool.{cases_eq}
 -- src/mapping.rt:95:5
 pub loop-index-init : goal.loop-index-init
 loop-index-init g c = record {
-  saves = saves_none (g.D.SectorDevice.state c.args.device.now) c.args.memory.now
-      (g.met.D.SectorDevice.lawful c.args.device.now) c.requires.memory;
+  saves = saves_none (g.met.D.SectorDevice.lawful c.args.device.now) c.requires.memory;
   known = λ j lt. absurd (omega (arith, lt));
   long = λ some. absurd (omega (arith, some));
   dirty = refl;
@@ -18,8 +17,7 @@ loop-index-init g c = record {
 pub returns-in_err-save_map_block-clause-saves : goal.returns-in_err-save_map_block-clause-saves
 returns-in_err-save_map_block-clause-saves g c =
     let lt = c.loop-index-test.true in
-    saving_failed _ _ c.from_residual.ensures
-    (saving_at_most _ _ (omega (arith, lt)) (omega (arith, lt))
+    saving_failed _ c.from_residual.ensures (saving_at_most _ _ (omega (arith, lt)) (omega (arith, lt))
     (stops_behind c.loop-index.invariant.saves c.in_err-save_map_block.ensures.saves.stopped))
 
 -- src/mapping.rt:95:5
@@ -37,7 +35,7 @@ loop-index-preserved g c = record {
 -- src/mapping.rt:81:1
 pub returns-clause-known : goal.returns-clause-known
 returns-clause-known g c =
-    maps_out c.loop-index.memory.map (c.loop-index.invariant.long (omega arith))
+    maps_out (c.loop-index.invariant.long (omega arith))
     (λ j lt. c.loop-index.invariant.known j (omega (arith, lt)))
 
 pub returns-clause-saves : goal.returns-clause-saves

@@ -7,8 +7,7 @@ use Rattle.lfs_log.proofs.mapping.save_map_block.Goals as goal
 pub returns-then-not-encode-clause-saves : goal.returns-then-not-encode-clause-saves
 returns-then-not-encode-clause-saves g c =
     saving_done (record {
-      goes = drop_goes (g.D.SectorDevice.state c.args.device.now) c.args.memory.now c.args.index c.set_block_address.new.self
-          (record {
+      goes = drop_goes c.args.memory.now c.args.index c.set_block_address.new.self (record {
             block = c.set_block_address.ensures.changed;
             addresses = ap (λ (a : MapValue). a.addresses) c.set_block_address.ensures.set;
             hidden = ap (λ (a : MapValue). a.hidden) c.set_block_address.ensures.set;
@@ -20,7 +19,7 @@ returns-then-not-encode-clause-saves g c =
 
 pub returns-in_err-seal_full-clause-saves : goal.returns-in_err-seal_full-clause-saves
 returns-in_err-seal_full-clause-saves g c =
-    saving_failed _ _ c.from_residual-in_err-seal_full.ensures
+    saving_failed _ c.from_residual-in_err-seal_full.ensures
     (stops_sealing c.in_ok-write_map_block.ensures.writes.done c.write_map_block.ensures.writes.tells
     c.in_err-seal_full.ensures.saves.stopped)
 

@@ -14,14 +14,10 @@ next_place-address-requires-clause-placed g c = placed_map c.args.index c.requir
 
 pub returns-in_err-write-clause-writes : goal.returns-in_err-write-clause-writes
 returns-in_err-write-clause-writes g c =
-    writing_failed _ _ c.from_residual.ensures
-    (place_stops c.args.memory.now c.next_place-address.new.self _ true c.args.age c.next_place-address.result c.requires.memory
-    c.next_place-address.ensures.placed
-    (g.D.SectorDevice.state c.args.device.now) (g.D.SectorDevice.state c.write.new.device) c.args.bytes.now
+    writing_failed _ _ c.from_residual.ensures (place_stops c.requires.memory c.next_place-address.ensures.placed
     c.in_err-write.ensures.crash c.in_err-write.ensures.asks.carries c.in_err-write.ensures.asks.time
     (g.met.D.SectorDevice.lawful c.args.device.now)
-    c.in_err-write.ensures.failed_write c.in_err-write.ensures.asks.failed)
-    (let room = takes_place c.args.memory.now c.next_place-address.new.self _ true c.args.age c.next_place-address.result
+    c.in_err-write.ensures.failed_write c.in_err-write.ensures.asks.failed) (let room = takes_place
     c.requires.memory c.next_place-address.ensures.placed in omega (arith, room)) (search rules)
 
 pub returns-clause-writes : goal.returns-clause-writes
@@ -39,10 +35,7 @@ returns-clause-writes g c =
     writing_done
     (subst (λ (t : TableValue). GoesUpTo 63 (g.D.SectorDevice.state c.args.device.now) (g.D.SectorDevice.state c.write.new.device) v
     (record { map = map'; usage = c.next_place-address.new.self.usage; dirty = t; chunk = c.next_place-address.new.self.chunk }) 1)
-    (sym c.next_place-address.ensures.placed.dirty)
-    (map_goes v c.next_place-address.new.self _ c.args.age c.next_place-address.result c.requires.memory c.next_place-address.ensures.placed
-    c.args.index map' sets
-    (g.D.SectorDevice.state c.args.device.now) (g.D.SectorDevice.state c.write.new.device) c.args.bytes.now
+    (sym c.next_place-address.ensures.placed.dirty) (map_goes v _ c.requires.memory c.next_place-address.ensures.placed map' sets
     c.in_ok-write.ensures.crash c.in_ok-write.ensures.asks.carries c.in_ok-write.ensures.asks.time
     (g.met.D.SectorDevice.lawful c.args.device.now)
     c.in_ok-write.ensures.written refl c.requires.wanted c.requires.spelt c.requires.empty c.in_ok-write.ensures.asks.no_failure))

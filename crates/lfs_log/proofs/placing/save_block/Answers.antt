@@ -7,7 +7,7 @@ use Rattle.lfs_log.proofs.SavedBlocks.{saving_done, saving_failed, sealed_then, 
 
 pub returns-in_err-seal_full-clause-saves : goal.returns-in_err-seal_full-clause-saves
 returns-in_err-seal_full-clause-saves g c =
-    saving_failed _ _ c.from_residual-in_err-seal_full.ensures
+    saving_failed _ c.from_residual-in_err-seal_full.ensures
     (stops_sealing c.in_ok-write_block.ensures.writes.done c.write_block.ensures.writes.tells c.in_err-seal_full.ensures.saves.stopped)
 
 pub returns-clause-saves : goal.returns-clause-saves
@@ -17,7 +17,7 @@ returns-clause-saves g c =
 
 pub returns-clause-early : goal.returns-clause-early
 returns-clause-early g c fresh =
-    goes_early c.args.memory.now c.write_block.new.memory c.seal_full.new.memory
+    goes_early c.write_block.new.memory
     (c.in_ok-seal_full.ensures.fresh (c.in_ok-write_block.ensures.fresh fresh)) c.in_ok-write_block.ensures.fewer
     c.seal_full.ensures.only.dirty c.seal_full.ensures.only.usage (c.in_ok-write_block.ensures.early fresh)
 

@@ -6,8 +6,7 @@ use Rattle.lfs_log.proofs.SavedBlocks.{saves_at_most, saves_none, saves_then, sa
 -- src/placing.rt:103:5
 pub loop-key-init : goal.loop-key-init
 loop-key-init g c = record {
-  saves = saves_at_most _ _ (omega arith) (omega arith)
-      (saves_none (g.D.SectorDevice.state c.args.device.now) c.args.memory.now
+  saves = saves_at_most _ _ (omega arith) (omega arith) (saves_none {v = c.args.memory.now}
       (g.met.D.SectorDevice.lawful c.args.device.now) c.requires.memory);
   capacity = refl;
   fewer = omega arith;
@@ -20,8 +19,7 @@ save_block-requires-clause-memory g c = c.loop-key.invariant.saves.goes.memory
 -- src/placing.rt:104:9
 pub save_block-requires-clause-size : goal.save_block-requires-clause-size
 save_block-requires-clause-size g c =
-    has_room_still 62 (g.D.SectorDevice.state c.args.device.now) (g.D.SectorDevice.state c.loop-key.device) c.args.memory.now
-    c.loop-key.memory _ c.loop-key.invariant.saves.goes c.requires.size
+    has_room_still c.loop-key.invariant.saves.goes c.requires.size
 
 -- src/placing.rt:104:9
 pub save_block-requires-clause-room : goal.save_block-requires-clause-room
@@ -51,8 +49,7 @@ loop-key-preserved g c =
 pub returns-in_err-save_block-clause-saves : goal.returns-in_err-save_block-clause-saves
 returns-in_err-save_block-clause-saves g c =
     let some = c.in-Some.ensures.first.within in
-    saving_failed _ _ c.from_residual.ensures
-    (saving_at_most _ _ (omega (arith, some)) (omega (arith, some))
+    saving_failed _ c.from_residual.ensures (saving_at_most _ _ (omega (arith, some)) (omega (arith, some))
     (stops_behind c.loop-key.invariant.saves c.in_err-save_block.ensures.saves.stopped))
 
 pub returns-clause-saves : goal.returns-clause-saves

@@ -8,8 +8,7 @@ pub returns-in_err-seal-clause-stopped : goal.returns-in_err-seal-clause-stopped
 returns-in_err-seal-clause-stopped g c =
     on_err c.from_residual.result
     (Stops (g.D.SectorDevice.state c.args.device.now) (g.D.SectorDevice.state c.seal.new.device) c.args.memory.now)
-    (seal_stops (g.D.SectorDevice.state c.args.device.now) (g.D.SectorDevice.state c.seal.new.device) c.args.memory.now c.requires.memory
-    c.requires.begun
+    (seal_stops c.requires.memory c.requires.begun
     (g.met.D.SectorDevice.lawful c.args.device.now) c.in_err-seal.ensures.entries c.in_err-seal.ensures.crash
     c.in_err-seal.ensures.asks.carries
     c.in_err-seal.ensures.asks.time
@@ -18,8 +17,7 @@ returns-in_err-seal-clause-stopped g c =
 -- src/placing.rt:9:1
 pub returns-clause-done : goal.returns-clause-done
 returns-clause-done g c =
-    seal_goes (g.D.SectorDevice.state c.args.device.now) (g.D.SectorDevice.state c.seal.new.device) c.args.memory.now c.requires.memory
-    c.requires.begun
+    seal_goes c.requires.memory c.requires.begun
     (g.met.D.SectorDevice.lawful c.args.device.now) c.in_ok-seal.ensures.entries c.in_ok-seal.ensures.crash
     c.in_ok-seal.ensures.asks.carries
     c.in_ok-seal.ensures.asks.time

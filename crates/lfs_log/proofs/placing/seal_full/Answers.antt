@@ -6,15 +6,12 @@ use Rattle.lfs_log.proofs.Sealed.{not_full}
 
 pub returns-else-is_full-clause-saves : goal.returns-else-is_full-clause-saves
 returns-else-is_full-clause-saves g c =
-    saving_done (saves_none (g.D.SectorDevice.state c.args.device.now) c.args.memory.now (g.met.D.SectorDevice.lawful c.args.device.now)
-    (not_full c.args.memory.now c.requires.memory
+    saving_done (saves_none {v = c.args.memory.now} (g.met.D.SectorDevice.lawful c.args.device.now) (not_full c.requires.memory
     (c.is_full.ensures.no (λ yes. let bad : true ≡ false = sym yes ∙ c.if-is_full.false in absurd (cc)))))
 
 pub returns-in_ok-seal-clause-fresh : goal.returns-in_ok-seal-clause-fresh
 returns-in_ok-seal-clause-fresh g c is =
-    sealed_fresh c.args.memory.now c.seal.new.memory c.requires.memory is.0
-    (c.is_full.ensures.yes c.if-is_full.true) c.seal.ensures.only.usage
-    c.in_ok-seal.ensures.ended
+    sealed_fresh c.requires.memory is.0 (c.is_full.ensures.yes c.if-is_full.true) c.seal.ensures.only.usage c.in_ok-seal.ensures.ended
 
 pub returns-else-is_full-clause-fresh : goal.returns-else-is_full-clause-fresh
-returns-else-is_full-clause-fresh g c is = begun_fresh c.args.memory.now is
+returns-else-is_full-clause-fresh g c is = begun_fresh is

@@ -16,15 +16,11 @@ use Rattle.lfs_memory.proofs.FileSteps.{place_stops, file_goes, file_by, goes_to
 
 pub returns-in_err-write-clause-writes : goal.returns-in_err-write-clause-writes
 returns-in_err-write-clause-writes g c =
-    writing_failed _ _ c.from_residual.ensures
-    (place_stops c.args.memory.now c.next_place-address.new.self c.name.result
-    (not c.is_hidden-lives.result) c.args.age c.next_place-address.result c.requires.memory c.next_place-address.ensures.placed
-    (g.D.SectorDevice.state c.args.device.now) (g.D.SectorDevice.state c.write.new.device) c.unwrap-bytes.result.now
+    writing_failed _ _ c.from_residual.ensures (place_stops c.requires.memory c.next_place-address.ensures.placed
     c.in_err-write.ensures.crash c.in_err-write.ensures.asks.carries c.in_err-write.ensures.asks.time
     (g.met.D.SectorDevice.lawful c.args.device.now)
-    c.in_err-write.ensures.failed_write c.in_err-write.ensures.asks.failed)
-    (let room = takes_place c.args.memory.now c.next_place-address.new.self c.name.result
-    (not c.is_hidden-lives.result) c.args.age c.next_place-address.result c.requires.memory c.next_place-address.ensures.placed in
+    c.in_err-write.ensures.failed_write c.in_err-write.ensures.asks.failed) (let room = takes_place
+     c.requires.memory c.next_place-address.ensures.placed in
     omega (arith, room)) (search rules)
 
 pub returns-clause-writes : goal.returns-clause-writes
@@ -35,15 +31,10 @@ returns-clause-writes g c =
     let shown : blocks_of c.next_place-address.new.self.dirty x ≡ Some c.unwrap-bytes.result.now = search rules in
     let there = sym (ap (λ (t : TableValue). blocks_of t x) c.next_place-address.ensures.placed.dirty) ∙ shown in
     let few = c.file.ensures.few in
-    writing_done
-    (goes_to 63 (g.D.SectorDevice.state c.args.device.now) (g.D.SectorDevice.state c.write.new.device) c.args.memory.now c.point.new.self
-    c.next_place-address.new.self.usage c.moved.new.self c.next_place-address.new.self.chunk 1 c.point.ensures.usage c.point.ensures.dirty
-    c.point.ensures.chunk
-    (file_goes c.args.memory.now c.next_place-address.new.self c.name.result
-    (not c.is_hidden-lives.result) c.args.age c.next_place-address.result c.requires.memory c.next_place-address.ensures.placed
-    x c.file.result file c.point.new.self.map (subst (λ (a : MapValue). IsPointedAt a c.point.new.self.map x c.next_place-address.result)
-    c.next_place-address.ensures.placed.map c.point.ensures.points) (g.D.SectorDevice.state c.args.device.now)
-    (g.D.SectorDevice.state c.write.new.device) c.unwrap-bytes.result.now c.moved.new.self
+    writing_done (goes_to 63 c.point.new.self 1 c.point.ensures.usage c.point.ensures.dirty c.point.ensures.chunk (file_goes
+     c.requires.memory c.next_place-address.ensures.placed
+    x file (subst (λ (a : MapValue). IsPointedAt a c.point.new.self.map x c.next_place-address.result)
+    c.next_place-address.ensures.placed.map c.point.ensures.points) c.unwrap-bytes.result.now c.moved.new.self
     c.in_ok-write.ensures.crash c.in_ok-write.ensures.asks.carries c.in_ok-write.ensures.asks.time
     (g.met.D.SectorDevice.lawful c.args.device.now)
     c.in_ok-write.ensures.written c.name.ensures.entry c.requires.lowest there

@@ -29,8 +29,7 @@ returns-clause-done g c =
     (number_of c.args.version) c.args.number (g.met.D.SectorDevice.lawful c.args.device.now)
     e.looks.untouched e.looks.carries e.looks.time
     (g.D.SectorDevice.state c.replace.new.device) c.next_checkpoint-next.result c.requires.memory c.requires.out
-    c.next_checkpoint-next.ensures e.durable e.no_failure
-    r.any_moment r.left r.carries c.release.new.self c.release.ensures r.content r.durable r.no_failure
+    c.next_checkpoint-next.ensures e.durable e.no_failure r.any_moment r.left r.carries c.release.ensures r.content r.durable r.no_failure
 
 pub returns-in_err-make_durable-clause-moment : goal.returns-in_err-make_durable-clause-moment
 returns-in_err-make_durable-clause-moment g c =
@@ -59,4 +58,4 @@ returns-clause-moment g c =
     e.looks.untouched e.looks.carries e.looks.time
     (g.D.SectorDevice.state c.replace.new.device) c.next_checkpoint-next.result c.requires.memory c.requires.out
     c.next_checkpoint-next.ensures e.durable e.no_failure
-    r.any_moment r.left r.carries c.release.new.self c.release.ensures r.content r.durable r.no_failure).moment
+    r.any_moment r.left r.carries c.release.ensures r.content r.durable r.no_failure).moment

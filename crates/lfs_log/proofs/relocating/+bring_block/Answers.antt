@@ -13,24 +13,24 @@ returns-in_default-clause-lacks g t c is = lacks_own c.bring_inode.new.memory (e
 
 pub returns-in-Ok-false-clause-came : goal.returns-in-Ok-false-clause-came
 returns-in-Ok-false-clause-came g t c = way_only c.args.memory.now c.bring_block.new.memory (entry_of c.args.key)
-    (entry_of c.in-Some.above) c.in-Some.ensures.some.0 c.bring_block.ensures.came
+    c.in-Some.ensures.some.0 c.bring_block.ensures.came
 
 pub returns-in-Ok-false-clause-brings : goal.returns-in-Ok-false-clause-brings
 returns-in-Ok-false-clause-brings g t c = record {
   relocates = c.bring_block.ensures.brings.relocates;
   inside = λ is. absurd (cc);
-  none = λ _. no_block_above (g.D.SectorDevice.state c.bring_block.new.device) c.bring_block.new.memory _ _ c.in-Some.ensures.some.0
+  none = λ _. no_block_above (g.D.SectorDevice.state c.bring_block.new.device) c.bring_block.new.memory _ c.in-Some.ensures.some.0
       (c.in-Ok-false.ensures.brings.none (search rules));
   ends = lifting_done c.in-Ok-false.ensures.brings.ends.no_failure;
 }
 
 pub returns-in-Err-clause-came : goal.returns-in-Err-clause-came
 returns-in-Err-clause-came g t c = way_only c.args.memory.now c.bring_block.new.memory (entry_of c.args.key)
-    (entry_of c.in-Some.above) c.in-Some.ensures.some.0 c.bring_block.ensures.came
+    c.in-Some.ensures.some.0 c.bring_block.ensures.came
 
 pub returns-in-Err-clause-lacks : goal.returns-in-Err-clause-lacks
 returns-in-Err-clause-lacks g t c is = lacks_above c.bring_block.new.memory (entry_of c.args.key)
-    (entry_of c.in-Some.above) c.in-Some.ensures.some.0 (c.in-Err.ensures.lacks (search rules))
+    c.in-Some.ensures.some.0 (c.in-Err.ensures.lacks (search rules))
 
 pub returns-clause-brings : goal.returns-clause-brings
 returns-clause-brings g t c =
@@ -40,7 +40,7 @@ returns-clause-brings g t c =
 pub returns-clause-came : goal.returns-clause-came
 returns-clause-came g t c =
     way_then c.args.memory.now c.bring_block.new.memory c.bring_child.new.memory (entry_of c.args.key)
-    (entry_of c.in-Some.above) c.in-Some.ensures.some.0 c.bring_block.ensures.came c.bring_child.ensures.came
+    c.in-Some.ensures.some.0 c.bring_block.ensures.came c.bring_child.ensures.came
 
 pub returns-clause-lacks : goal.returns-clause-lacks
 returns-clause-lacks g t c is = lacks_own c.bring_child.new.memory (entry_of c.args.key) (c.bring_child.ensures.lacks is)

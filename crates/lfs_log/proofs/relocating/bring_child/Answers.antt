@@ -21,8 +21,7 @@ returns-in-Ok-true-clause-came g c =
     let none : blocks_of c.args.memory.now.dirty (entry_of c.args.key) ≡ None = search rules in
     let before : IsInOrder c.args.memory.now.dirty = search rules in
     let after : IsInOrder c.lift_child.new.memory.dirty = search rules in
-    brings_one c.args.memory.now c.lift_child.new.memory c.args.key.code c.args.key.formed before after none
-    c.lift_child.ensures.prepares.stay
+    brings_one c.args.memory.now c.lift_child.new.memory c.args.key.formed before after none c.lift_child.ensures.prepares.stay
     (c.in-Ok-true.ensures.inside (search rules)) c.lift_child.ensures.prepares.few
 
 pub returns-in-Ok-false-clause-came : goal.returns-in-Ok-false-clause-came
@@ -32,8 +31,7 @@ returns-in-Ok-false-clause-came g c =
 
 pub returns-in-Ok-false-clause-brings : goal.returns-in-Ok-false-clause-brings
 returns-in-Ok-false-clause-brings g c = record {
-  relocates = relocates_of (g.D.SectorDevice.state c.args.device.now) (g.D.SectorDevice.state c.lift_child.new.device) c.args.memory.now
-      c.lift_child.new.memory 1 c.lift_child.ensures.prepares c.lift_child.ensures.gathers;
+  relocates = relocates_of c.lift_child.ensures.prepares c.lift_child.ensures.gathers;
   inside = λ is. absurd (cc);
   none = λ _. no_pointer_there (g.D.SectorDevice.state c.lift_child.new.device) c.lift_child.new.memory _
       (c.in-Ok-false.ensures.none (search rules));

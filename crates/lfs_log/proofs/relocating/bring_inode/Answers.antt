@@ -21,11 +21,10 @@ returns-in-Ok-false-clause-brings g c =
     (λ (none : address_in c.args.memory.now.map c.file.result ≡ 0). none)
     (c.in-Ok-false.ensures.none (search rules)) in
     record {
-      relocates = relocates_of (g.D.SectorDevice.state c.args.device.now) (g.D.SectorDevice.state c.lift_inode.new.device) c.args.memory.now
-          c.lift_inode.new.memory 1 c.lift_inode.ensures.prepares c.lift_inode.ensures.gathers;
+      relocates = relocates_of c.lift_inode.ensures.prepares c.lift_inode.ensures.gathers;
       inside = λ is. absurd (cc);
-      none = λ _. no_inode_there (g.D.SectorDevice.state c.lift_inode.new.device) c.lift_inode.new.memory _ c.file.result
-          (file_is c.args.key.code c.file.result c.file.ensures.file) c.requires.top
+      none = λ _. no_inode_there (g.D.SectorDevice.state c.lift_inode.new.device) c.lift_inode.new.memory _
+          (file_is c.args.key.code c.file.ensures.file) c.requires.top
           (ap (λ (v : LogMemory). address_in v.map c.file.result) (c.in-Ok-false.ensures.same (search rules)) ∙ gone);
       ends = lifting_done c.in-Ok-false.ensures.ends.no_failure;
     }
@@ -43,10 +42,9 @@ returns-in-Ok-true-clause-came g c =
     let before : IsInOrder c.args.memory.now.dirty = search rules in
     let after : IsInOrder c.lift_inode.new.memory.dirty = search rules in
     let own : entry_of c.args.key ≡ Inode c.file.result =
-    top_inode (entry_of c.args.key) c.file.result (file_is c.args.key.code c.file.result c.file.ensures.file) c.requires.top in
+    top_inode (entry_of c.args.key) (file_is c.args.key.code c.file.ensures.file) c.requires.top in
     let inside = c.in-Ok-true.ensures.inside (search rules) in
-    brings_one c.args.memory.now c.lift_inode.new.memory c.args.key.code c.args.key.formed before after none
-    c.lift_inode.ensures.prepares.stay
+    brings_one c.args.memory.now c.lift_inode.new.memory c.args.key.formed before after none c.lift_inode.ensures.prepares.stay
     (subst (IsInMemory c.lift_inode.new.memory) (sym own) inside.1) c.lift_inode.ensures.prepares.few
 
 pub returns-in-Ok-false-clause-came : goal.returns-in-Ok-false-clause-came

@@ -11,42 +11,36 @@ use Rattle.lfs_log.proofs.relocating.relocate_block.Goals as goal
 
 pub returns-in-Ok-clause-relocates : goal.returns-in-Ok-clause-relocates
 returns-in-Ok-clause-relocates g c =
-    relocating_done (relocated_still (g.D.SectorDevice.state c.args.device.now) c.args.memory.now c.relocate_map.new.memory
-    (IsBetween c.args.address (c.args.address + 1))
-    (map_relocates (g.D.SectorDevice.state c.args.device.now) c.args.memory.now c.relocate_map.new.memory c.name.inside.index
+    relocating_done (relocated_still (IsBetween c.args.address (c.args.address + 1)) (map_relocates
     (g.met.D.SectorDevice.lawful c.args.device.now) c.requires.memory
-    c.in-Ok.ensures.done)
-    (map_dirty c.args.memory.now c.relocate_map.new.memory c.name.inside.index c.in-Ok.ensures.done))
+    c.in-Ok.ensures.done) (map_dirty c.in-Ok.ensures.done))
 
 pub returns-in-Err-clause-relocates : goal.returns-in-Err-clause-relocates
 returns-in-Err-clause-relocates g c =
-    relocating_lost
-    (map_relocates (g.D.SectorDevice.state c.args.device.now) c.args.memory.now c.relocate_map.new.memory c.name.inside.index
+    relocating_lost (map_relocates {v = c.args.memory.now} {v' = c.relocate_map.new.memory} {j = c.name.inside.index}
     (g.met.D.SectorDevice.lawful c.args.device.now) c.requires.memory
     (inl c.in-Err.ensures.same))
     (came_none (g.D.SectorDevice.state c.args.device.now) (g.D.SectorDevice.state c.args.device.now) c.args.memory.now
     c.relocate_map.new.memory (IsBetween c.args.address (c.args.address + 1)) (ap (λ (v : LogMemory). v.dirty) c.in-Err.ensures.same))
-    (map_lost (g.D.SectorDevice.state c.args.device.now) c.args.memory.now c.name.inside.index c.in-Err.ensures.lost)
+    (map_lost (g.D.SectorDevice.state c.args.device.now) c.in-Err.ensures.lost)
 
 pub returns-in-Ok-relocate_usage-clause-relocates : goal.returns-in-Ok-relocate_usage-clause-relocates
 returns-in-Ok-relocate_usage-clause-relocates g c =
-    relocating_done (relocated_still (g.D.SectorDevice.state c.args.device.now) c.args.memory.now c.relocate_usage.new.memory
-    (IsBetween c.args.address (c.args.address + 1))
-    (usage_relocates (g.D.SectorDevice.state c.args.device.now) c.args.memory.now c.relocate_usage.new.memory c.name.inside.index
-    c.requires.memory
-    c.in-Ok-relocate_usage.ensures.done)
-    (usage_dirty c.args.memory.now c.relocate_usage.new.memory c.name.inside.index c.in-Ok-relocate_usage.ensures.done))
+    relocating_done (relocated_still (IsBetween c.args.address (c.args.address + 1))
+    (usage_relocates (g.D.SectorDevice.state c.args.device.now) c.requires.memory c.in-Ok-relocate_usage.ensures.done)
+    (usage_dirty c.in-Ok-relocate_usage.ensures.done))
 
 pub returns-in-Err-relocate_usage-clause-relocates : goal.returns-in-Err-relocate_usage-clause-relocates
 returns-in-Err-relocate_usage-clause-relocates g c =
     relocating_lost
-    (usage_relocates (g.D.SectorDevice.state c.args.device.now) c.args.memory.now c.relocate_usage.new.memory c.name.inside.index
+    (usage_relocates (g.D.SectorDevice.state c.args.device.now) {v = c.args.memory.now} {v' = c.relocate_usage.new.memory}
+    {j = c.name.inside.index}
     c.requires.memory
     (inl c.in-Err-relocate_usage.ensures.same))
     (came_none (g.D.SectorDevice.state c.args.device.now) (g.D.SectorDevice.state c.args.device.now) c.args.memory.now
     c.relocate_usage.new.memory (IsBetween c.args.address (c.args.address + 1))
     (ap (λ (v : LogMemory). v.dirty) c.in-Err-relocate_usage.ensures.same))
-    (usage_lost (g.D.SectorDevice.state c.args.device.now) c.args.memory.now c.name.inside.index c.in-Err-relocate_usage.ensures.lost)
+    (usage_lost (g.D.SectorDevice.state c.args.device.now) c.in-Err-relocate_usage.ensures.lost)
 
 pub returns-in_default-clause-left : goal.returns-in_default-clause-left
 returns-in_default-clause-left g c =

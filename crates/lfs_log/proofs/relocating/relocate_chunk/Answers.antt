@@ -10,7 +10,7 @@ pub loop-place-init : goal.loop-place-init
 loop-place-init g c =
     let old = g.D.SectorDevice.state c.args.device.now in
     record {
-      so_far = relocated_none old c.args.memory.now (IsBetween c.args.first (c.args.first + length c.args.names.now)) c.requires.memory;
+      so_far = relocated_none old (IsBetween c.args.first (c.args.first + length c.args.names.now)) c.requires.memory;
       left = leaves_none old c.args.memory.now c.args.names.now c.args.first;
       end = c.len-place-end.ensures;
     }
@@ -32,7 +32,7 @@ loop-place-preserved g c =
           (λ at between. let lt = c.loop-place-test.true in let end = c.loop-place.invariant.end in
           let low = between.0 in let high = between.1 in (omega (arith, low), omega (arith, high, lt, end)))
           c.in_ok-relocate_block.ensures.relocates;
-      left = leaves_more old now next c.args.memory.now c.loop-place.memory c.relocate_block.new.memory c.args.names.now c.args.first
+      left = leaves_more old c.args.memory.now c.args.names.now c.args.first
           c.loop-place.place c.requires.above c.in_ok-relocate_block.ensures.relocates.relocates
           (subst (λ (n : BlockNameValue). HasLeft now next c.loop-place.memory c.relocate_block.new.memory (entry_of n)
           (c.args.first + c.loop-place.place)) c.get.ensures c.in_ok-relocate_block.ensures.left)

@@ -10,44 +10,37 @@ use Rattle.lfs_log.proofs.relocating.relocate_file_block.Goals as goal
 pub returns-in-Err-clause-relocates : goal.returns-in-Err-clause-relocates
 returns-in-Err-clause-relocates g c =
     let old = g.D.SectorDevice.state c.args.device.now in
-    relocating_missed (g.met.D.SectorDevice.lawful c.args.device.now) (relocated_none old c.args.memory.now
+    relocating_missed (g.met.D.SectorDevice.lawful c.args.device.now) (relocated_none old {v = c.args.memory.now}
     (IsBetween c.args.address (c.args.address + 1)) c.requires.memory) c.locate.ensures.looks.looks c.in-Err.ensures.looks.failed
 
 pub returns-then-there-address-clause-relocates : goal.returns-then-there-address-clause-relocates
 returns-then-there-address-clause-relocates g c =
     let old = g.D.SectorDevice.state c.args.device.now in
-    relocating_done (relocated_looked (g.met.D.SectorDevice.lawful c.args.device.now) (relocated_none old c.args.memory.now
+    relocating_done (relocated_looked (g.met.D.SectorDevice.lawful c.args.device.now) (relocated_none old {v = c.args.memory.now}
     (IsBetween c.args.address (c.args.address + 1)) c.requires.memory) c.locate.ensures.looks.looks c.in-Ok.ensures.looks.no_failure)
 
 pub returns-then-there-address-clause-left : goal.returns-then-there-address-clause-left
 returns-then-there-address-clause-left g c =
     elsewhere (g.D.SectorDevice.state c.args.device.now) (g.D.SectorDevice.state c.locate.new.device) c.args.memory.now c.args.memory.now
-    (entry_of c.args.key) c.in-Ok.there c.args.address
-    c.in-Ok.ensures.answer c.if-there-address.true c.requires.above
+    (entry_of c.args.key) c.in-Ok.ensures.answer c.if-there-address.true c.requires.above
 
 pub returns-in-Ok-true-clause-relocates : goal.returns-in-Ok-true-clause-relocates
 returns-in-Ok-true-clause-relocates g c =
-    relocating_brought (g.D.SectorDevice.state c.args.device.now) (g.D.SectorDevice.state c.locate.new.device)
-    (g.D.SectorDevice.state c.bring_block.new.device) c.args.memory.now c.bring_block.new.memory (entry_of c.args.key) c.in-Ok.there
-    c.args.address (of_file c.args.key.code) c.in-Ok.ensures.answer c.if-there-address.false c.requires.above
+    relocating_brought (entry_of c.args.key) (of_file c.args.key.code) c.in-Ok.ensures.answer c.if-there-address.false c.requires.above
     (g.met.D.SectorDevice.lawful c.args.device.now) c.requires.memory c.locate.ensures.looks.looks c.in-Ok.ensures.looks.no_failure
     c.bring_block.ensures.brings.relocates c.bring_block.ensures.came
     (λ is. absurd (cc)) (lifting_done c.in-Ok-true.ensures.brings.ends.no_failure)
 
 pub returns-in-Ok-false-clause-relocates : goal.returns-in-Ok-false-clause-relocates
 returns-in-Ok-false-clause-relocates g c =
-    relocating_brought (g.D.SectorDevice.state c.args.device.now) (g.D.SectorDevice.state c.locate.new.device)
-    (g.D.SectorDevice.state c.bring_block.new.device) c.args.memory.now c.bring_block.new.memory (entry_of c.args.key) c.in-Ok.there
-    c.args.address (of_file c.args.key.code) c.in-Ok.ensures.answer c.if-there-address.false c.requires.above
+    relocating_brought (entry_of c.args.key) (of_file c.args.key.code) c.in-Ok.ensures.answer c.if-there-address.false c.requires.above
     (g.met.D.SectorDevice.lawful c.args.device.now) c.requires.memory c.locate.ensures.looks.looks c.in-Ok.ensures.looks.no_failure
     c.bring_block.ensures.brings.relocates c.bring_block.ensures.came
     (λ is. absurd (cc)) (lifting_done c.in-Ok-false.ensures.brings.ends.no_failure)
 
 pub returns-in-Err-bring_block-clause-relocates : goal.returns-in-Err-bring_block-clause-relocates
 returns-in-Err-bring_block-clause-relocates g c =
-    relocating_brought (g.D.SectorDevice.state c.args.device.now) (g.D.SectorDevice.state c.locate.new.device)
-    (g.D.SectorDevice.state c.bring_block.new.device) c.args.memory.now c.bring_block.new.memory (entry_of c.args.key) c.in-Ok.there
-    c.args.address (of_file c.args.key.code) c.in-Ok.ensures.answer c.if-there-address.false c.requires.above
+    relocating_brought (entry_of c.args.key) (of_file c.args.key.code) c.in-Ok.ensures.answer c.if-there-address.false c.requires.above
     (g.met.D.SectorDevice.lawful c.args.device.now) c.requires.memory c.locate.ensures.looks.looks c.in-Ok.ensures.looks.no_failure
     c.bring_block.ensures.brings.relocates c.bring_block.ensures.came
     (λ is. c.in-Err-bring_block.ensures.lacks (search rules)) (lifting_on _ c.in-Err-bring_block.ensures.brings.ends)

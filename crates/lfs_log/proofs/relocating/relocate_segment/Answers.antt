@@ -13,7 +13,7 @@ loop-at-init g c =
     let few : c.from-used.result ≤ 64 = let f = c.state.ensures.fits.used in let v = ap (λ n. n.used) c.state.ensures.value in
     omega (arith, f, v, used_is) in
     record {
-      so_far = relocated_none old c.args.memory.now (IsInSegment c.args.segment) c.requires.memory;
+      so_far = relocated_none old (IsInSegment c.args.segment) c.requires.memory;
       clears = subst (λ u. ClearsTo old old c.args.memory.now c.args.memory.now c.args.segment u 0) (sym used_is)
           (clears_start old c.args.memory.now c.args.segment c.requires.closed c.requires.inside);
       within = omega arith;
@@ -24,39 +24,29 @@ loop-at-init g c =
 pub returns-in-Err-clause-relocates : goal.returns-in-Err-clause-relocates
 returns-in-Err-clause-relocates g c =
     let so_far = c.loop-at.invariant in
-    relocating_missed (g.met.D.SectorDevice.lawful c.args.device.now) so_far.so_far c.read_sector.ensures.looks
-    (summary_missing (g.D.SectorDevice.state c.args.device.now) (g.D.SectorDevice.state c.loop-at.device)
-    (g.D.SectorDevice.state c.read_sector.new.device)
-    c.args.memory.now c.loop-at.memory c.args.segment c.from-used.result c.loop-at.at so_far.clears so_far.so_far.relocates
-    c.read_sector.ensures.looks
-    (long_there (g.D.SectorDevice.state c.args.device.now) c.args.memory.now c.args.segment c.from-used.result
+    relocating_missed (g.met.D.SectorDevice.lawful c.args.device.now) so_far.so_far c.read_sector.ensures.looks (summary_missing
+     c.args.segment c.from-used.result c.loop-at.at so_far.clears so_far.so_far.relocates
+    c.read_sector.ensures.looks (long_there c.args.memory.now c.args.segment c.from-used.result
     (g.met.D.SectorDevice.lawful c.args.device.now) c.requires.size c.requires.inside so_far.few)
     c.loop-at-test.true c.in-Err.ensures.unread)
 
 pub returns-in_default-clause-relocates : goal.returns-in_default-clause-relocates
 returns-in_default-clause-relocates g c =
     let so_far = c.loop-at.invariant in
-    relocating_missed (g.met.D.SectorDevice.lawful c.args.device.now) so_far.so_far c.read_sector.ensures.looks
-    (no_summary (g.D.SectorDevice.state c.args.device.now) (g.D.SectorDevice.state c.loop-at.device)
-    (g.D.SectorDevice.state c.read_sector.new.device)
-    c.args.memory.now c.loop-at.memory c.args.segment c.from-used.result c.loop-at.at so_far.clears so_far.so_far.relocates
-    c.read_sector.ensures.looks
-    (long_there (g.D.SectorDevice.state c.args.device.now) c.args.memory.now c.args.segment c.from-used.result
+    relocating_missed (g.met.D.SectorDevice.lawful c.args.device.now) so_far.so_far c.read_sector.ensures.looks (no_summary
+     c.args.segment c.from-used.result c.loop-at.at so_far.clears so_far.so_far.relocates
+    c.read_sector.ensures.looks (long_there c.args.memory.now c.args.segment c.from-used.result
     (g.met.D.SectorDevice.lawful c.args.device.now) c.requires.size c.requires.inside so_far.few)
-    c.loop-at-test.true c.read_sector.new.out c.in-Ok.ensures.read c.in_default.ensures.exact)
+    c.loop-at-test.true c.in-Ok.ensures.read c.in_default.ensures.exact)
 
 pub returns-then-count-used-clause-relocates : goal.returns-then-count-used-clause-relocates
 returns-then-count-used-clause-relocates g c =
     let so_far = c.loop-at.invariant in
-    relocating_missed (g.met.D.SectorDevice.lawful c.args.device.now) so_far.so_far c.read_sector.ensures.looks
-    (too_long (g.D.SectorDevice.state c.args.device.now) (g.D.SectorDevice.state c.loop-at.device)
-    (g.D.SectorDevice.state c.read_sector.new.device)
-    c.args.memory.now c.loop-at.memory c.args.segment c.from-used.result c.loop-at.at so_far.clears so_far.so_far.relocates
-    c.read_sector.ensures.looks
-    (long_there (g.D.SectorDevice.state c.args.device.now) c.args.memory.now c.args.segment c.from-used.result
+    relocating_missed (g.met.D.SectorDevice.lawful c.args.device.now) so_far.so_far c.read_sector.ensures.looks (too_long
+     c.args.segment c.from-used.result c.loop-at.at so_far.clears so_far.so_far.relocates
+    c.read_sector.ensures.looks (long_there c.args.memory.now c.args.segment c.from-used.result
     (g.met.D.SectorDevice.lawful c.args.device.now) c.requires.size c.requires.inside so_far.few)
-    c.loop-at-test.true c.read_sector.new.out c.in-Ok.ensures.read c.in-Some.names c.in-Some.ensures.exact c.len-count.result
-    c.len-count.ensures
+    c.loop-at-test.true c.in-Ok.ensures.read c.in-Some.ensures.exact c.len-count.ensures
     (let big = c.if-count-used.true in let lt = c.loop-at-test.true in omega (arith, big, lt)))
 
 pub returns-in_err-relocate_chunk-clause-relocates : goal.returns-in_err-relocate_chunk-clause-relocates
@@ -89,12 +79,10 @@ loop-at-preserved g c =
           _
           (λ at between. let low = between.0 in let high = between.1 in (omega (arith, low), omega (arith, high, small, lt, count, few)))
           c.in_ok-relocate_chunk.ensures.relocates;
-      clears = clears_more old now mid c.args.memory.now c.loop-at.memory c.args.segment c.from-used.result c.loop-at.at so_far.clears
-          so_far.so_far.relocates c.read_sector.ensures.looks
-          (long_there old c.args.memory.now c.args.segment c.from-used.result lawful c.requires.size c.requires.inside so_far.few)
-          c.loop-at-test.true c.read_sector.new.out c.in-Ok.ensures.read c.in-Some.names c.in-Some.ensures.exact c.requires.closed
-          c.requires.inside so_far.used_is so_far.few
-          (omega (arith, small, lt, count)) next c.relocate_chunk.new.memory c.in_ok-relocate_chunk.ensures.relocates.relocates
+      clears = clears_more c.args.segment c.from-used.result c.loop-at.at so_far.clears so_far.so_far.relocates c.read_sector.ensures.looks
+          (long_there c.args.memory.now c.args.segment c.from-used.result lawful c.requires.size c.requires.inside so_far.few)
+          c.loop-at-test.true c.in-Ok.ensures.read c.in-Some.ensures.exact c.requires.closed c.requires.inside so_far.used_is so_far.few
+          (omega (arith, small, lt, count)) c.in_ok-relocate_chunk.ensures.relocates.relocates
           (2 + 64 * c.args.segment + c.loop-at.at + 1) (c.loop-at.at + (1 + c.len-count.result)) refl
           (omega (arith, count)) c.in_ok-relocate_chunk.ensures.left;
       within = omega (arith, small, lt, count);
@@ -112,9 +100,9 @@ returns-clause-vacates g c =
     let within = so_far.within in
     let high = c.loop-at-test.false in
     let end : c.loop-at.at ≡ c.from-used.result = omega (arith, within, high) in
-    all_cleared old (g.D.SectorDevice.state c.loop-at.device) c.args.memory.now c.loop-at.memory c.args.segment c.from-used.result
+    all_cleared old (g.D.SectorDevice.state c.loop-at.device) c.args.memory.now c.loop-at.memory c.args.segment
     c.requires.closed c.requires.inside so_far.used_is
-    (long_there old c.args.memory.now c.args.segment c.from-used.result (g.met.D.SectorDevice.lawful c.args.device.now) c.requires.size
+    (long_there c.args.memory.now c.args.segment c.from-used.result (g.met.D.SectorDevice.lawful c.args.device.now) c.requires.size
     c.requires.inside so_far.few)
     (subst (ClearsTo old (g.D.SectorDevice.state c.loop-at.device) c.args.memory.now c.loop-at.memory c.args.segment c.from-used.result) end
     so_far.clears)

@@ -6,8 +6,7 @@ use Rattle.lfs_log.proofs.settling.fill_usage.Goals as goal
 pub loop-index-init : goal.loop-index-init
 loop-index-init g c =
     record {
-      goes = goes_none (g.D.SectorDevice.state c.args.device.now) c.args.memory.now
-          (g.met.D.SectorDevice.lawful c.args.device.now) c.requires.memory;
+      goes = goes_none c.args.memory.now (g.met.D.SectorDevice.lawful c.args.device.now) c.requires.memory;
       end = c.block_count-index-end.ensures.count;
       anew = c.requires.anew;
       fresh = λ j lt. absurd (omega arith);
@@ -21,21 +20,17 @@ loop-index-init g c =
 
 pub returns-in_err-fill_block-clause-stopped : goal.returns-in_err-fill_block-clause-stopped
 returns-in_err-fill_block-clause-stopped g c =
-    on_err _ _ (stops_then 62 (g.D.SectorDevice.state c.args.device.now) (g.D.SectorDevice.state c.loop-index.device)
-    (g.D.SectorDevice.state c.fill_block.new.device)
-    c.args.memory.now c.loop-index.memory 0 c.loop-index.invariant.goes c.in_err-fill_block.ensures.stopped)
+    on_err _ _ (stops_then c.loop-index.invariant.goes c.in_err-fill_block.ensures.stopped)
 
 pub loop-index-preserved : goal.loop-index-preserved
 loop-index-preserved g c =
     let so_far = c.loop-index.invariant in
     let filled = c.in_ok-fill_block.ensures.filled in
     record {
-      goes = goes_then 62 62 (g.D.SectorDevice.state c.args.device.now) (g.D.SectorDevice.state c.loop-index.device)
-          (g.D.SectorDevice.state c.fill_block.new.device)
-          c.args.memory.now c.loop-index.memory c.fill_block.new.memory 0 0 so_far.goes c.in_ok-fill_block.ensures.done;
+      goes = goes_then so_far.goes c.in_ok-fill_block.ensures.done;
       end = so_far.end;
-      anew = filled_anew c.loop-index.memory.usage c.fill_block.new.memory.usage c.loop-index.index filled so_far.anew;
-      fresh = filled_fresh c.loop-index.memory.usage c.fill_block.new.memory.usage c.loop-index.index filled so_far.fresh;
+      anew = filled_anew filled so_far.anew;
+      fresh = filled_fresh filled so_far.fresh;
       segments = filled.segments ∙ so_far.segments;
       address = λ j. filled.address j ∙ so_far.address j;
       map = c.fill_block.ensures.only.map ∙ so_far.map;

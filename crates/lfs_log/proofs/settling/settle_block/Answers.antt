@@ -9,9 +9,8 @@ use Rattle.lfs_log.proofs.settling.settle_block.Goals as goal
 pub returns-in_err-resettle-clause-saves : goal.returns-in_err-resettle-clause-saves
 returns-in_err-resettle-clause-saves g c =
     let d = g.D.SectorDevice.state c.args.device.now in
-    saving_failed _ _ c.from_residual.ensures
-    (record {
-      stops = not_there d c.args.memory.now c.args.index c.requires.index c.in_err-resettle.ensures.nowhere (carries_none d);
+    saving_failed _ c.from_residual.ensures (record {
+      stops = not_there d c.requires.index c.in_err-resettle.ensures.nowhere (carries_none {d = d});
       room = search rules;
       tells = search rules;
     })
@@ -32,7 +31,7 @@ returns-clause-saves g c =
       goes = resettled_goes v middle c.args.index c.args.age c.requires.memory c.requires.stale is d d' c.seal_full.new.memory one.goes;
       tells = let told = one.tells in omega (arith, due, told);
     }) (λ one. record {
-      stops = resettled_stops v middle c.args.index c.args.age c.requires.memory c.requires.stale is d d' one.stops;
+      stops = resettled_stops v middle c.args.index c.args.age c.requires.memory c.requires.stale is d one.stops;
       room =
           let first = resettled_room v middle c.args.index c.args.age c.requires.memory c.requires.stale is in
           let then' = one.room in

@@ -7,8 +7,7 @@ pub loop-round-init : goal.loop-round-init
 loop-round-init g c =
     let few = out_most c.args.memory.now.usage in
     record {
-      saves = saves_none (g.D.SectorDevice.state c.args.device.now) c.args.memory.now
-          (g.met.D.SectorDevice.lawful c.args.device.now) c.requires.memory;
+      saves = saves_none (g.met.D.SectorDevice.lawful c.args.device.now) c.requires.memory;
       left = omega arith;
       map = refl;
       dirty = refl;
@@ -17,8 +16,7 @@ loop-round-init g c =
 pub returns-in_err-settle_block-clause-saves : goal.returns-in_err-settle_block-clause-saves
 returns-in_err-settle_block-clause-saves g c =
     let lt = c.loop-round-test.true in
-    saving_failed _ _ c.from_residual.ensures
-    (saving_at_most _ _ (omega (arith, lt)) (omega arith)
+    saving_failed _ c.from_residual.ensures (saving_at_most _ _ (omega (arith, lt)) (omega arith)
     (stops_behind c.loop-round.invariant.saves c.in_err-settle_block.ensures.saves.stopped))
 
 pub loop-round-preserved : goal.loop-round-preserved
@@ -26,8 +24,7 @@ loop-round-preserved g c =
     let few = c.loop-round.invariant.saves.goes.memory.count.most in
     let found = c.in-Some.ensures.some in
     let low = found.0 in
-    let less = out_less c.loop-round.memory.usage c.settle_block.new.memory.usage c.in-Some.index found.2 c.in_ok-settle_block.ensures.moved
-    (omega arith) in
+    let less = out_less found.2 c.in_ok-settle_block.ensures.moved (omega arith) in
     let left = c.loop-round.invariant.left in
     record {
       saves = saves_then c.loop-round.invariant.saves c.in_ok-settle_block.ensures.saves.done;

@@ -4,5 +4,5 @@ use Rattle.lfs_memory.proofs.applying.apply_blocks.Goals as goal
 
 pub loop-edit-preserved : goal.loop-edit-preserved
 loop-edit-preserved c =
-    blocks_then c.args.memory.now c.loop-edit.memory c.args.edits.now c.loop-edit.edit-index c.edit-item.result c.loop-edit-test.true
+    blocks_then c.edit-item.result c.loop-edit-test.true
     (search rules) c.loop-edit.invariant c.apply_block.new.memory c.in_ok-apply_block.ensures.done

@@ -10,11 +10,11 @@ use Rattle.lfs_memory.proofs.Looses.{stays_put}
 pub returns : goal.returns
 unfolding zeros
 returns c = record {
-  stays = stays_put 1 c.args.memory.now _ refl refl c.fetch.ensures.capacity
+  stays = stays_put 1 _ refl refl c.fetch.ensures.capacity
       (subst (λ (n : ℕ). n ≤ length c.args.memory.now.dirty.blocks + 1) (sym c.fetch.ensures.length)
       (at_most_one (is_some (find nat_cmp c.args.key.code c.args.memory.now.dirty.blocks)) (length c.args.memory.now.dirty.blocks)));
   map = refl;
   usage = refl;
-  low = leaf_low c.args.key.code c.args.key.formed;
+  low = leaf_low c.args.key.formed;
   comes = c.fetch.ensures.fetches;
 }

@@ -6,8 +6,7 @@ pub returns-then-not-add-clause-looks : goal.returns-then-not-add-clause-looks
 returns-then-not-add-clause-looks g c = record {
   failed =
       file_over (g.D.SectorDevice.state c.args.device.now) (g.D.SectorDevice.state c.count_past.new.device) c.args.memory.now c.args.number
-      c.count_past.new.counts c.in_ok-count_past.ensures.counted
-      c.address.result c.address.ensures (c.if-not-add.ensures.over (search rules));
+      c.count_past.new.counts c.in_ok-count_past.ensures.counted c.address.ensures (c.if-not-add.ensures.over (search rules));
   no_failure = search rules;
   looks = search rules;
 }
@@ -15,5 +14,4 @@ returns-then-not-add-clause-looks g c = record {
 pub returns-clause-counted : goal.returns-clause-counted
 returns-clause-counted g c =
     file_counted (g.D.SectorDevice.state c.args.device.now) (g.D.SectorDevice.state c.count_past.new.device) c.args.memory.now c.args.number
-    c.count_past.new.counts c.in_ok-count_past.ensures.counted
-    c.address.result c.address.ensures c.add.new.self (c.if-not-add.ensures.done (search rules))
+    c.count_past.new.counts c.in_ok-count_past.ensures.counted c.address.ensures (c.if-not-add.ensures.done (search rules))

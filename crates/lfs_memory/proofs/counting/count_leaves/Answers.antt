@@ -23,12 +23,10 @@ loop-index-preserved g c =
     let was = c.loop-index.invariant in
     let now = c.in_ok-count_leaf.ensures in
     record {
-      counts = leaves_more old mid new c.args.memory.now c.args.tail.number c.args.root.now c.loop-index.index c.word-address.result
-          c.args.tail.first
-          was.looks now.looks
-          (sym (word_read c.args.root.now c.loop-index.index c.loop-index.index c.word-address.result refl c.word-address.ensures))
+      counts = leaves_more old mid new c.args.memory.now c.args.tail.number c.args.root.now c.loop-index.index c.args.tail.first
+          was.looks now.looks (sym (word_read c.args.root.now c.loop-index.index c.loop-index.index refl c.word-address.ensures))
           c.args.counts.now c.loop-index.counts was.counts c.count_leaf.new.counts now.done;
-      looks = looks_then old mid new (g.met.D.SectorDevice.lawful c.args.device.now) was.looks now.looks;
+      looks = looks_then (g.met.D.SectorDevice.lawful c.args.device.now) was.looks now.looks;
       no_failure = now.no_failure ∙ was.no_failure;
     }
 
@@ -47,8 +45,8 @@ returns-in_err-count_leaf-clause-failed g c =
     let new = g.D.SectorDevice.state c.count_leaf.new.device in
     on_err c.from_residual.result
     (FailsLeaves old new c.args.memory.now c.args.tail.number c.args.root.now 128 c.args.tail.first c.args.counts.now)
-    (leaves_fail old mid new c.args.memory.now c.args.tail.number c.args.root.now c.loop-index.index c.word-address.result c.args.tail.first
+    (leaves_fail old mid new c.args.memory.now c.args.tail.number c.args.root.now c.loop-index.index c.args.tail.first
     c.loop-index.invariant.looks c.in_err-count_leaf.ensures.looks
-    (sym (word_read c.args.root.now c.loop-index.index c.loop-index.index c.word-address.result refl c.word-address.ensures))
+    (sym (word_read c.args.root.now c.loop-index.index c.loop-index.index refl c.word-address.ensures))
     c.args.counts.now c.loop-index.counts c.loop-index.invariant.counts 128
     c.loop-index-test.true c.in_err-count_leaf.ensures.failed)

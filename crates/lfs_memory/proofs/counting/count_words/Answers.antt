@@ -8,8 +8,8 @@ loop-i-init c = record { counts = words_none c.args.block.now c.args.start c.arg
 
 pub loop-i-preserved : goal.loop-i-preserved
 loop-i-preserved c = record {
-  counts = words_more c.args.block.now c.args.start c.loop-i.i c.word.result c.args.counts.now c.loop-i.counts c.add.new.self
-      (sym (word_read c.args.block.now (c.args.start + c.loop-i.i) (c.args.start + c.loop-i.i) c.word.result refl c.word.ensures))
+  counts = words_more c.args.block.now c.args.start c.loop-i.i c.args.counts.now
+      (sym (word_read c.args.block.now (c.args.start + c.loop-i.i) (c.args.start + c.loop-i.i) refl c.word.ensures))
       c.loop-i.invariant.counts (c.if-not-add.ensures.done (search rules));
 }
 
@@ -22,6 +22,6 @@ returns-clause-done c =
 
 pub returns-then-not-add-clause-failed : goal.returns-then-not-add-clause-failed
 returns-then-not-add-clause-failed c =
-    words_over c.args.block.now c.args.start c.loop-i.i c.args.number c.word.result c.args.counts.now c.loop-i.counts c.loop-i-test.true
-    (sym (word_read c.args.block.now (c.args.start + c.loop-i.i) (c.args.start + c.loop-i.i) c.word.result refl c.word.ensures))
+    words_over c.args.block.now c.args.start c.loop-i.i c.args.number c.args.counts.now c.loop-i-test.true
+    (sym (word_read c.args.block.now (c.args.start + c.loop-i.i) (c.args.start + c.loop-i.i) refl c.word.ensures))
     c.loop-i.invariant.counts (c.if-not-add.ensures.over (search rules))

@@ -7,5 +7,4 @@ pub returns-clause-clears : goal.returns-clause-clears
 returns-clause-clears c =
     let high = c.if-first-le-DIRECT_BLOCKS.false in
     let some = c.if-kept-eq0.false in
-    clears_leaf c.args.number c.args.first (blocks_of c.args.dirty.now) (blocks_of c.clear_words.new.self) _ _ _ c.leaf-leaf.ensures
-    (omega (arith, high)) (omega (arith, some)) (omega arith) c.clear_words.ensures.changed
+    clears_leaf _ _ _ c.leaf-leaf.ensures (omega (arith, high)) (omega (arith, some)) (omega arith) c.clear_words.ensures.changed

@@ -4,8 +4,5 @@ use Rattle.lfs_memory.proofs.cutting.clear_pointers.Goals as goal
 
 pub returns-clause-clears : goal.returns-clause-clears
 returns-clause-clears c =
-    clears_pointers c.args.number c.args.first (blocks_of c.args.dirty.now) (blocks_of c.clear_words.new.self)
-    (blocks_of c.clear_words-2.new.self) (blocks_of c.clear_leaf.new.dirty) _ _
-    c.kept_of_inode-kept.result c.kept_of_root-leaves.result c.kept_of_inode-kept.ensures c.kept_of_root-leaves.ensures c.inode.ensures
-    c.double.ensures
+    clears_pointers _ _ c.kept_of_inode-kept.ensures c.kept_of_root-leaves.ensures c.inode.ensures c.double.ensures
     c.clear_words.ensures.changed c.clear_words-2.ensures.changed c.clear_leaf.ensures.clears

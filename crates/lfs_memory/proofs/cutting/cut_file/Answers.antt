@@ -10,9 +10,7 @@ use Rattle.lfs_memory.proofs.cutting.cut_file.Goals as goal
 
 pub returns-in-Ok-false-clause-cuts : goal.returns-in-Ok-false-clause-cuts
 returns-in-Ok-false-clause-cuts g c =
-    nothing_cut (g.D.SectorDevice.state c.args.device.now) (g.D.SectorDevice.state c.lift_inode.new.device) c.args.memory.now
-    c.lift_inode.new.memory c.args.number c.args.first
-    c.in-Ok-false.ensures.prepares (c.in-Ok-false.ensures.none (search rules))
+    nothing_cut c.in-Ok-false.ensures.prepares (c.in-Ok-false.ensures.none (search rules))
 
 pub returns-in-Err-clause-ends : goal.returns-in-Err-clause-ends
 returns-in-Err-clause-ends g c = record {
@@ -26,8 +24,7 @@ returns-in_err-lift_edge-clause-prepares g c =
     let old = g.D.SectorDevice.state c.args.device.now in
     let one = g.D.SectorDevice.state c.lift_inode.new.device in
     let two = g.D.SectorDevice.state c.lift_edge.new.device in
-    on_err c.from_residual.result _
-    (prepares_then old one two c.args.memory.now c.lift_inode.new.memory c.lift_edge.new.memory 1 2
+    on_err c.from_residual.result _ (prepares_then
     (g.met.D.SectorDevice.lawful c.args.device.now) c.in-Ok-true.ensures.prepares c.lift_edge.ensures.prepares)
 
 pub returns-in_err-lift_edge-clause-ends : goal.returns-in_err-lift_edge-clause-ends
@@ -37,8 +34,7 @@ returns-in_err-lift_edge-clause-ends g c = record {
   failed = λ is. let old = g.D.SectorDevice.state c.args.device.now in
       let one = g.D.SectorDevice.state c.lift_inode.new.device in
       let two = g.D.SectorDevice.state c.lift_edge.new.device in
-      prepares_excused old one two c.args.memory.now c.lift_inode.new.memory 1 c.in-Ok-true.ensures.prepares
-      c.lift_edge.ensures.prepares.looks (c.in_err-lift_edge.ensures.ends.failed
+      prepares_excused c.in-Ok-true.ensures.prepares c.lift_edge.ensures.prepares.looks (c.in_err-lift_edge.ensures.ends.failed
       (passed_on c.from_residual.result c.in_err-lift_edge.field-0.0 _ c.from_residual.ensures is));
   no_failure = err_ok c.from_residual.result _ _ c.from_residual.ensures;
 }
@@ -49,11 +45,9 @@ returns-in-Ok-clause-cuts g c =
     let one = g.D.SectorDevice.state c.lift_inode.new.device in
     let two = g.D.SectorDevice.state c.lift_edge.new.device in
     let new = g.D.SectorDevice.state c.drop_counted.new.device in
-    let up = prepares_then old one two c.args.memory.now c.lift_inode.new.memory c.lift_edge.new.memory 1 2
-    (g.met.D.SectorDevice.lawful c.args.device.now) c.in-Ok-true.ensures.prepares c.lift_edge.ensures.prepares in
+    let up = prepares_then (g.met.D.SectorDevice.lawful c.args.device.now) c.in-Ok-true.ensures.prepares c.lift_edge.ensures.prepares in
     let there = (c.in-Ok-true.ensures.inside (search rules)).1 in
-    file_cut old two new c.args.memory.now c.lift_edge.new.memory c.drop_counted.new.memory c.args.number c.args.first
-    c.drop_counted.new.counts (g.met.D.SectorDevice.lawful c.args.device.now) up
+    file_cut old two new (g.met.D.SectorDevice.lawful c.args.device.now) up
     c.drop_counted.ensures.looks.looks c.requires.number (c.lift_edge.ensures.prepares.stay (Inode c.args.number) there)
     c.in_ok-lift_edge.ensures.edge
     c.in-Ok.ensures.counted c.in-Ok.ensures.drops
@@ -64,12 +58,10 @@ returns-in-Err-drop_counted-clause-prepares g c =
     let one = g.D.SectorDevice.state c.lift_inode.new.device in
     let two = g.D.SectorDevice.state c.lift_edge.new.device in
     let new = g.D.SectorDevice.state c.drop_counted.new.device in
-    let up = prepares_then old one two c.args.memory.now c.lift_inode.new.memory c.lift_edge.new.memory 1 2
-    (g.met.D.SectorDevice.lawful c.args.device.now) c.in-Ok-true.ensures.prepares c.lift_edge.ensures.prepares in
-    subst (λ (v : LogMemory). Prepares old new c.args.memory.now v 3) (sym c.in-Err-drop_counted.ensures.same)
-    (prepares_then old two new c.args.memory.now c.lift_edge.new.memory c.lift_edge.new.memory 3 0
+    let up = prepares_then (g.met.D.SectorDevice.lawful c.args.device.now) c.in-Ok-true.ensures.prepares c.lift_edge.ensures.prepares in
+    subst (λ (v : LogMemory). Prepares old new c.args.memory.now v 3) (sym c.in-Err-drop_counted.ensures.same) (prepares_then
     (g.met.D.SectorDevice.lawful c.args.device.now) up
-    (prepares_looks two new c.lift_edge.new.memory (g.met.D.SectorDevice.lawful c.lift_edge.new.device) up.memory
+    (prepares_looks c.lift_edge.new.memory (g.met.D.SectorDevice.lawful c.lift_edge.new.device) up.memory
     c.drop_counted.ensures.looks.looks))
 
 pub returns-in-Err-drop_counted-clause-ends : goal.returns-in-Err-drop_counted-clause-ends
@@ -79,9 +71,7 @@ returns-in-Err-drop_counted-clause-ends g c = record {
       let one = g.D.SectorDevice.state c.lift_inode.new.device in
       let two = g.D.SectorDevice.state c.lift_edge.new.device in
       let new = g.D.SectorDevice.state c.drop_counted.new.device in
-      let up = prepares_then old one two c.args.memory.now c.lift_inode.new.memory c.lift_edge.new.memory 1 2
-      (g.met.D.SectorDevice.lawful c.args.device.now) c.in-Ok-true.ensures.prepares c.lift_edge.ensures.prepares in
-      prepares_excused old two new c.args.memory.now c.lift_edge.new.memory 3 up c.drop_counted.ensures.looks.looks
-      c.in-Err-drop_counted.ensures.looks.failed;
+      let up = prepares_then (g.met.D.SectorDevice.lawful c.args.device.now) c.in-Ok-true.ensures.prepares c.lift_edge.ensures.prepares in
+      prepares_excused up c.drop_counted.ensures.looks.looks c.in-Err-drop_counted.ensures.looks.failed;
   no_failure = search rules;
 }

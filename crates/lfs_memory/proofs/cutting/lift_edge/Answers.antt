@@ -15,8 +15,7 @@ returns-in-Ok-true-clause-prepares g c =
     let old = g.D.SectorDevice.state c.args.device.now in
     let mid = g.D.SectorDevice.state c.lift_child.new.device in
     let new = g.D.SectorDevice.state c.lift_part-in-Ok-true.new.device in
-    prepares_then old mid new c.args.memory.now c.lift_child.new.memory c.lift_part-in-Ok-true.new.memory 1 1
-    (g.met.D.SectorDevice.lawful c.args.device.now) c.in-Ok-true.ensures.prepares c.lift_part-in-Ok-true.ensures.prepares
+    prepares_then (g.met.D.SectorDevice.lawful c.args.device.now) c.in-Ok-true.ensures.prepares c.lift_part-in-Ok-true.ensures.prepares
 
 pub returns-in-Ok-true-clause-edge : goal.returns-in-Ok-true-clause-edge
 returns-in-Ok-true-clause-edge g c =
@@ -30,8 +29,7 @@ returns-in-Ok-true-clause-ends g c =
     let old = g.D.SectorDevice.state c.args.device.now in
     let mid = g.D.SectorDevice.state c.lift_child.new.device in
     let new = g.D.SectorDevice.state c.lift_part-in-Ok-true.new.device in
-    ends_then old mid new c.args.memory.now c.lift_child.new.memory c.lift_part-in-Ok-true.new.memory 1 c.in-Ok-true.ensures.prepares
-    c.in-Ok-true.ensures.ends.no_failure c.lift_part-in-Ok-true.ensures.prepares.looks c.lift_part-in-Ok-true.result
+    ends_then 1 c.in-Ok-true.ensures.prepares c.in-Ok-true.ensures.ends.no_failure c.lift_part-in-Ok-true.ensures.prepares.looks
     c.lift_part-in-Ok-true.ensures.ends
 
 pub returns-in-Err-clause-ends : goal.returns-in-Err-clause-ends

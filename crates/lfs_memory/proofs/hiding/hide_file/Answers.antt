@@ -20,9 +20,8 @@ returns-in-Err-count_file-clause-prepares g c =
     let mid = g.D.SectorDevice.state c.lift_inode.new.device in
     let new = g.D.SectorDevice.state c.count_file.new.device in
     let first = c.in-Ok-true.ensures.prepares in
-    prepares_then old mid new c.args.memory.now c.lift_inode.new.memory c.lift_inode.new.memory 1 0
-    (g.met.D.SectorDevice.lawful c.args.device.now) first
-    (prepares_looks mid new c.lift_inode.new.memory (g.met.D.SectorDevice.lawful c.lift_inode.new.device) first.memory
+    prepares_then (g.met.D.SectorDevice.lawful c.args.device.now) first
+    (prepares_looks c.lift_inode.new.memory (g.met.D.SectorDevice.lawful c.lift_inode.new.device) first.memory
     c.count_file.ensures.looks.looks)
 
 pub returns-in-Err-count_file-clause-failed : goal.returns-in-Err-count_file-clause-failed
@@ -30,8 +29,7 @@ returns-in-Err-count_file-clause-failed g c _ =
     let old = g.D.SectorDevice.state c.args.device.now in
     let mid = g.D.SectorDevice.state c.lift_inode.new.device in
     let new = g.D.SectorDevice.state c.count_file.new.device in
-    link_excused old new c.args.memory.now c.args.number
-    (prepares_excused old mid new c.args.memory.now c.lift_inode.new.memory 1 c.in-Ok-true.ensures.prepares c.count_file.ensures.looks.looks
+    link_excused old new c.args.memory.now c.args.number (prepares_excused c.in-Ok-true.ensures.prepares c.count_file.ensures.looks.looks
     c.in-Err-count_file.ensures.looks.failed)
 
 pub returns-then-not-are_covered-clause-prepares : goal.returns-then-not-are_covered-clause-prepares
@@ -40,9 +38,8 @@ returns-then-not-are_covered-clause-prepares g c =
     let mid = g.D.SectorDevice.state c.lift_inode.new.device in
     let new = g.D.SectorDevice.state c.count_file.new.device in
     let first = c.in-Ok-true.ensures.prepares in
-    prepares_then old mid new c.args.memory.now c.lift_inode.new.memory c.lift_inode.new.memory 1 0
-    (g.met.D.SectorDevice.lawful c.args.device.now) first
-    (prepares_looks mid new c.lift_inode.new.memory (g.met.D.SectorDevice.lawful c.lift_inode.new.device) first.memory
+    prepares_then (g.met.D.SectorDevice.lawful c.args.device.now) first
+    (prepares_looks c.lift_inode.new.memory (g.met.D.SectorDevice.lawful c.lift_inode.new.device) first.memory
     c.count_file.ensures.looks.looks)
 
 pub returns-then-not-are_covered-clause-failed : goal.returns-then-not-are_covered-clause-failed
@@ -51,8 +48,7 @@ returns-then-not-are_covered-clause-failed g c _ =
     let mid = g.D.SectorDevice.state c.lift_inode.new.device in
     let new = g.D.SectorDevice.state c.count_file.new.device in
     let shown : is_hidden_in c.args.memory.now.map c.args.number ≡ false = sym c.is_hidden.ensures ∙ c.if-is_hidden.false in
-    link_excused old new c.args.memory.now c.args.number
-    (blocks_covered old mid new c.args.memory.now c.lift_inode.new.memory c.args.number c.count_file.new.counts
+    link_excused old new c.args.memory.now c.args.number (blocks_covered old mid new c.args.number c.count_file.new.counts
     (g.met.D.SectorDevice.lawful c.args.device.now)
     c.in-Ok-true.ensures.prepares c.count_file.ensures.looks.looks c.requires.number.few shown c.in-Ok.ensures.counted
     (c.if-not-are_covered.ensures.no (search rules)))
@@ -63,8 +59,5 @@ returns-clause-hides g c =
     let mid = g.D.SectorDevice.state c.lift_inode.new.device in
     let new = g.D.SectorDevice.state c.count_file.new.device in
     let shown : is_hidden_in c.args.memory.now.map c.args.number ≡ false = sym c.is_hidden.ensures ∙ c.if-is_hidden.false in
-    file_hidden old mid new c.args.memory.now c.lift_inode.new.memory c.args.number c.count_file.new.counts
-    (g.met.D.SectorDevice.lawful c.args.device.now)
-    c.in-Ok-true.ensures.prepares c.count_file.ensures.looks.looks c.requires.number.few shown c.in-Ok.ensures.counted
-    c.drop_links.new.memory
-    c.args.kind c.args.form c.args.size c.drop_links.ensures
+    file_hidden old mid new c.args.number c.count_file.new.counts (g.met.D.SectorDevice.lawful c.args.device.now)
+    c.in-Ok-true.ensures.prepares c.count_file.ensures.looks.looks c.requires.number.few shown c.in-Ok.ensures.counted c.drop_links.ensures

@@ -4,4 +4,4 @@ use Rattle.lfs_memory.proofs.LiftedKeys.{leaf_low}
 use Rattle.lfs_memory.proofs.lifting.known_pointer.Goals as goal
 
 pub returns : goal.returns
-returns c = pointed_stands c.args.memory.now _ _ c.requires.below (leaf_low c.args.key.code c.args.key.formed) (search rules)
+returns c = pointed_stands c.args.memory.now _ _ c.requires.below (leaf_low c.args.key.formed) (search rules)

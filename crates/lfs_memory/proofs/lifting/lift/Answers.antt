@@ -11,44 +11,35 @@ use Rattle.lfs_memory.proofs.lifting.lift.Goals as goal
 
 pub returns-then-len-capacity-clause-prepares : goal.returns-then-len-capacity-clause-prepares
 returns-then-len-capacity-clause-prepares g c =
-    prepares_at_most (g.D.SectorDevice.state c.args.device.now) (g.D.SectorDevice.state c.args.device.now) c.args.memory.now
-    c.args.memory.now 0 1 (omega arith)
-    (prepares_looks (g.D.SectorDevice.state c.args.device.now) (g.D.SectorDevice.state c.args.device.now) c.args.memory.now
-    (g.met.D.SectorDevice.lawful c.args.device.now) c.requires.memory
+    prepares_at_most (omega arith) (prepares_looks c.args.memory.now (g.met.D.SectorDevice.lawful c.args.device.now) c.requires.memory
     (looks_none (g.D.SectorDevice.state c.args.device.now)))
 
 pub returns-then-not-is_counted-clause-prepares : goal.returns-then-not-is_counted-clause-prepares
 returns-then-not-is_counted-clause-prepares g c =
-    prepares_at_most (g.D.SectorDevice.state c.args.device.now) (g.D.SectorDevice.state c.args.device.now) c.args.memory.now
-    c.args.memory.now 0 1 (omega arith)
-    (prepares_looks (g.D.SectorDevice.state c.args.device.now) (g.D.SectorDevice.state c.args.device.now) c.args.memory.now
-    (g.met.D.SectorDevice.lawful c.args.device.now) c.requires.memory
+    prepares_at_most (omega arith) (prepares_looks c.args.memory.now (g.met.D.SectorDevice.lawful c.args.device.now) c.requires.memory
     (looks_none (g.D.SectorDevice.state c.args.device.now)))
 
 pub returns-then-not-is_counted-clause-ends : goal.returns-then-not-is_counted-clause-ends
 returns-then-not-is_counted-clause-ends g c = record {
   full = search rules;
   failed = λ is.
-      bring_lost (g.D.SectorDevice.state c.args.device.now) c.args.memory.now _ c.file.result c.args.address (not c.is_hidden-lives.result)
-      (file_is c.args.key.code c.file.result c.file.ensures.file) (omega (arith, c.file.ensures.few)) c.requires.at c.requires.above
+      bring_lost (g.D.SectorDevice.state c.args.device.now) c.args.memory.now _
+      (file_is c.args.key.code c.file.ensures.file) (omega (arith, c.file.ensures.few)) c.requires.at c.requires.above
       (ap not c.is_hidden-lives.ensures) (search rules);
   no_failure = search rules;
 }
 
 pub returns-then-address-sectors-clause-prepares : goal.returns-then-address-sectors-clause-prepares
 returns-then-address-sectors-clause-prepares g c =
-    prepares_at_most (g.D.SectorDevice.state c.args.device.now) (g.D.SectorDevice.state c.args.device.now) c.args.memory.now
-    c.args.memory.now 0 1 (omega arith)
-    (prepares_looks (g.D.SectorDevice.state c.args.device.now) (g.D.SectorDevice.state c.args.device.now) c.args.memory.now
-    (g.met.D.SectorDevice.lawful c.args.device.now) c.requires.memory
+    prepares_at_most (omega arith) (prepares_looks c.args.memory.now (g.met.D.SectorDevice.lawful c.args.device.now) c.requires.memory
     (looks_none (g.D.SectorDevice.state c.args.device.now)))
 
 pub returns-then-address-sectors-clause-ends : goal.returns-then-address-sectors-clause-ends
 returns-then-address-sectors-clause-ends g c = record {
   full = search rules;
   failed = λ is. let d = g.D.SectorDevice.state c.args.device.now in
-      bring_unread d d c.args.memory.now _ c.file.result c.args.address
-      (file_is c.args.key.code c.file.result c.file.ensures.file) (omega (arith, c.file.ensures.few)) c.requires.at c.requires.above
+      bring_unread d d c.args.memory.now _
+      (file_is c.args.key.code c.file.ensures.file) (omega (arith, c.file.ensures.few)) c.requires.at c.requires.above
       (λ keeps. inr (past_missing d (blocks_of c.args.memory.now.dirty) _ c.args.address
       (g.met.D.SectorDevice.lawful c.args.device.now) c.requires.above (search rules)));
   no_failure = search rules;
@@ -59,9 +50,9 @@ returns-in-Err-clause-prepares g c =
     let old = g.D.SectorDevice.state c.args.device.now in
     let new = g.D.SectorDevice.state c.read_ref.follows.lender-at-none in
     let lends = subst (Lends old new c.args.address) c.in-Err.is c.read_ref.follows.holds-at-none in
-    let looks = lent_looks old new c.args.address _ lends.reads in
-    prepares_at_most old new c.args.memory.now c.args.memory.now 0 1 (omega arith)
-    (prepares_looks old new c.args.memory.now (g.met.D.SectorDevice.lawful c.args.device.now) c.requires.memory looks)
+    let looks = lent_looks lends.reads in
+    prepares_at_most (omega arith)
+    (prepares_looks c.args.memory.now (g.met.D.SectorDevice.lawful c.args.device.now) c.requires.memory looks)
 
 pub returns-in-Err-clause-ends : goal.returns-in-Err-clause-ends
 returns-in-Err-clause-ends g c = record {
@@ -69,8 +60,8 @@ returns-in-Err-clause-ends g c = record {
   failed = λ is. let old = g.D.SectorDevice.state c.args.device.now in
       let new = g.D.SectorDevice.state c.read_ref.follows.lender-at-none in
       let lends = subst (Lends old new c.args.address) c.in-Err.is c.read_ref.follows.holds-at-none in
-      bring_unread old new c.args.memory.now _ c.file.result c.args.address
-      (file_is c.args.key.code c.file.result c.file.ensures.file) (omega (arith, c.file.ensures.few)) c.requires.at c.requires.above
+      bring_unread old new c.args.memory.now _
+      (file_is c.args.key.code c.file.ensures.file) (omega (arith, c.file.ensures.few)) c.requires.at c.requires.above
       (lent_missing old new (blocks_of c.args.memory.now.dirty) _ c.args.address _ c.requires.above lends.reads);
   no_failure = search rules;
 }
@@ -80,43 +71,38 @@ returns-in-Ok-clause-prepares g c =
     let old = g.D.SectorDevice.state c.args.device.now in
     let new = g.D.SectorDevice.state c.read_ref.follows.lender-at-none in
     let lends = subst (Lends old new c.args.address) c.in-Ok.is c.read_ref.follows.holds-at-none in
-    let looks = lent_looks old new c.args.address _ lends.reads in
-    bring_prepares old new c.args.memory.now c.bring.new.memory _ c.file.result c.args.address
-    (not c.is_hidden-lives.result) c.in-Ok.block.now (g.met.D.SectorDevice.lawful c.args.device.now) c.requires.memory looks
-    (file_is c.args.key.code c.file.result c.file.ensures.file) (omega (arith, c.file.ensures.few)) c.requires.at c.requires.above
+    let looks = lent_looks lends.reads in
+    bring_prepares old new _ (g.met.D.SectorDevice.lawful c.args.device.now) c.requires.memory looks
+    (file_is c.args.key.code c.file.ensures.file) (omega (arith, c.file.ensures.few)) c.requires.at c.requires.above
     (ap not c.is_hidden-lives.ensures) c.requires.mapped
-    (λ keeps. lent_present old.content (blocks_of c.args.memory.now.dirty) (entry_of c.args.key) c.args.address _ c.requires.above
+    (λ keeps. lent_present old.content (blocks_of c.args.memory.now.dirty) (entry_of c.args.key) c.args.address c.requires.above
     (lends.value keeps)) c.bring.ensures
 
 pub returns-then-len-capacity-clause-gathers : goal.returns-then-len-capacity-clause-gathers
-returns-then-len-capacity-clause-gathers g c = gathers_looks (g.D.SectorDevice.state c.args.device.now)
-    (g.D.SectorDevice.state c.args.device.now) c.args.memory.now (looks_none (g.D.SectorDevice.state c.args.device.now))
+returns-then-len-capacity-clause-gathers g c = gathers_looks (looks_none (g.D.SectorDevice.state c.args.device.now))
 
 pub returns-then-not-is_counted-clause-gathers : goal.returns-then-not-is_counted-clause-gathers
-returns-then-not-is_counted-clause-gathers g c = gathers_looks (g.D.SectorDevice.state c.args.device.now)
-    (g.D.SectorDevice.state c.args.device.now) c.args.memory.now (looks_none (g.D.SectorDevice.state c.args.device.now))
+returns-then-not-is_counted-clause-gathers g c = gathers_looks (looks_none (g.D.SectorDevice.state c.args.device.now))
 
 pub returns-then-address-sectors-clause-gathers : goal.returns-then-address-sectors-clause-gathers
-returns-then-address-sectors-clause-gathers g c = gathers_looks (g.D.SectorDevice.state c.args.device.now)
-    (g.D.SectorDevice.state c.args.device.now) c.args.memory.now (looks_none (g.D.SectorDevice.state c.args.device.now))
+returns-then-address-sectors-clause-gathers g c = gathers_looks (looks_none (g.D.SectorDevice.state c.args.device.now))
 
 pub returns-in-Err-clause-gathers : goal.returns-in-Err-clause-gathers
 returns-in-Err-clause-gathers g c =
     let old = g.D.SectorDevice.state c.args.device.now in
     let new = g.D.SectorDevice.state c.read_ref.follows.lender-at-none in
     let lends = subst (Lends old new c.args.address) c.in-Err.is c.read_ref.follows.holds-at-none in
-    let looks = lent_looks old new c.args.address _ lends.reads in
-    gathers_looks old new c.args.memory.now looks
+    let looks = lent_looks lends.reads in
+    gathers_looks looks
 
 pub returns-in-Ok-clause-gathers : goal.returns-in-Ok-clause-gathers
 returns-in-Ok-clause-gathers g c =
     let old = g.D.SectorDevice.state c.args.device.now in
     let new = g.D.SectorDevice.state c.read_ref.follows.lender-at-none in
     let lends = subst (Lends old new c.args.address) c.in-Ok.is c.read_ref.follows.holds-at-none in
-    let looks = lent_looks old new c.args.address _ lends.reads in
-    bring_gathers old new c.args.memory.now c.bring.new.memory _ c.file.result c.args.address
-    (not c.is_hidden-lives.result) c.in-Ok.block.now looks
-    (file_is c.args.key.code c.file.result c.file.ensures.file) (omega (arith, c.file.ensures.few)) c.requires.at c.requires.above
+    let looks = lent_looks lends.reads in
+    bring_gathers old new _ looks
+    (file_is c.args.key.code c.file.ensures.file) (omega (arith, c.file.ensures.few)) c.requires.at c.requires.above
     (ap not c.is_hidden-lives.ensures) c.requires.mapped
-    (λ keeps. lent_present old.content (blocks_of c.args.memory.now.dirty) (entry_of c.args.key) c.args.address _ c.requires.above
+    (λ keeps. lent_present old.content (blocks_of c.args.memory.now.dirty) (entry_of c.args.key) c.args.address c.requires.above
     (lends.value keeps)) c.bring.ensures

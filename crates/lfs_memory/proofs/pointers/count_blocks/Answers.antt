@@ -7,7 +7,7 @@ pub loop-at-init : goal.loop-at-init
 loop-at-init g c = record {
   most = c.requires.order;
   kept = c.requires.kept;
-  counted = counted_none (g.D.SectorDevice.state c.args.device.now) c.args.memory.now c.args.number c.args.from;
+  counted = counted_none;
 }
 
 pub loop-at-preserved : goal.loop-at-preserved
@@ -21,8 +21,7 @@ loop-at-preserved g c =
       most = part.further.1;
       kept = c.count_part.ensures.kept;
       counted =
-          counted_more old mid new c.args.memory.now c.args.number c.args.from c.loop-at.at c.in_ok-part.part.1 c.loop-at.count
-          c.in_ok-part.part.0
+          counted_more old mid new c.in_ok-part.part.0
           (g.met.D.SectorDevice.lawful c.args.device.now) was.counted c.count_part.ensures.looks.looks part.looks.no_failure part.further.0
           part.few
           part.answer;
@@ -30,10 +29,8 @@ loop-at-preserved g c =
 
 pub returns-in_err-part-clause-looks : goal.returns-in_err-part-clause-looks
 returns-in_err-part-clause-looks g c = record {
-  failed = on_err c.from_residual.result _
-      (counted_fault (g.D.SectorDevice.state c.args.device.now) (g.D.SectorDevice.state c.loop-at.device)
-      (g.D.SectorDevice.state c.count_part.new.device) c.args.memory.now c.args.number
-      c.args.from c.loop-at.at c.loop-at.count c.loop-at.invariant.counted c.in_err-part.ensures.looks.failed);
+  failed = on_err c.from_residual.result _ (counted_fault (g.D.SectorDevice.state c.count_part.new.device)
+       c.loop-at.invariant.counted c.in_err-part.ensures.looks.failed);
   no_failure = err_ok c.from_residual.result _ _ c.from_residual.ensures;
   looks = search rules;
 }
@@ -43,6 +40,4 @@ returns-clause-answer g c =
     let most = c.loop-at.invariant.most in
     let ended = c.loop-at-test.false in
     let end : c.loop-at.at ≡ c.args.to = omega (arith, most, ended) in
-    counted_all (g.D.SectorDevice.state c.args.device.now) (g.D.SectorDevice.state c.loop-at.device) c.args.memory.now c.args.number
-    c.args.from c.loop-at.at c.args.to c.loop-at.count end
-    c.loop-at.invariant.counted
+    counted_all end c.loop-at.invariant.counted

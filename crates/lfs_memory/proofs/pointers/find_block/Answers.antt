@@ -8,7 +8,7 @@ returns-then-is_kept_for-clause-finds g c =
     let d = g.D.SectorDevice.state c.args.device.now in
     let is = c.is_kept_for.ensures c.if-is_kept_for.true in
     record {
-      answer = kept_found d d c.args.memory.now c.args.kept.now c.args.number c.args.index c.kept_pointer.result
+      answer = kept_found c.args.memory.now c.args.kept.now c.args.number c.args.index c.kept_pointer.result
           (looks_none d) c.requires.kept is c.kept_pointer.ensures;
       some = λ some. kept_some d c.args.memory.now c.args.kept.now c.args.number c.args.index c.requires.kept is;
       looks = search rules;
@@ -16,5 +16,4 @@ returns-then-is_kept_for-clause-finds g c =
 
 pub returns-clause-kept : goal.returns-clause-kept
 returns-clause-kept g c =
-    run_still (g.D.SectorDevice.state c.args.device.now) (g.D.SectorDevice.state c.locate_block.new.device) c.args.memory.now
-    c.args.kept.now c.locate_block.ensures.looks.looks c.requires.kept
+    run_still c.args.memory.now c.args.kept.now c.locate_block.ensures.looks.looks c.requires.kept

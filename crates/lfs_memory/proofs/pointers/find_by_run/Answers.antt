@@ -4,8 +4,7 @@ use Rattle.lfs_memory.proofs.pointers.find_by_run.Goals as goal
 
 pub returns-clause-finds : goal.returns-clause-finds
 returns-clause-finds g c = record {
-  answer = kept_found (g.D.SectorDevice.state c.args.device.now) (g.D.SectorDevice.state c.keep_run.new.device) c.args.memory.now
-      c.keep_run.new.kept c.args.number c.args.index c.kept_pointer.result
+  answer = kept_found c.args.memory.now c.keep_run.new.kept c.args.number c.args.index c.kept_pointer.result
       c.keep_run.ensures.looks.looks c.keep_run.ensures.kept (c.in_ok-keep_run.ensures.from c.if-not-branch.false) c.kept_pointer.ensures;
   some = λ some. kept_some (g.D.SectorDevice.state c.keep_run.new.device) c.args.memory.now c.keep_run.new.kept c.args.number c.args.index
       c.keep_run.ensures.kept (c.in_ok-keep_run.ensures.from c.if-not-branch.false);

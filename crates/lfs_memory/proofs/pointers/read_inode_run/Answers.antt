@@ -6,8 +6,7 @@ use Rattle.lfs_memory.proofs.pointers.read_inode_run.Goals as goal
 
 pub returns-in-Ok-clause-read : goal.returns-in-Ok-clause-read
 returns-in-Ok-clause-read g c =
-    inode_run (g.D.SectorDevice.state c.args.device.now) (g.D.SectorDevice.state c.present_pointers.new.device) c.args.memory.now
-    c.args.number c.args.address _
+    inode_run (g.D.SectorDevice.state c.args.device.now) (g.D.SectorDevice.state c.present_pointers.new.device) c.args.memory.now _
     (record {
       untouched = c.present_pointers.ensures.follows.looks.untouched;
       carries = c.present_pointers.ensures.follows.looks.carries;
@@ -21,9 +20,7 @@ returns-in-Err-clause-looks g c =
     record {
       failed =
           inode_run_failed (g.D.SectorDevice.state c.args.device.now) (g.D.SectorDevice.state c.present_pointers.new.device)
-          c.args.memory.now
-          c.args.number c.args.address _
-          (record {
+          c.args.memory.now _ (record {
             untouched = c.present_pointers.ensures.follows.looks.untouched;
             carries = c.present_pointers.ensures.follows.looks.carries;
             time = c.present_pointers.ensures.follows.looks.time;
@@ -45,8 +42,7 @@ returns-then-is_lacking-clause-looks g c =
     let d = g.D.SectorDevice.state c.args.device.now in
     record {
       failed =
-          inode_lacks d d c.args.memory.now c.args.number c.args.address _ (looks_none d) c.requires.inode.number.some c.requires.inode.is
-          c.requires.inode.there
+          inode_lacks d d c.args.memory.now _ (looks_none d) c.requires.inode.number.some c.requires.inode.is c.requires.inode.there
           c.inode-inode.ensures
           (c.is_lacking.ensures.inside c.if-is_lacking.true) (c.is_lacking.ensures.none c.if-is_lacking.true);
       no_failure = tt;

@@ -9,10 +9,7 @@ use Rattle.lfs_memory.proofs.pointers.read_leaf_run.Goals as goal
 pub returns-in-Ok-clause-read : goal.returns-in-Ok-clause-read
 returns-in-Ok-clause-read g c =
     let read = c.in_ok-first.ensures.read in
-    leaf_run (g.D.SectorDevice.state c.args.device.now) (g.D.SectorDevice.state c.present_word.new.device)
-    (g.D.SectorDevice.state c.leaf_pointers.new.device) c.args.memory.now c.args.number c.args.leaf
-    c.args.address c.in_ok-first.first _ read.shown c.in_ok-first.ensures.ends.looks
-    (record {
+    leaf_run (g.D.SectorDevice.state c.leaf_pointers.new.device) c.args.memory.now c.args.leaf _ c.in_ok-first.ensures.ends.looks (record {
       untouched = c.leaf_pointers.ensures.follows.looks.untouched;
       carries = c.leaf_pointers.ensures.follows.looks.carries;
       time = c.leaf_pointers.ensures.follows.looks.time;
@@ -40,9 +37,8 @@ returns-in-Err-clause-looks g c =
     let read = c.in_ok-first.ensures.read in
     record {
       failed =
-          leaf_run_failed (g.D.SectorDevice.state c.args.device.now) (g.D.SectorDevice.state c.present_word.new.device)
-          (g.D.SectorDevice.state c.leaf_pointers.new.device) c.args.memory.now c.args.number c.args.leaf
-          c.args.address c.in_ok-first.first _ read.shown c.in_ok-first.ensures.ends.looks
+          leaf_run_failed (g.D.SectorDevice.state c.leaf_pointers.new.device) c.args.memory.now c.args.leaf
+           _ c.in_ok-first.ensures.ends.looks
           (record {
             untouched = c.leaf_pointers.ensures.follows.looks.untouched;
             carries = c.leaf_pointers.ensures.follows.looks.carries;

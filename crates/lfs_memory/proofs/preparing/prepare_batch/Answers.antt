@@ -14,23 +14,15 @@ returns-in_err-prepare_headers-clause-failed g c is =
 
 pub returns-clause-prepares : goal.returns-clause-prepares
 returns-clause-prepares g c =
-    prepares_then (g.D.SectorDevice.state c.args.device.now) (g.D.SectorDevice.state c.prepare_headers.new.device)
-    (g.D.SectorDevice.state c.prepare_blocks.new.device) c.args.memory.now
-    c.prepare_headers.new.memory c.prepare_blocks.new.memory (length c.args.headers.now) (ways c.args.blocks.now)
-    (g.met.D.SectorDevice.lawful c.args.device.now) c.prepare_headers.ensures.prepares
-    c.prepare_blocks.ensures.prepares
+    prepares_then (g.met.D.SectorDevice.lawful c.args.device.now) c.prepare_headers.ensures.prepares c.prepare_blocks.ensures.prepares
 
 pub returns-clause-headers : goal.returns-clause-headers
 returns-clause-headers g c =
     ok_then c.prepare_blocks.result _ _
-    (λ _. headers_ready_after (g.D.SectorDevice.state c.prepare_headers.new.device) (g.D.SectorDevice.state c.prepare_blocks.new.device)
-    c.prepare_headers.new.memory c.prepare_blocks.new.memory
-    (ways c.args.blocks.now) c.args.headers.now c.prepare_blocks.ensures.prepares c.in_ok-prepare_headers.ensures.ready)
+    (λ _. headers_ready_after c.args.headers.now c.prepare_blocks.ensures.prepares c.in_ok-prepare_headers.ensures.ready)
     c.prepare_blocks.ensures.ready
 
 pub returns-clause-failed : goal.returns-clause-failed
 returns-clause-failed g c is =
-    excused_then (g.D.SectorDevice.state c.args.device.now) (g.D.SectorDevice.state c.prepare_headers.new.device)
-    (g.D.SectorDevice.state c.prepare_blocks.new.device) c.args.memory.now
-    c.prepare_headers.new.memory (length c.args.headers.now) c.args.blocks.now c.prepare_headers.ensures.prepares
+    excused_then c.args.blocks.now c.prepare_headers.ensures.prepares
     c.prepare_blocks.ensures.prepares.looks (c.prepare_blocks.ensures.failed is)

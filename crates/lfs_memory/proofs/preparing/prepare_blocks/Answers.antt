@@ -5,40 +5,29 @@ use Rattle.lfs_memory.proofs.preparing.prepare_blocks.Goals as goal
 
 pub returns-in_err-prepare_block-clause-prepares : goal.returns-in_err-prepare_block-clause-prepares
 returns-in_err-prepare_block-clause-prepares g c =
-    blocks_fault (g.D.SectorDevice.state c.args.device.now) (g.D.SectorDevice.state c.loop-edit.device) c.args.memory.now c.loop-edit.memory
-    c.args.edits.now c.loop-edit.edit-index c.edit-item.result
+    blocks_fault c.loop-edit.edit-index
     (g.met.D.SectorDevice.lawful c.args.device.now) (g.met.D.SectorDevice.lawful c.loop-edit.device) c.loop-edit-test.true
-    (sym c.edit-item.is) c.loop-edit.invariant
-    (g.D.SectorDevice.state c.prepare_block.new.device) c.prepare_block.new.memory c.prepare_block.ensures.prepares
-    c.in_err-prepare_block.ensures.away
+    (sym c.edit-item.is) c.loop-edit.invariant c.prepare_block.ensures.prepares c.in_err-prepare_block.ensures.away
 
 pub returns-in_err-prepare_block-clause-full : goal.returns-in_err-prepare_block-clause-full
 returns-in_err-prepare_block-clause-full g c is =
-    blocks_short (g.D.SectorDevice.state c.args.device.now) (g.D.SectorDevice.state c.loop-edit.device) c.args.memory.now c.loop-edit.memory
-    c.args.edits.now c.loop-edit.edit-index c.edit-item.result
+    blocks_short c.loop-edit.edit-index
     (g.met.D.SectorDevice.lawful c.args.device.now) (g.met.D.SectorDevice.lawful c.loop-edit.device) c.loop-edit-test.true
-    (sym c.edit-item.is) c.loop-edit.invariant
-    (g.D.SectorDevice.state c.prepare_block.new.device) c.prepare_block.new.memory c.prepare_block.ensures.prepares
-    c.in_err-prepare_block.ensures.away
+    (sym c.edit-item.is) c.loop-edit.invariant c.prepare_block.ensures.prepares c.in_err-prepare_block.ensures.away
     (c.in_err-prepare_block.ensures.ends.short
     (passed_on c.from_residual.result c.in_err-prepare_block.field-0.0 _ c.from_residual.ensures is))
 
 pub returns-in_err-prepare_block-clause-failed : goal.returns-in_err-prepare_block-clause-failed
 returns-in_err-prepare_block-clause-failed g c is =
-    blocks_excused (g.D.SectorDevice.state c.args.device.now) (g.D.SectorDevice.state c.loop-edit.device) c.args.memory.now
-    c.loop-edit.memory c.args.edits.now c.loop-edit.edit-index c.edit-item.result
+    blocks_excused c.loop-edit.edit-index
     (g.met.D.SectorDevice.lawful c.args.device.now) (g.met.D.SectorDevice.lawful c.loop-edit.device) c.loop-edit-test.true
-    (sym c.edit-item.is) c.loop-edit.invariant
-    (g.D.SectorDevice.state c.prepare_block.new.device) c.prepare_block.new.memory c.prepare_block.ensures.prepares
-    (c.in_err-prepare_block.ensures.ends.failed
+    (sym c.edit-item.is) c.loop-edit.invariant c.prepare_block.ensures.prepares (c.in_err-prepare_block.ensures.ends.failed
     (passed_on c.from_residual.result c.in_err-prepare_block.field-0.0 _ c.from_residual.ensures is))
 
 pub loop-edit-preserved : goal.loop-edit-preserved
 loop-edit-preserved g c =
-    blocks_next (g.D.SectorDevice.state c.args.device.now) (g.D.SectorDevice.state c.loop-edit.device) c.args.memory.now c.loop-edit.memory
-    c.args.edits.now c.loop-edit.edit-index c.edit-item.result
+    blocks_next c.loop-edit.edit-index
     (g.met.D.SectorDevice.lawful c.args.device.now) (g.met.D.SectorDevice.lawful c.loop-edit.device) c.loop-edit-test.true
-    (sym c.edit-item.is) c.loop-edit.invariant
-    (g.D.SectorDevice.state c.prepare_block.new.device) c.prepare_block.new.memory c.prepare_block.ensures.prepares
+    (sym c.edit-item.is) c.loop-edit.invariant c.prepare_block.ensures.prepares
     c.prepare_block.ensures.same c.in_ok-prepare_block.ensures.ends.ready
     c.in_ok-prepare_block.ensures.ends.no_failure

@@ -6,9 +6,7 @@ use Rattle.lfs_memory.proofs.preparing.prepare_leaf.Goals as goal
 
 pub returns-clause-prepares : goal.returns-clause-prepares
 returns-clause-prepares g c =
-    prepares_then (g.D.SectorDevice.state c.args.device.now) (g.D.SectorDevice.state c.prepare_pointers-2.new.device)
-    (g.D.SectorDevice.state c.prepare_pointers-3.new.device) c.args.memory.now
-    c.prepare_pointers-2.new.memory c.prepare_pointers-3.new.memory 1 1
+    prepares_then
     (g.met.D.SectorDevice.lawful c.args.device.now) c.prepare_pointers-2.ensures.prepares c.prepare_pointers-3.ensures.prepares
 
 pub returns-clause-inside : goal.returns-clause-inside
@@ -17,8 +15,5 @@ returns-clause-inside g c = subst (λ (x : Entry). OnOk c.prepare_pointers-3.res
 
 pub returns-clause-ends : goal.returns-clause-ends
 returns-clause-ends g c =
-    ends_then (g.D.SectorDevice.state c.args.device.now) (g.D.SectorDevice.state c.prepare_pointers-2.new.device)
-    (g.D.SectorDevice.state c.prepare_pointers-3.new.device) c.args.memory.now
-    c.prepare_pointers-2.new.memory c.prepare_pointers-3.new.memory 1 c.prepare_pointers-2.ensures.prepares
-    c.in-Ok.ensures.ends.no_failure c.prepare_pointers-3.ensures.prepares.looks c.prepare_pointers-3.result
+    ends_then 1 c.prepare_pointers-2.ensures.prepares c.in-Ok.ensures.ends.no_failure c.prepare_pointers-3.ensures.prepares.looks
     c.prepare_pointers-3.ensures.ends

@@ -12,7 +12,6 @@ returns-in-Err-clause-ends g c = record {
 
 pub returns-clause-prepares : goal.returns-clause-prepares
 returns-clause-prepares g c =
-    grown_after (g.D.SectorDevice.state c.args.device.now) (g.D.SectorDevice.state c.lift_child.new.device) c.args.memory.now
-    c.lift_child.new.memory c.grow.new.memory _ (g.met.D.SectorDevice.lawful c.args.device.now)
+    grown_after _ (g.met.D.SectorDevice.lawful c.args.device.now)
     c.requires.memory (c.in-Ok-false.ensures.same (search rules)) c.requires.pointers
     (c.in-Ok-false.ensures.none (search rules)) c.grow.ensures c.lift_child.ensures.prepares

@@ -25,8 +25,7 @@ record FindsAbove (a b : DeviceState) (v : LogMemory) (up : Entry) (address : �
 by_map : {a b : DeviceState} {v : LogMemory} {f address found : ℕ} {k : BlockKind} (code : ℕ) → b ≡ a → k ≡ kind_by (code / 134217728)
     → k ≡ kind.Inode → f ≡ code / 32768 % 4096 → address ≡ found → found ≡ address_in v.map f → FindsAbove a b v (entry_at code) address
 by_map {a} {v = v} {f} {found = found} {k} code same is inode file one at = rw (same, one) (record {
-  answer = located_top a v (entry_at code) f found (file_is code f file)
-      (let top = inode_is code k is inode in ap parent top ∙ sym top) at;
+  answer = located_top a v {x = entry_at code} (file_is code file) (let top = inode_is code is inode in ap parent top ∙ sym top) at;
   looks = search rules;
   no_failure = refl;
 })
@@ -38,8 +37,8 @@ by_block same is answer looks no_failure = rw (same, is) (record { answer = answ
 
 pub returns-in_default-clause-answer : goal.returns-in_default-clause-answer
 returns-in_default-clause-answer g t c =
-    located_top (g.D.SectorDevice.state c.args.device.now) c.args.memory.now (entry_of c.args.key) c.file.result c.address.result
-    (file_is c.args.key.code c.file.result c.file.ensures.file) c.in_default.ensures.none c.address.ensures
+    located_top (g.D.SectorDevice.state c.args.device.now) c.args.memory.now
+    (file_is c.args.key.code c.file.ensures.file) c.in_default.ensures.none c.address.ensures
 
 pub returns-then-address-eq0-clause-answer : goal.returns-then-address-eq0-clause-answer
 returns-then-address-eq0-clause-answer g t c =
@@ -56,7 +55,7 @@ returns-then-address-eq0-clause-answer g t c =
           let found = w.in_ok-address-in_default-kind.ensures in
           by_block (ap state w.device-is) w.address-is found.answer found.looks.looks found.looks.no_failure
     ] in
-    located_none before after v (entry_of c.args.key) up c.match-kind.address c.in-Some.ensures.some.0 c.if-address-eq0.true above.answer
+    located_none before after v (entry_of c.args.key) c.in-Some.ensures.some.0 c.if-address-eq0.true above.answer
 
 pub returns : goal.returns
 returns g t c =
@@ -75,18 +74,14 @@ returns g t c =
     ] in
     let last = state c.present_word.new.device in
     let ends = c.present_word.ensures.ends in
-    let file : IsOfFile up = (_, file_is c.in-Some.above.code _ refl) in
+    let file : IsOfFile up = (_, file_is c.in-Some.above.code refl) in
     record {
       answer = if_ok_then c.present_word.result _ _
-          (λ found read. located_found before after last v up c.match-kind.address above.looks ends.looks file above.answer
-          c.if-address-eq0.false (entry_of c.args.key) c.pointer.result found c.in-Some.ensures.some.0
-          (below_above c.args.key.code c.in-Some.above.code c.args.key.formed c.in-Some.above.formed c.in-Some.ensures.some.1
-          c.in-Some.ensures.some.0)
-          (leaf_low c.args.key.code c.args.key.formed) c.pointer.ensures.pointer read)
-          c.present_word.ensures.read;
+          (λ found read. located_found v up above.looks ends.looks file above.answer c.if-address-eq0.false c.in-Some.ensures.some.0
+          (below_above c.args.key.formed c.in-Some.above.formed c.in-Some.ensures.some.1 c.in-Some.ensures.some.0)
+          (leaf_low c.args.key.formed) c.pointer.ensures.pointer read) c.present_word.ensures.read;
       looks = record {
-        failed = err_then c.present_word.result _ _
-            (located_failed before after last v up c.match-kind.address above.looks ends.looks file above.answer c.if-address-eq0.false)
+        failed = err_then c.present_word.result _ _ (located_failed v up above.looks ends.looks file above.answer c.if-address-eq0.false)
             ends.unread;
         no_failure = search rules;
         looks = search rules;

@@ -7,7 +7,7 @@ use Rattle.lfs_memory.proofs.present.locate_leaf.Goals as goal
 
 pub returns-then-number-eq0-clause-answer : goal.returns-then-number-eq0-clause-answer
 returns-then-number-eq0-clause-answer g c =
-    no_leaf (g.D.SectorDevice.state c.args.device.now) c.args.memory.now c.args.number c.args.leaf c.if-number-eq0.true
+    no_leaf (g.D.SectorDevice.state c.args.device.now) c.args.memory.now c.args.leaf c.if-number-eq0.true
 
 pub returns-clause-answer : goal.returns-clause-answer
 returns-clause-answer g c =

@@ -5,8 +5,7 @@ use Rattle.lfs_memory.proofs.present.read_header.Goals as goal
 
 pub returns-then-address-eq0-clause-answer : goal.returns-then-address-eq0-clause-answer
 returns-then-address-eq0-clause-answer g c =
-    header_absent (g.D.SectorDevice.state c.args.device.now) c.args.memory.now c.args.number
-    (c.inode_pointer-address.ensures.none c.if-address-eq0.true)
+    header_absent (g.D.SectorDevice.state c.args.device.now) c.args.memory.now (c.inode_pointer-address.ensures.none c.if-address-eq0.true)
 
 pub returns-clause-answer : goal.returns-clause-answer
 returns-clause-answer g c =
@@ -15,8 +14,7 @@ returns-clause-answer g c =
     let read = c.in_ok-header.ensures.read in
     header_read old new c.args.memory.now c.args.number read.shown true c.in_ok-header.header
     (inode_answered old new c.args.memory.now c.args.number c.inode_pointer-address.result _
-    (c.inode_pointer-address.ensures.some c.if-address-eq0.false).1 c.inode.ensures c.if-address-eq0.false read.shown read.value) refl
-    read.is
+    (c.inode_pointer-address.ensures.some c.if-address-eq0.false).1 c.inode.ensures c.if-address-eq0.false read.value) refl read.is
 
 pub returns-in_err-header-clause-looks : goal.returns-in_err-header-clause-looks
 returns-in_err-header-clause-looks g c = record {

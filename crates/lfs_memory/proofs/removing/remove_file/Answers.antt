@@ -6,56 +6,43 @@ use Rattle.lfs_memory.proofs.removing.remove_file.Goals as goal
 
 pub returns-in_err-lift_map_of-clause-prepares : goal.returns-in_err-lift_map_of-clause-prepares
 returns-in_err-lift_map_of-clause-prepares g c =
-    on_err c.from_residual.result _
-    (prepares_none (g.D.SectorDevice.state c.args.device.now) c.args.memory.now c.lift_map_of.new.memory 0
+    on_err c.from_residual.result _ (prepares_none {most = 0}
     c.in_err-lift_map_of.ensures.same (g.met.D.SectorDevice.lawful c.args.device.now) c.requires.memory)
 
 pub returns-in_err-lift_map_of-clause-failed : goal.returns-in_err-lift_map_of-clause-failed
 returns-in_err-lift_map_of-clause-failed g c =
-    on_err c.from_residual.result _
-    (map_lost (g.D.SectorDevice.state c.args.device.now) c.args.memory.now (c.args.number / 128) c.in_err-lift_map_of.ensures.lost)
+    on_err c.from_residual.result _ (map_lost (g.D.SectorDevice.state c.args.device.now) c.in_err-lift_map_of.ensures.lost)
 
 pub returns-in_err-count_file-clause-prepares : goal.returns-in_err-count_file-clause-prepares
 returns-in_err-count_file-clause-prepares g c =
     let old = g.D.SectorDevice.state c.args.device.now in
     let new = g.D.SectorDevice.state c.count_file.new.device in
-    let first = map_of_prepares old c.args.memory.now c.lift_map_of.new.memory (c.args.number / 128)
-    (g.met.D.SectorDevice.lawful c.args.device.now) c.requires.memory c.in_ok-lift_map_of.ensures.done in
-    on_err c.from_residual-in_err-count_file.result _
-    (prepares_then old old new c.args.memory.now c.lift_map_of.new.memory c.lift_map_of.new.memory 0 0
-    (g.met.D.SectorDevice.lawful c.args.device.now) first
-    (prepares_looks old new c.lift_map_of.new.memory (g.met.D.SectorDevice.lawful c.args.device.now) first.memory
-    c.count_file.ensures.looks.looks))
+    let first = map_of_prepares (g.met.D.SectorDevice.lawful c.args.device.now) c.requires.memory c.in_ok-lift_map_of.ensures.done in
+    on_err c.from_residual-in_err-count_file.result _ (prepares_then (g.met.D.SectorDevice.lawful c.args.device.now) first
+    (prepares_looks c.lift_map_of.new.memory (g.met.D.SectorDevice.lawful c.args.device.now) first.memory c.count_file.ensures.looks.looks))
 
 pub returns-in_err-count_file-clause-failed : goal.returns-in_err-count_file-clause-failed
 returns-in_err-count_file-clause-failed g c =
     let old = g.D.SectorDevice.state c.args.device.now in
     let new = g.D.SectorDevice.state c.count_file.new.device in
-    let first = map_of_prepares old c.args.memory.now c.lift_map_of.new.memory (c.args.number / 128)
-    (g.met.D.SectorDevice.lawful c.args.device.now) c.requires.memory c.in_ok-lift_map_of.ensures.done in
-    on_err c.from_residual-in_err-count_file.result _
-    (prepares_excused old old new c.args.memory.now c.lift_map_of.new.memory 0 first c.count_file.ensures.looks.looks
+    let first = map_of_prepares (g.met.D.SectorDevice.lawful c.args.device.now) c.requires.memory c.in_ok-lift_map_of.ensures.done in
+    on_err c.from_residual-in_err-count_file.result _ (prepares_excused first c.count_file.ensures.looks.looks
     c.in_err-count_file.ensures.looks.failed)
 
 pub returns-then-not-are_covered-clause-prepares : goal.returns-then-not-are_covered-clause-prepares
 returns-then-not-are_covered-clause-prepares g c =
     let old = g.D.SectorDevice.state c.args.device.now in
     let new = g.D.SectorDevice.state c.count_file.new.device in
-    let first = map_of_prepares old c.args.memory.now c.lift_map_of.new.memory (c.args.number / 128)
-    (g.met.D.SectorDevice.lawful c.args.device.now) c.requires.memory c.in_ok-lift_map_of.ensures.done in
-    prepares_then old old new c.args.memory.now c.lift_map_of.new.memory c.lift_map_of.new.memory 0 0
-    (g.met.D.SectorDevice.lawful c.args.device.now) first
-    (prepares_looks old new c.lift_map_of.new.memory (g.met.D.SectorDevice.lawful c.args.device.now) first.memory
-    c.count_file.ensures.looks.looks)
+    let first = map_of_prepares (g.met.D.SectorDevice.lawful c.args.device.now) c.requires.memory c.in_ok-lift_map_of.ensures.done in
+    prepares_then (g.met.D.SectorDevice.lawful c.args.device.now) first
+    (prepares_looks c.lift_map_of.new.memory (g.met.D.SectorDevice.lawful c.args.device.now) first.memory c.count_file.ensures.looks.looks)
 
 pub returns-then-not-are_covered-clause-failed : goal.returns-then-not-are_covered-clause-failed
 returns-then-not-are_covered-clause-failed g c =
     let old = g.D.SectorDevice.state c.args.device.now in
     let new = g.D.SectorDevice.state c.count_file.new.device in
-    let first = map_of_prepares old c.args.memory.now c.lift_map_of.new.memory (c.args.number / 128)
-    (g.met.D.SectorDevice.lawful c.args.device.now) c.requires.memory c.in_ok-lift_map_of.ensures.done in
-    uncovered_excused old new c.args.memory.now c.lift_map_of.new.memory c.args.number
-    (not c.is_hidden-lives.result) c.count_file.new.counts (g.met.D.SectorDevice.lawful c.args.device.now) first
+    let first = map_of_prepares (g.met.D.SectorDevice.lawful c.args.device.now) c.requires.memory c.in_ok-lift_map_of.ensures.done in
+    uncovered_excused old new c.args.number c.count_file.new.counts (g.met.D.SectorDevice.lawful c.args.device.now) first
     c.count_file.ensures.looks.looks c.requires.number (ap not c.is_hidden-lives.ensures) c.in_ok-count_file.ensures.counted
     (c.if-not-are_covered.ensures.no (search rules))
 
@@ -63,9 +50,7 @@ pub returns-clause-removed : goal.returns-clause-removed
 returns-clause-removed g c =
     let old = g.D.SectorDevice.state c.args.device.now in
     let new = g.D.SectorDevice.state c.count_file.new.device in
-    let first = map_of_prepares old c.args.memory.now c.lift_map_of.new.memory (c.args.number / 128)
-    (g.met.D.SectorDevice.lawful c.args.device.now) c.requires.memory c.in_ok-lift_map_of.ensures.done in
-    file_removed old new c.args.memory.now c.lift_map_of.new.memory c.args.number (not c.is_hidden-lives.result) c.count_file.new.counts
-    (g.met.D.SectorDevice.lawful c.args.device.now) first
+    let first = map_of_prepares (g.met.D.SectorDevice.lawful c.args.device.now) c.requires.memory c.in_ok-lift_map_of.ensures.done in
+    file_removed old new c.args.number c.count_file.new.counts (g.met.D.SectorDevice.lawful c.args.device.now) first
     c.count_file.ensures.looks.looks c.requires.number (ap not c.is_hidden-lives.ensures) c.in_ok-count_file.ensures.counted
-    c.drop_file.new.memory c.drop_file.ensures c.in_ok-lift_map_of.ensures.mapped
+    c.drop_file.ensures c.in_ok-lift_map_of.ensures.mapped

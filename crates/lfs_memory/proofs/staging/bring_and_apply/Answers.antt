@@ -9,8 +9,7 @@ use Rattle.lfs_memory.proofs.staging.bring_and_apply.Goals as goal
 
 pub returns-in-Err-clause-refused : goal.returns-in-Err-clause-refused
 returns-in-Err-clause-refused g c =
-    prepared_refuses (g.D.SectorDevice.state c.args.device.now) (g.D.SectorDevice.state c.prepare_batch.new.device) c.args.memory.now
-    c.prepare_batch.new.memory c.args.loss c.args.headers.now c.args.blocks.now
+    prepared_refuses c.args.loss c.args.headers.now c.args.blocks.now
     (g.met.D.SectorDevice.lawful c.args.device.now) c.prepare_batch.ensures.prepares
 
 pub returns-in-Err-clause-failed : goal.returns-in-Err-clause-failed
@@ -19,16 +18,14 @@ returns-in-Err-clause-failed g c =
     let d' = g.D.SectorDevice.state c.prepare_batch.new.device in
     subst (λ (r : Result (Unit {0}) LiftFault).
     OnErr r (IsBatchExcused d d' c.args.memory.now c.args.loss c.args.headers.now c.args.blocks.now)) c.in-Err.is
-    (prepared_excused d d' c.args.memory.now c.prepare_batch.new.memory c.args.loss c.args.headers.now c.args.blocks.now
+    (prepared_excused c.args.loss c.args.headers.now c.args.blocks.now
     (g.met.D.SectorDevice.lawful c.args.device.now) c.prepare_batch.ensures.prepares c.prepare_batch.result c.requires.room
     c.prepare_batch.ensures.full c.prepare_batch.ensures.failed)
 
 pub returns-in-Err-lose-clause-refused : goal.returns-in-Err-lose-clause-refused
 returns-in-Err-lose-clause-refused g c =
-    loss_refuses (g.D.SectorDevice.state c.args.device.now) (g.D.SectorDevice.state c.prepare_batch.new.device) c.args.memory.now
-    c.prepare_batch.new.memory c.args.loss c.args.headers.now c.args.blocks.now
-    (g.met.D.SectorDevice.lawful c.args.device.now) c.prepare_batch.ensures.prepares
-    (g.D.SectorDevice.state c.lose.new.device) c.lose.new.memory c.in-Err-lose.ensures.prepares
+    loss_refuses c.args.loss c.args.headers.now c.args.blocks.now
+    (g.met.D.SectorDevice.lawful c.args.device.now) c.prepare_batch.ensures.prepares c.lose.new.memory c.in-Err-lose.ensures.prepares
 
 pub returns-in-Err-lose-clause-failed : goal.returns-in-Err-lose-clause-failed
 returns-in-Err-lose-clause-failed g c =
@@ -36,37 +33,24 @@ returns-in-Err-lose-clause-failed g c =
     let d' = g.D.SectorDevice.state c.lose.new.device in
     subst (λ (r : Result (Unit {0}) LiftFault).
     OnErr r (IsBatchExcused d d' c.args.memory.now c.args.loss c.args.headers.now c.args.blocks.now)) c.in-Err-lose.is
-    (loss_excuses d (g.D.SectorDevice.state c.prepare_batch.new.device) c.args.memory.now c.prepare_batch.new.memory c.args.loss
-    c.args.headers.now c.args.blocks.now
-    (g.met.D.SectorDevice.lawful c.args.device.now) c.prepare_batch.ensures.prepares d' c.lose.new.memory c.lose.result c.requires.room
+    (loss_excuses c.args.loss c.args.headers.now c.args.blocks.now
+    (g.met.D.SectorDevice.lawful c.args.device.now) c.prepare_batch.ensures.prepares c.lose.new.memory c.lose.result c.requires.room
     c.in-Err-lose.ensures.prepares c.lose.ensures.full c.lose.ensures.failed)
 
 pub returns-clause-done : goal.returns-clause-done
 returns-clause-done g c =
-    ok_then c.apply_batch.result _ _
-    (stages (g.D.SectorDevice.state c.args.device.now) (g.D.SectorDevice.state c.prepare_batch.new.device) c.args.memory.now
-    c.prepare_batch.new.memory c.args.loss c.args.headers.now c.args.blocks.now
-    (g.met.D.SectorDevice.lawful c.args.device.now) c.prepare_batch.ensures.prepares
-    (g.D.SectorDevice.state c.lose.new.device) c.lose.new.memory
-    c.in-Ok-lose.ensures.done c.in-Ok.ensures.headers c.in-Ok.ensures.blocks c.apply_batch.new.memory c.apply_batch.ensures.stays)
-    c.apply_batch.ensures.done
+    ok_then c.apply_batch.result _ _ (stages c.args.loss c.args.headers.now c.args.blocks.now
+    (g.met.D.SectorDevice.lawful c.args.device.now) c.prepare_batch.ensures.prepares c.lose.new.memory
+    c.in-Ok-lose.ensures.done c.in-Ok.ensures.headers c.in-Ok.ensures.blocks c.apply_batch.ensures.stays) c.apply_batch.ensures.done
 
 pub returns-clause-refused : goal.returns-clause-refused
 returns-clause-refused g c =
-    err_then c.apply_batch.result _ _
-    (unready_refuses (g.D.SectorDevice.state c.args.device.now) (g.D.SectorDevice.state c.prepare_batch.new.device) c.args.memory.now
-    c.prepare_batch.new.memory c.args.loss c.args.headers.now c.args.blocks.now
-    (g.met.D.SectorDevice.lawful c.args.device.now) c.prepare_batch.ensures.prepares
-    (g.D.SectorDevice.state c.lose.new.device) c.lose.new.memory
-    c.in-Ok-lose.ensures.done c.in-Ok.ensures.headers c.in-Ok.ensures.blocks c.apply_batch.new.memory c.apply_batch.ensures.stays)
-    c.apply_batch.ensures.failed
+    err_then c.apply_batch.result _ _ (unready_refuses c.args.loss c.args.headers.now c.args.blocks.now
+    (g.met.D.SectorDevice.lawful c.args.device.now) c.prepare_batch.ensures.prepares c.lose.new.memory
+    c.in-Ok-lose.ensures.done c.in-Ok.ensures.headers c.in-Ok.ensures.blocks c.apply_batch.ensures.stays) c.apply_batch.ensures.failed
 
 pub returns-clause-failed : goal.returns-clause-failed
 returns-clause-failed g c =
-    err_then c.apply_batch.result _ _
-    (unready_excused (g.D.SectorDevice.state c.args.device.now) (g.D.SectorDevice.state c.prepare_batch.new.device) c.args.memory.now
-    c.prepare_batch.new.memory c.args.loss c.args.headers.now c.args.blocks.now
-    (g.met.D.SectorDevice.lawful c.args.device.now) c.prepare_batch.ensures.prepares
-    (g.D.SectorDevice.state c.lose.new.device) c.lose.new.memory
-    c.in-Ok-lose.ensures.done c.in-Ok.ensures.headers c.in-Ok.ensures.blocks c.apply_batch.new.memory c.apply_batch.ensures.stays)
-    c.apply_batch.ensures.failed
+    err_then c.apply_batch.result _ _ (unready_excused c.args.loss c.args.headers.now c.args.blocks.now
+    (g.met.D.SectorDevice.lawful c.args.device.now) c.prepare_batch.ensures.prepares c.lose.new.memory
+    c.in-Ok-lose.ensures.done c.in-Ok.ensures.headers c.in-Ok.ensures.blocks c.apply_batch.ensures.stays) c.apply_batch.ensures.failed

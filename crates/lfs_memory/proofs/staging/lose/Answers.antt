@@ -11,7 +11,7 @@ returns-in-Blocks-clause-done g c =
     let d' = g.D.SectorDevice.state c.cut_file.new.device in
     ok_then c.cut_file.result _ _
     (λ go. subst (λ (x : Loss). Loses d d' c.args.memory.now c.cut_file.new.memory x) (sym c.in-Blocks.is)
-    (blocks_lost d d' c.args.memory.now c.cut_file.new.memory c.in-Blocks.cut go)) c.cut_file.ensures.cuts
+    (blocks_lost d c.in-Blocks.cut go)) c.cut_file.ensures.cuts
 
 pub returns-in-Blocks-clause-failed : goal.returns-in-Blocks-clause-failed
 returns-in-Blocks-clause-failed g c is =
@@ -24,7 +24,7 @@ returns-in-Link-clause-done g c =
     let d' = g.D.SectorDevice.state c.hide_file.new.device in
     ok_then c.hide_file.result _ _
     (λ go. subst (λ (x : Loss). Loses d d' c.args.memory.now c.hide_file.new.memory x) (sym c.in-Link.is)
-    (link_lost d d' c.args.memory.now c.hide_file.new.memory c.in-Link.link go)) c.hide_file.ensures.hides
+    (link_lost d c.in-Link.link go)) c.hide_file.ensures.hides
 
 pub returns-in-Link-clause-failed : goal.returns-in-Link-clause-failed
 returns-in-Link-clause-failed g c is =
@@ -38,7 +38,7 @@ returns-in-Ok-clause-done g c =
     let d = g.D.SectorDevice.state c.args.device.now in
     let d' = g.D.SectorDevice.state c.remove_file.new.device in
     subst (λ (x : Loss). Loses d d' c.args.memory.now c.remove_file.new.memory x) (sym c.in-File.is)
-    (file_lost d d' c.args.memory.now c.remove_file.new.memory c.in-File.removal c.in-Ok.ensures.removed)
+    (file_lost d c.in-File.removal c.in-Ok.ensures.removed)
 
 pub returns-in-Err-clause-failed : goal.returns-in-Err-clause-failed
 returns-in-Err-clause-failed g c is =

@@ -10,14 +10,11 @@ loop-index-preserved g c =
     let m = c.min-count.ensures in
     let low : 512 * c.loop-index.index < c.args.link.header.size = omega (arith, t, e) in
     let is : c.min-count.result ≡ min (c.args.link.header.size - 512 * c.loop-index.index) 512 = omega (arith, m) in
-    read_goes_on c.args.link.number.value c.args.link.header.size (g.F.Files.state c.args.files.now) (g.F.Files.state c.loop-index.files)
-    (g.F.Files.state c.read_block.new.files)
-    c.loop-index.index c.min-count.result c.loop-index.text.items c.read_block.new.text.items low is c.loop-index.invariant
+    read_goes_on c.args.link.number.value c.args.link.header.size low is c.loop-index.invariant
     (g.met.F.Files.lawful c.args.files.now) c.read_block.ensures.walks.reads c.in_ok-read_block.ensures.done
 
 pub returns-clause-answer : goal.returns-clause-answer
 returns-clause-answer g c =
     let t = c.loop-index-test.false in
     let e = c.div_ceil-index-end.ensures in
-    read_ends (g.F.Files.state c.args.files.now) (g.F.Files.state c.loop-index.files) c.args.link c.loop-index.index c.loop-index.text.items
-    (omega (arith, t, e)) c.loop-index.invariant
+    read_ends c.args.link (omega (arith, t, e)) c.loop-index.invariant

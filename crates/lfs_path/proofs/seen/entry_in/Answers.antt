@@ -14,22 +14,19 @@ returns-in-Err-clause-refused g c =
 
 pub returns-in-Ok-Some-clause-answer : goal.returns-in-Ok-Some-clause-answer
 returns-in-Ok-Some-clause-answer g c =
-    found (g.F.Files.state c.args.files.now) (g.F.Files.state c.header_of.new.files)
-    (g.F.Files.state c.find.new.files) c.args.directory.value c.in-Ok.header
+    found c.args.directory.value c.in-Ok.header
     c.header_of.ensures.reads c.find.ensures.reads c.in-Ok.ensures.answer c.args.name.now c.in-Ok-Some.found c.requires.dots
     (let most = c.longest_name-longest.ensures in let short = c.if-name-longest.false in omega (arith, most, short))
     (rw c.in-Ok-Some.field-0-is at c.in-Ok-Some.ensures.answer)
 
 pub returns-in-Ok-None-clause-refused : goal.returns-in-Ok-None-clause-refused
 returns-in-Ok-None-clause-refused g c =
-    found_none (g.F.Files.state c.args.files.now) (g.F.Files.state c.header_of.new.files)
-    (g.F.Files.state c.find.new.files) c.args.directory.value c.in-Ok.header
+    found_none c.args.directory.value c.in-Ok.header
     c.header_of.ensures.reads c.find.ensures.reads c.in-Ok.ensures.answer c.args.name.now c.requires.dots
     (let most = c.longest_name-longest.ensures in let short = c.if-name-longest.false in omega (arith, most, short))
     (rw c.in-Ok-None.field-0-is at c.in-Ok-None.ensures.answer)
 
 pub returns-in-Err-find-clause-refused : goal.returns-in-Err-find-clause-refused
 returns-in-Err-find-clause-refused g c =
-    find_failed (g.F.Files.state c.args.files.now) (g.F.Files.state c.header_of.new.files)
-    (g.F.Files.state c.find.new.files) c.args.directory.value c.in-Ok.header
+    find_failed c.args.directory.value c.in-Ok.header
     c.header_of.ensures.reads c.find.ensures.reads c.in-Ok.ensures.answer c.in-Err-find.ensures.failed

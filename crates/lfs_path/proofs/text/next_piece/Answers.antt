@@ -23,12 +23,12 @@ returns-clause-piece c =
     ∙ ap (λ (n : ℕ). drop n q) c.piece_length.ensures.count)
 
 -- what a filter leaves first passes
-first_passes : (p : List ℕ → Bool) (xs : List (List ℕ)) (y : List ℕ) (ys : List (List ℕ)) → filter p xs ≡ y ∷ ys → p y ≡ true
-first_passes p [] y ys e = absurd (cc)
-first_passes p (x ∷ xs) y ys e =
+first_passes : (p : List ℕ → Bool) (xs : List (List ℕ)) {y : List ℕ} {ys : List (List ℕ)} → filter p xs ≡ y ∷ ys → p y ≡ true
+first_passes p [] e = absurd (cc)
+first_passes p (x ∷ xs) {y} {ys} e =
     elim (p x) as (λ b. p x ≡ b → (if b then x ∷ filter p xs else filter p xs) ≡ y ∷ ys → p y ≡ true) [
       | true ↦ λ is eq. (let same : x ≡ y = cc in ap p (sym same) ∙ is)
-      | false ↦ λ is eq. first_passes p xs y ys eq
+      | false ↦ λ is eq. first_passes p xs eq
     ] refl e
 
 some_bytes : (n : ℕ) → nat_lt 0 n ≡ true → 0 < n
@@ -39,7 +39,7 @@ returns-clause-within c =
     let q : List ℕ = take (length c.args.path.now - c.leading_slashes.result) (drop c.leading_slashes.result c.args.path.now) in
     let is = returns-clause-piece c in
     let first = some_bytes (length c.split_at.result.0.now) (first_passes (λ piece. nat_lt 0 (length piece))
-    (parts c.args.path.now) c.split_at.result.0.now (comps c.split_at.result.1.now) is.pieces) in
+    (parts c.args.path.now) is.pieces) in
     let front = ap length c.split_at.ensures.front in
     let back = ap length c.split_at.ensures.back in
     let few = c.piece_length.ensures.few in

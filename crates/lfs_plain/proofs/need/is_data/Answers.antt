@@ -5,4 +5,4 @@ use Rattle.lfs_plain.proofs.need.is_data.Goals as goal
 
 pub returns : goal.returns
 returns c =
-    piece_is (λ c. not (c == 0)) c.args.bytes.now (512 * c.args.i) 512 c.min.result c.has_nonzero.result c.min.ensures c.has_nonzero.ensures
+    piece_is (λ c. not (c == 0)) c.args.bytes.now (512 * c.args.i) 512 c.min.ensures c.has_nonzero.ensures

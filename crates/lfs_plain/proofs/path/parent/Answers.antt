@@ -11,6 +11,6 @@ returns-in-Some-clause-exact c = holder_refused c.args.tree.now c.args.text.now 
 
 pub returns-clause-exact : goal.returns-clause-exact
 returns-clause-exact c =
-    holder_walked c.args.tree.now c.args.text.now (end_of c.in_ok-end.end) (texts c.but_last-above.result.now) c.in-None.ensures
+    holder_walked c.args.tree.now c.args.text.now c.in-None.ensures
     (c.but_last-above.ensures ∙ ap (λ (ps : List (Vec ℕ Global)). but_last (texts ps)) c.as_slice.ensures.value
     ∙ ap but_last c.in_ok-pieces.ensures) c.in_ok-end.ensures.exact

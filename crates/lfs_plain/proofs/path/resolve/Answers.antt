@@ -10,7 +10,6 @@ returns-in-Some-clause-exact c = whole_refused c.args.tree.now c.args.text.now c
 
 pub returns-clause-exact : goal.returns-clause-exact
 returns-clause-exact c =
-    whole_walked c.args.tree.now c.args.text.now c.args.follow (end_of c.in_ok-end.end)
-    (texts c.as_slice.result.now) c.ends_in_slash-slash.result c.in-None.ensures
+    whole_walked c.args.tree.now c.args.text.now c.args.follow c.in-None.ensures
     (ap (λ (ps : List (Vec ℕ Global)). texts ps) c.as_slice.ensures.value ∙ c.in_ok-pieces.ensures) c.ends_in_slash-slash.ensures
     c.in_ok-end.ensures.exact

@@ -2,4 +2,4 @@ use Rattle.lfs_put.proofs.InOrder.{saved}
 use Rattle.lfs_put.proofs.changing.clean.Goals as goal
 
 pub returns : goal.returns
-returns g c = saved g.D.SectorDevice.state _ _ _ _ _ _ c.clean-cleaned.ensures.serves c.save.ensures
+returns g c = saved _ c.clean-cleaned.ensures.serves c.save.ensures

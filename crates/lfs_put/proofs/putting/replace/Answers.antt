@@ -5,18 +5,13 @@ use Rattle.lfs_put.proofs.putting.replace.Goals as goal
 pub returns-in_err-count : goal.returns-in_err-count
 returns-in_err-count g c =
     let p = err_from_is_err_and c.from_residual.result c.from_residual.ensures.1 in rw (p.1, p.2)
-    (not_made g.D.SectorDevice.state _ _ c.args.unfinished.now c.args.path.now _ _ _
-    c.in_err-count.ensures)
+    (not_made g.D.SectorDevice.state _ _ c.args.path.now _ c.in_err-count.ensures)
 
 pub returns : goal.returns
 returns g c =
-    replaced g.D.SectorDevice.state _ _ _ c.args.unfinished.now c.args.path.now _ _ c.in_ok-count.count tt
-    c.in_ok-count.ensures
-    c.in_ok-rename_file.ensures
+    replaced g.D.SectorDevice.state _ _ _ _ _ c.in_ok-count.ensures c.in_ok-rename_file.ensures
 
 pub returns-in_err-rename_file : goal.returns-in_err-rename_file
 returns-in_err-rename_file g c =
     let p = err_from_is_err_and c.from_residual-in_err-rename_file.result c.from_residual-in_err-rename_file.ensures.1 in rw (p.1, p.2)
-    (not_renamed g.D.SectorDevice.state _ _ _ c.args.unfinished.now c.args.path.now _ _ c.in_ok-count.count _
-    c.in_ok-count.ensures
-    c.in_err-rename_file.ensures)
+    (not_renamed g.D.SectorDevice.state _ _ _ _ _ _ c.in_ok-count.ensures c.in_err-rename_file.ensures)

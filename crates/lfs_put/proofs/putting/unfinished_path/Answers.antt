@@ -13,7 +13,6 @@ returns c =
     let long = length-drop k whole in
     let first : c.extend_from_slice.new.self.items ≡ take k c.args.path.now =
     c.in_ok-extend_from_slice.ensures.items ∙ ap (λ (xs : List ℕ). xs ++ take k c.args.path.now) c.new-unfinished.ensures.items in
-    beside_of c.args.path.now whole (take (length whole - k) (drop k whole)) _ k
-    (whole_of c.args.path.now c.trimmed_len.result c.trimmed_len.ensures is.ends) at.within at.plain at.place
+    beside_of whole _ k (whole_of c.args.path.now c.trimmed_len.result c.trimmed_len.ensures is.ends) at.within at.plain at.place
     (take_all (length whole - k) (drop k whole) (omega (arith, long))) is.other
     (c.in_ok-extend_from_slice-2.ensures.items ∙ ap (λ (xs : List ℕ). xs ++ unfinished) first)

@@ -7,31 +7,27 @@ use Rattle.lfs_put.proofs.telling.largest_new_file.Goals as goal
 pub returns-in_err-space : goal.returns-in_err-space
 returns-in_err-space g c =
     let p = err_from_is_err_and c.from_residual.result c.from_residual.ensures.1 in rw (p.1, p.2)
-    (space_refused g.D.SectorDevice.state _ _ c.in_err-space.field-0.0 c.in_err-space.ensures)
+    (space_refused _ _ c.in_err-space.field-0.0 c.in_err-space.ensures)
 
 pub returns-in_err-root : goal.returns-in_err-root
 returns-in_err-root g c =
     let p = err_from_is_err_and c.from_residual-in_err-root.result c.from_residual-in_err-root.ensures.1 in rw (p.1, p.2)
     (let s = c.in_ok-space.space in
-    root_refused g.D.SectorDevice.state _ _ _ s.data_blocks s.meta_blocks s.need s.limit c.in_ok-space.ensures c.in_err-root.field-0.0
-    c.in_err-root.ensures)
+    root_refused _ _ _ c.in_ok-space.ensures c.in_err-root.ensures)
 
 pub returns-then-entries-ge-MOST_ENTRIES : goal.returns-then-entries-ge-MOST_ENTRIES
 returns-then-entries-ge-MOST_ENTRIES g c =
     let s = c.in_ok-space.space in
-    root_full g.D.SectorDevice.state _ _ _ s.data_blocks s.meta_blocks s.need s.limit c.in_ok-space.ensures
-    (status_of c.in_ok-root.root) c.in_ok-root.ensures c.if-entries-ge-MOST_ENTRIES.true
+    root_full _ _ _ c.in_ok-space.ensures (status_of c.in_ok-root.root) c.in_ok-root.ensures c.if-entries-ge-MOST_ENTRIES.true
 
 pub returns-then-space-lt-LAST_NUMBER : goal.returns-then-space-lt-LAST_NUMBER
 returns-then-space-lt-LAST_NUMBER g c =
     let s = c.in_ok-space.space in
-    fewer g.D.SectorDevice.state _ _ _ s.data_blocks s.meta_blocks s.need s.limit c.in_ok-space.ensures
-    (status_of c.in_ok-root.root) c.most_blocks-blocks.result _ c.in_ok-root.ensures
+    fewer _ _ _ c.in_ok-space.ensures (status_of c.in_ok-root.root) c.in_ok-root.ensures
     c.most_blocks-blocks.ensures refl c.if-space-lt-LAST_NUMBER.true
 
 pub returns : goal.returns
 returns g c =
     let s = c.in_ok-space.space in
-    by_rows g.D.SectorDevice.state _ _ _ s.data_blocks s.meta_blocks s.need s.limit c.in_ok-space.ensures _
-    (status_of c.in_ok-root.root) c.most_blocks-blocks.result _ _ c.in_ok-root.ensures
+    by_rows _ _ _ c.in_ok-space.ensures _ (status_of c.in_ok-root.root) _ c.in_ok-root.ensures
     c.most_blocks-blocks.ensures refl c.by_tree.ensures

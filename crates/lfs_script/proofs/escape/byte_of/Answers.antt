@@ -4,8 +4,8 @@ use Rattle.lfs_script.proofs.Digits.{decode-fails, decode-gives}
 use Rattle.lfs_script.proofs.escape.byte_of.Goals as goal
 
 pub returns-in_default-clause-none : goal.returns-in_default-clause-none
-returns-in_default-clause-none c = λ e. decode-fails c.args.digits.now c.decode_to_slice.result c.decode_to_slice.new.out
-    c.in_default.field-0 c.decode_to_slice.ensures.value c.in_default.is
+returns-in_default-clause-none c = λ e. decode-fails c.args.digits.now c.decode_to_slice.new.out
+    c.decode_to_slice.ensures.value c.in_default.is
 
 pub returns-else-eq-clause-none : goal.returns-else-eq-clause-none
 returns-else-eq-clause-none c = λ e.

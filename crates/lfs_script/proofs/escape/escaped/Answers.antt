@@ -7,7 +7,7 @@ use Rattle.lfs_script.proofs.escape.escaped.Goals.{then-word-lt3-via-then-word-l
 
 pub returns-then-word-lt3-clause-none : goal.returns-then-word-lt3-clause-none
 returns-then-word-lt3-clause-none c = λ e b rest fits other same.
-    let parts = other_parts b rest c.args.word.now other same in
+    let parts = other_parts b rest other same in
     elim c.then-word-lt3.branch [
       | then-word-lt3-via-then-word-lt3 w ↦ omega (arith, parts.0, w.if-word-lt3.true)
       | then-word-lt3-via-else-word-lt3+then-word-ne92 w ↦ w.if-word-ne92.true parts.1
@@ -15,15 +15,15 @@ returns-then-word-lt3-clause-none c = λ e b rest fits other same.
 
 pub returns-in_default-clause-none : goal.returns-in_default-clause-none
 returns-in_default-clause-none c = λ e b rest fits other same.
-    let parts = other_parts b rest c.args.word.now other same in
+    let parts = other_parts b rest other same in
     c.byte_of.ensures.none c.in_default.is b fits parts.2
 
 pub returns-then-is_plain-clause-none : goal.returns-then-is_plain-clause-none
 returns-then-is_plain-clause-none c = λ e b rest fits other same.
-    let parts = other_parts b rest c.args.word.now other same in
+    let parts = other_parts b rest other same in
     let byte : c.in-Some.byte < 256 = search rules in
     let digits : encode_lower (c.in-Some.byte ∷ []) ≡ take 2 (drop 1 c.args.word.now) = search rules in
-    clash b c.in-Some.byte (other_same b c.in-Some.byte _ fits byte parts.2 digits) other (search rules)
+    clash b (other_same b c.in-Some.byte fits byte parts.2 digits) other (search rules)
 
 pub returns-else-is_plain-clause-found : goal.returns-else-is_plain-clause-found
 returns-else-is_plain-clause-found c =

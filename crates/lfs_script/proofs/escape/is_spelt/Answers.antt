@@ -7,12 +7,10 @@ loop-at-init c = ([], spells-none c.args.word.now)
 
 pub returns-in_default-clause-no : goal.returns-in_default-clause-no
 returns-in_default-clause-no c = λ e.
-    spells-stuck c.args.word.now c.loop-at.invariant.0 c.loop-at.at c.loop-at.invariant.1 c.loop-at-test.true
-    (c.first_byte.ensures.none c.in_default.is)
+    spells-stuck c.loop-at.invariant.1 c.loop-at-test.true (c.first_byte.ensures.none c.in_default.is)
 
 pub loop-at-preserved : goal.loop-at-preserved
 loop-at-preserved c =
     let fits : c.in-Some.field-0-0 < 256 = search rules in
-    let more = spells-more c.args.word.now c.loop-at.invariant.0 c.loop-at.at c.in-Some.field-0-0 c.in-Some.n c.loop-at.invariant.1 fits
-    c.in-Some.ensures.found in
+    let more = spells-more c.in-Some.field-0-0 c.in-Some.n c.loop-at.invariant.1 fits c.in-Some.ensures.found in
     (c.loop-at.invariant.0 ++ c.in-Some.field-0-0 ∷ [], more.2)

@@ -15,4 +15,4 @@ returns g c =
     let other : is_plain c.args.byte ≡ false = search rules in
     let fits : c.args.byte < 256 = search rules in
     subst (λ t. Puts (g.W.Write.contents c.args.writer.now) (g.W.Write.contents c.put-2.new.writer) t c.put-2.result)
-    (sym (other_word c.args.byte c.digits_of.result fits other c.digits_of.ensures)) c.put-2.ensures
+    (sym (other_word c.args.byte fits other c.digits_of.ensures)) c.put-2.ensures

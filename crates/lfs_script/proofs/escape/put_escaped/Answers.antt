@@ -6,7 +6,7 @@ use Rattle.lfs_script.proofs.escape.put_escaped.Goals as goal
 
 pub returns-in_err-put_byte : goal.returns-in_err-put_byte
 returns-in_err-put_byte g c =
-    puts_some _ _ _ _ _ c.from_residual.ensures.1
+    puts_some _ _ c.from_residual.ensures.1
     (some_of_word _ _ _ c.args.bytes.now c.loop-byte.byte-index c.loop-byte-test.true c.loop-byte.invariant
     c.in_err-put_byte.ensures.err)
 

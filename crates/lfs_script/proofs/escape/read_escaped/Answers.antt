@@ -7,7 +7,7 @@ returns-then-is_empty c = record {
   ok = tt;
   bytes = tt;
   spelling = λ e bytes fits same.
-      (let some = word_length bytes c.args.word.now fits same in
+      (let some = word_length bytes fits same in
       let none : length c.args.word.now ≡ 0 = search rules in
       omega (arith, some, none));
   memory = λ e. absurd (cc);
@@ -21,9 +21,9 @@ returns c =
       ok = IfOk-word c.unescape.result c.args.word.now c.unescape.ensures.ok some;
       bytes = IfOk-bytes c.unescape.result c.args.word.now c.unescape.ensures.ok;
       spelling = λ e bytes fits same.
-          c.unescape.ensures.spelling e bytes (fits_of bytes fits) (unescaped bytes c.args.word.now fits same apart);
+          c.unescape.ensures.spelling e bytes (fits_of bytes fits) (unescaped bytes fits same apart);
       memory = λ e.
           (let found = c.unescape.ensures.memory e in
-          let both = escaped_as found.0 c.args.word.now found.1 found.2 some in
+          let both = escaped_as found.0 found.1 found.2 some in
           (found.0, both.0, both.1));
     }

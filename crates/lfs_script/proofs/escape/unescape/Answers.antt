@@ -10,14 +10,12 @@ loop-at-init c =
 
 pub returns-in_default-first_byte-clause-spelling : goal.returns-in_default-first_byte-clause-spelling
 returns-in_default-first_byte-clause-spelling c = λ e.
-    spells-stuck c.args.word.now c.loop-at.bytes.items c.loop-at.at c.loop-at.invariant.1 c.loop-at-test.true
-    (c.first_byte.ensures.none c.in_default-first_byte.is)
+    spells-stuck c.loop-at.invariant.1 c.loop-at-test.true (c.first_byte.ensures.none c.in_default-first_byte.is)
 
 pub loop-at-preserved : goal.loop-at-preserved
 loop-at-preserved c =
     let fits : c.in-Some.byte < 256 = search rules in
-    let more = spells-more c.args.word.now c.loop-at.bytes.items c.loop-at.at c.in-Some.byte c.in-Some.n c.loop-at.invariant.1 fits
-    c.in-Some.ensures.found in
+    let more = spells-more c.in-Some.byte c.in-Some.n c.loop-at.invariant.1 fits c.in-Some.ensures.found in
     let items : c.push.new.self.items ≡ c.loop-at.bytes.items ++ c.in-Some.byte ∷ [] = search rules in
     let room : length c.args.word.now ≤ vec_capacity c.push.new.self = search rules in
     (room, rw items more.2)

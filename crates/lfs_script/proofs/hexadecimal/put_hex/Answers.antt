@@ -10,7 +10,7 @@ loop-at-init g c = (omega arith, digits-none (g.W.Write.contents c.args.writer.n
 pub returns-in_err-put_digits : goal.returns-in_err-put_digits
 returns-in_err-put_digits g c =
     let some : 0 < length c.args.bytes.now = search rules in
-    puts_some _ _ _ _ _ c.from_residual.ensures.1 (hex_written _ _ c.args.bytes.now c.bytes_fit.ensures
+    puts_some _ _ c.from_residual.ensures.1 (hex_written _ _ c.args.bytes.now c.bytes_fit.ensures
     (digits-some _ _ _ c.args.bytes.now c.loop-at.at c.min-n.result some c.loop-at.invariant.1 c.in_err-put_digits.ensures.err))
 
 pub loop-at-preserved : goal.loop-at-preserved

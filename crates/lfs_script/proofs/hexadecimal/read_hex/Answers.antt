@@ -12,7 +12,7 @@ returns-then-not-is_pairs c =
 pub returns-in-Ok : goal.returns-in-Ok
 returns-in-Ok c =
     let are : is_pairs c.args.word.now ≡ true = search rules in
-    let decoded = decoded_hex c.args.word.now c.in-Ok.bytes.items are c.in-Ok.ensures.ok in
+    let decoded = decoded_hex c.args.word.now are c.in-Ok.ensures.ok in
     record { ok = decoded.1; bytes = decoded.0; spelling = λ e. absurd (cc); memory = λ e. absurd (cc) }
 
 pub returns-in-Err : goal.returns-in-Err

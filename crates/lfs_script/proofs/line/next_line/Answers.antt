@@ -11,7 +11,6 @@ loop-byte-preserved g c =
       search rules,
       search rules,
       subst (All (λ b. b ≢ 10)) (sym pushed) (plain_more _ c.in-Some.byte c.loop-byte.invariant.2 apart),
-      byte_read ReadError _ _ _ _ _ c.in_ok-next.field-0 c.in-Some.byte c.in-Some.is pushed c.loop-byte.invariant.3
-          c.in_ok-next.ensures.takes.bytes,
+      byte_read ReadError _ _ _ _ c.in-Some.is pushed c.loop-byte.invariant.3 c.in_ok-next.ensures.takes.bytes,
       Keeps-trans _ _ _ c.loop-byte.invariant.4 c.next.ensures.kept,
     )

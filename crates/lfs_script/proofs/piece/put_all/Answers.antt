@@ -5,6 +5,6 @@ use Rattle.lfs_script.proofs.piece.put_all.Goals as goal
 
 pub returns-in_err-put_piece : goal.returns-in_err-put_piece
 returns-in_err-put_piece g c =
-    puts_some _ _ _ _ _ c.from_residual.ensures.1
+    puts_some _ _ c.from_residual.ensures.1
     (pieces-some piece_text _ _ _ c.args.pieces.now c.loop-piece.piece-index _ c.loop-piece-test.true c.loop-piece.invariant
     c.in_err-put_piece.ensures.err)

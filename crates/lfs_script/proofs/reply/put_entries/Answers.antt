@@ -6,17 +6,17 @@ use Rattle.lfs_script.proofs.PieceTexts.{after-more, after-some}
 use Rattle.lfs_script.proofs.reply.put_entries.Goals as goal
 
 pub returns-in_err-put_number_line : goal.returns-in_err-put_number_line
-returns-in_err-put_number_line g c = puts_some _ _ _ _ _ c.from_residual.ensures.1 (some_front _ _ _ _ c.in_err-put_number_line.ensures.err)
+returns-in_err-put_number_line g c = puts_some _ _ c.from_residual.ensures.1 (some_front _ _ _ _ c.in_err-put_number_line.ensures.err)
 
 pub returns-in_err-put_entry : goal.returns-in_err-put_entry
 returns-in_err-put_entry g c =
     let is : get_or c.args.entries.now c.loop-entry.entry-index c.entry-item.result ≡ c.entry-item.result = search rules in
-    puts_some _ _ _ _ _ c.from_residual-in_err-put_entry.ensures.1
+    puts_some _ _ c.from_residual-in_err-put_entry.ensures.1
     (after-some (λ entry. entry_line (entry_of entry)) (ok (decimal (length c.args.entries.now) ∷ [])) _ _ _ c.args.entries.now
-    c.loop-entry.entry-index c.entry-item.result c.loop-entry-test.true is c.loop-entry.invariant c.in_err-put_entry.ensures.err)
+    c.loop-entry.entry-index c.loop-entry-test.true is c.loop-entry.invariant c.in_err-put_entry.ensures.err)
 
 pub loop-entry-preserved : goal.loop-entry-preserved
 loop-entry-preserved g c =
     let is : get_or c.args.entries.now c.loop-entry.entry-index c.entry-item.result ≡ c.entry-item.result = search rules in
     after-more (λ entry. entry_line (entry_of entry)) (ok (decimal (length c.args.entries.now) ∷ [])) _ _ _ c.args.entries.now
-    c.loop-entry.entry-index c.entry-item.result c.loop-entry-test.true is c.loop-entry.invariant c.in_ok-put_entry.ensures.ok
+    c.loop-entry.entry-index c.loop-entry-test.true is c.loop-entry.invariant c.in_ok-put_entry.ensures.ok

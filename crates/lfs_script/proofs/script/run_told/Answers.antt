@@ -6,85 +6,68 @@ use Rattle.lfs_script.proofs.ScriptTurns.{so_far_more, looks_of, so_far_none, to
 use Rattle.lfs_script.proofs.script.run_told.Goals as goal
 
 pub returns-in_default : goal.returns-in_default
-returns-in_default g c = no_room g.D.SectorDevice.state c.args.strict (told_none g.D.SectorDevice.state g.met.D.SectorDevice.lawful)
-    (tells_more g.D.SectorDevice.state g.met.D.SectorDevice.lawful) _ _ _ _
+returns-in_default g c = no_room (told_none g.met.D.SectorDevice.lawful) (tells_more g.met.D.SectorDevice.lawful) _ _ _ _
 
 pub returns-in_default-new : goal.returns-in_default-new
-returns-in_default-new g c = no_room g.D.SectorDevice.state c.args.strict (told_none g.D.SectorDevice.state g.met.D.SectorDevice.lawful)
-    (tells_more g.D.SectorDevice.state g.met.D.SectorDevice.lawful) _ _ _ _
+returns-in_default-new g c = no_room (told_none g.met.D.SectorDevice.lawful) (tells_more g.met.D.SectorDevice.lawful) _ _ _ _
 
 pub loop-count-init : goal.loop-count-init
 loop-count-init g c = (
   search rules,
-  so_far_none g.D.SectorDevice.state c.args.strict
-      (told_none g.D.SectorDevice.state g.met.D.SectorDevice.lawful) (tells_more g.D.SectorDevice.state g.met.D.SectorDevice.lawful) _ _
-      (slice_range c.in-Ok-new.source.chunk.items c.in-Ok-new.source.start c.in-Ok-new.source.end) _ _ c.in-Ok-new.ensures,
+  so_far_none {strict = c.args.strict} (told_none g.met.D.SectorDevice.lawful) (tells_more g.met.D.SectorDevice.lawful) _ _
+      _ _ c.in-Ok-new.ensures,
 )
 
 pub loop-count-preserved : goal.loop-count-preserved
 loop-count-preserved g c = (
   c.next_line.ensures.room,
-  so_far_more g.D.SectorDevice.state c.args.strict (told_none g.D.SectorDevice.state g.met.D.SectorDevice.lawful)
-      (tells_more g.D.SectorDevice.state g.met.D.SectorDevice.lawful) _ _ _ _ _ _ _ _ _ _ c.next_line.new.line.items _ _ _
-      (so_far_flushed g.D.SectorDevice.state c.args.strict _ _ _ _ _ _ _ _ _ _ c.next_line.ensures.kept c.loop-count.invariant.1)
-      c.next_line.ensures.plain
-      (line_ended _ _ c.next_line.new.line.items c.in-Ok-Newline.field-0 Newline c.in-Ok-Newline.field-0-is c.in-Ok-Newline.ensures.bytes)
-      (turns_of g.D.SectorDevice.state c.args.strict None _ _ _ _ _ _ c.loop-count.count c.as_slice.ensures.value
-      c.in_default-turn.ensures.turns)
-      (looks_of g.D.SectorDevice.state _ _ _ _ _ _ c.as_slice.ensures.value c.turn.ensures.looks),
+  so_far_more (told_none g.met.D.SectorDevice.lawful) (tells_more g.met.D.SectorDevice.lawful) _ _ _ _ _ _ _ _ _ _ _ _ _
+      (so_far_flushed g.D.SectorDevice.state c.args.strict _ c.next_line.ensures.kept c.loop-count.invariant.1) c.next_line.ensures.plain
+      (line_ended _ _ c.next_line.new.line.items c.in-Ok-Newline.field-0-is c.in-Ok-Newline.ensures.bytes)
+      (turns_of g.D.SectorDevice.state c.args.strict None _ _ _ _ c.loop-count.count c.as_slice.ensures.value
+      c.in_default-turn.ensures.turns) (looks_of g.D.SectorDevice.state _ _ _ _ c.as_slice.ensures.value c.turn.ensures.looks),
 )
 
 pub returns-in-Some : goal.returns-in-Some
 returns-in-Some g c =
-    turned_end g.D.SectorDevice.state c.args.strict (told_none g.D.SectorDevice.state g.met.D.SectorDevice.lawful)
-    (tells_more g.D.SectorDevice.state g.met.D.SectorDevice.lawful) c.in-Some.end _ _ _ _ _ _ _ _ _ _ c.next_line.new.line.items
+    turned_end (told_none g.met.D.SectorDevice.lawful) (tells_more g.met.D.SectorDevice.lawful) c.in-Some.end _ _ _ _ _ _ _ _ _ _
     (slice_range c.next_line.new.source.chunk.items c.next_line.new.source.start c.next_line.new.source.end) _ _ _
-    (so_far_flushed g.D.SectorDevice.state c.args.strict _ _ _ _ _ _ _ _ _ _ c.next_line.ensures.kept c.loop-count.invariant.1)
-    c.next_line.ensures.plain
-    (line_ended _ _ c.next_line.new.line.items c.in-Ok-Newline.field-0 Newline c.in-Ok-Newline.field-0-is c.in-Ok-Newline.ensures.bytes)
-    (turns_of g.D.SectorDevice.state c.args.strict (Some c.in-Some.end) _ _ _ _ _ _ _ c.as_slice.ensures.value c.in-Some.ensures.turns)
-    (looks_of g.D.SectorDevice.state _ _ _ _ _ _ c.as_slice.ensures.value c.turn.ensures.looks)
+    (so_far_flushed g.D.SectorDevice.state c.args.strict _ c.next_line.ensures.kept c.loop-count.invariant.1) c.next_line.ensures.plain
+    (line_ended _ _ c.next_line.new.line.items c.in-Ok-Newline.field-0-is c.in-Ok-Newline.ensures.bytes)
+    (turns_of g.D.SectorDevice.state c.args.strict (Some c.in-Some.end) _ _ _ _ _ c.as_slice.ensures.value c.in-Some.ensures.turns)
+    (looks_of g.D.SectorDevice.state _ _ _ _ c.as_slice.ensures.value c.turn.ensures.looks)
 
 pub returns-in-Ok-Input : goal.returns-in-Ok-Input
 returns-in-Ok-Input g c =
     let ended : c.next_line.result ≡ Ok Input = c.in-Ok-Input.is ∙ ap (λ e. Ok e) c.in-Ok-Input.field-0-is in
-    finished g.D.SectorDevice.state c.args.strict (told_none g.D.SectorDevice.state g.met.D.SectorDevice.lawful)
-    (tells_more g.D.SectorDevice.state g.met.D.SectorDevice.lawful) c.finish.result c.loop-count.count _ _
-    (g.R.Read.remaining c.next_line.new.reader) _ _ _ _ _ _ c.next_line.new.line.items
+    finished (told_none g.met.D.SectorDevice.lawful) (tells_more g.met.D.SectorDevice.lawful) c.finish.result _ _
+    _ _ _ _ _ _ c.next_line.new.line.items
     (slice_range c.next_line.new.source.chunk.items c.next_line.new.source.start c.next_line.new.source.end) _ _ _
-    (so_far_flushed g.D.SectorDevice.state c.args.strict _ _ _ _ _ _ _ _ _ _ c.next_line.ensures.kept c.loop-count.invariant.1)
-    c.next_line.ensures.plain
-    (line_ended _ _ c.next_line.new.line.items c.in-Ok-Input.field-0 Input c.in-Ok-Input.field-0-is c.in-Ok-Input.ensures.bytes)
-    (c.next_line.ensures.end ended)
-    (finishes_of g.D.SectorDevice.state c.args.strict c.finish.result _ _ _ _ _ _ c.loop-count.count _ _
+    (so_far_flushed g.D.SectorDevice.state c.args.strict _ c.next_line.ensures.kept c.loop-count.invariant.1) c.next_line.ensures.plain
+    (line_ended _ _ c.next_line.new.line.items c.in-Ok-Input.field-0-is c.in-Ok-Input.ensures.bytes) (c.next_line.ensures.end ended)
+    (finishes_of g.D.SectorDevice.state c.args.strict c.finish.result _ _ _ _ c.loop-count.count _ _
     c.as_slice-in-Ok-Input.ensures.value c.finish.ensures)
 
 pub returns-in-Ok-TooLong : goal.returns-in-Ok-TooLong
 returns-in-Ok-TooLong g c =
     let long : (c.in-Ok-TooLong.field-0-0 ≢ 10) × (vec_len c.next_line.new.line ≡ 140000) =
-    long_ended c.in-Ok-TooLong.field-0 c.in-Ok-TooLong.field-0-0 (λ b. (b ≢ 10) × (vec_len c.next_line.new.line ≡ 140000))
-    c.in-Ok-TooLong.field-0-is c.in-Ok-TooLong.ensures.long in
+    long_ended (λ b. (b ≢ 10) × (vec_len c.next_line.new.line ≡ 140000)) c.in-Ok-TooLong.field-0-is c.in-Ok-TooLong.ensures.long in
     let size : length c.next_line.new.line.items ≡ 140000 = search rules in
-    too_long g.D.SectorDevice.state c.args.strict (told_none g.D.SectorDevice.state g.met.D.SectorDevice.lawful)
-    (tells_more g.D.SectorDevice.state g.met.D.SectorDevice.lawful) c.refuse.result c.loop-count.count _ _
-    (g.R.Read.remaining c.next_line.new.reader) _ _ _ _ _ c.next_line.new.line.items
+    too_long (told_none g.met.D.SectorDevice.lawful) (tells_more g.met.D.SectorDevice.lawful) c.refuse.result _ _
+    _ _ _ _ _ c.next_line.new.line.items
     (slice_range c.next_line.new.source.chunk.items c.next_line.new.source.start c.next_line.new.source.end) c.in-Ok-TooLong.field-0-0 _ _
-    (so_far_flushed g.D.SectorDevice.state c.args.strict _ _ _ _ _ _ _ _ _ _ c.next_line.ensures.kept c.loop-count.invariant.1)
-    c.next_line.ensures.plain long.0 size
-    (line_ended _ _ c.next_line.new.line.items c.in-Ok-TooLong.field-0 (TooLong c.in-Ok-TooLong.field-0-0) c.in-Ok-TooLong.field-0-is
+    (so_far_flushed g.D.SectorDevice.state c.args.strict _ c.next_line.ensures.kept c.loop-count.invariant.1)
+    c.next_line.ensures.plain long.0 size (line_ended _ _ c.next_line.new.line.items c.in-Ok-TooLong.field-0-is
     c.in-Ok-TooLong.ensures.bytes) c.refuse.ensures
 
 pub returns-in-Err : goal.returns-in-Err
 returns-in-Err g c =
-    read_fails g.D.SectorDevice.state c.args.strict (told_none g.D.SectorDevice.state g.met.D.SectorDevice.lawful)
-    (tells_more g.D.SectorDevice.state g.met.D.SectorDevice.lawful) _ _ _ _ _ _ _ _ c.next_line.new.line.items
-    (slice_range c.next_line.new.source.chunk.items c.next_line.new.source.start c.next_line.new.source.end) _ _
-    (so_far_flushed g.D.SectorDevice.state c.args.strict _ _ _ _ _ _ _ _ _ _ c.next_line.ensures.kept c.loop-count.invariant.1)
+    read_fails (told_none g.met.D.SectorDevice.lawful) (tells_more g.met.D.SectorDevice.lawful) _ _ _ _ _ _ _ _ c.next_line.new.line.items
+    _ _ (so_far_flushed g.D.SectorDevice.state c.args.strict _ c.next_line.ensures.kept c.loop-count.invariant.1)
     c.next_line.ensures.plain c.in-Err.ensures.bytes c.in-Err.ensures.err
 
 pub returns : goal.returns
 returns g c =
-    numbers_end g.D.SectorDevice.state c.args.strict (told_none g.D.SectorDevice.state g.met.D.SectorDevice.lawful) (tells_more
-    g.D.SectorDevice.state g.met.D.SectorDevice.lawful) c.loop-count.count _ (g.R.Read.remaining c.loop-count.reader) _ _ _ _
+    numbers_end (told_none g.met.D.SectorDevice.lawful) (tells_more g.met.D.SectorDevice.lawful) _ _ _ _ _
     (slice_range c.loop-count.source.chunk.items c.loop-count.source.start c.loop-count.source.end) _ _ c.loop-count.invariant.1
     c.loop-count-test.false

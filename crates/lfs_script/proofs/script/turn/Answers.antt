@@ -9,15 +9,15 @@ pub returns-in_default-clause-turns : goal.returns-in_default-clause-turns
 returns-in_default-clause-turns g c = inr (c.in_default.ensures.0, c.refuse.ensures, c.in_default.ensures.1)
 
 pub returns-in_default-clause-looks : goal.returns-in_default-clause-looks
-returns-in_default-clause-looks g c = looks_never g.D.SectorDevice.state _ _ _ _ c.in_default.ensures.0
+returns-in_default-clause-looks g c = looks_never g.D.SectorDevice.state _ _ _ c.in_default.ensures.0
 
 pub returns-in-Ok-clause-turns : goal.returns-in-Ok-clause-turns
 returns-in-Ok-clause-turns g c = turned g.D.SectorDevice.state c.decide.result c.args.strict _ _ _ _ c.args.line.now c.args.count
     (result_of c.in-Some.answer) c.in-Some.ensures c.in-Ok.ensures.ok c.decide.ensures
 
 pub returns-in-Ok-clause-looks : goal.returns-in-Ok-clause-looks
-returns-in-Ok-clause-looks g c = looks_called g.D.SectorDevice.state (seen c.answer_line.new.fs) _ _
-    (result_of c.in-Some.answer) _ _ _ _ c.in-Some.ensures c.device.ensures c.look.ensures
+returns-in-Ok-clause-looks g c = looks_called g.D.SectorDevice.state _
+    (result_of c.in-Some.answer) _ _ _ c.in-Some.ensures c.device.ensures c.look.ensures
 
 pub returns-clause-turns : goal.returns-clause-turns
 returns-clause-turns g c = inl (
@@ -27,5 +27,5 @@ returns-clause-turns g c = inl (
 )
 
 pub returns-clause-looks : goal.returns-clause-looks
-returns-clause-looks g c = looks_called g.D.SectorDevice.state (seen c.answer_line.new.fs) _ _
-    (result_of c.in-Some.answer) _ _ _ _ c.in-Some.ensures c.device.ensures c.look.ensures
+returns-clause-looks g c = looks_called g.D.SectorDevice.state _
+    (result_of c.in-Some.answer) _ _ _ c.in-Some.ensures c.device.ensures c.look.ensures

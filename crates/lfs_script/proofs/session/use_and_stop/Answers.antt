@@ -8,19 +8,16 @@ pub returns-clause-ran : goal.returns-clause-ran
 returns-clause-ran g c =
     let stop = c.crash.ensures in
     ok_more _ _ c.use_volume-end.result.0 (λ end session.
-    stopped (device_state c.use_volume-end.result.1) (device_state c.crash.new.self)
-    (λ t x le left. inl left) stop.carries stop.time stop.same_failures stop.durable stop.chosen
-    (device_state c.args.device) end _ _ _ _ session) c.use_volume-end.ensures.ran
+    stopped
+    (λ t x le left. inl left) stop.carries stop.time stop.same_failures stop.durable stop.chosen _ _ session) c.use_volume-end.ensures.ran
 
 pub returns-clause-refused : goal.returns-clause-refused
 returns-clause-refused g c =
     let stop = c.crash.ensures in
     err_more _ _ c.use_volume-end.result.0 (λ fault unused.
-    still_unused (device_state c.use_volume-end.result.1) (device_state c.crash.new.self)
-    (λ t x le left. inl left) stop.carries stop.time stop.same_failures stop.durable stop.chosen
-    (device_state c.args.device) fault _ _ _ _ unused) c.use_volume-end.ensures.refused
+    still_unused
+    (λ t x le left. inl left) stop.carries stop.time stop.same_failures stop.durable stop.chosen unused) c.use_volume-end.ensures.refused
 
 pub returns-clause-carries : goal.returns-clause-carries
 returns-clause-carries g c =
-    carries_then (device_state c.args.device) (device_state c.use_volume-end.result.1)
-    (device_state c.crash.new.self) c.use_volume-end.ensures.carries c.crash.ensures.carries
+    carries_then c.use_volume-end.ensures.carries c.crash.ensures.carries

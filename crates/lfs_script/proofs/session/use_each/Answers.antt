@@ -16,16 +16,16 @@ loop-script-init g c = λ before calls given was.
 
 pub loop-script-preserved : goal.loop-script-preserved
 loop-script-preserved g c = λ before calls given was.
-    in_turn device_state c.args.scripts.now c.loop-script.script-index c.script-item.result c.as_slice-reader.result.now
+    in_turn device_state c.args.scripts.now c.loop-script.script-index c.script-item.result
     c.loop-script-test.true (search rules) c.as_slice-reader.ensures.value _ _ _ _ _
-    (c.loop-script.invariant before calls given was) (let session = ok_of _ _ _ c.in-Ok-default.is-0 c.use_and_stop.ensures.ran in
+    (c.loop-script.invariant before calls given was) (let session = ok_of _ c.in-Ok-default.is-0 c.use_and_stop.ensures.ran in
     (_, _, session, session.uses tt)) c.use_and_stop.ensures.alone
 
 pub returns-in-Err-default-clause-stopped : goal.returns-in-Err-default-clause-stopped
 returns-in-Err-default-clause-stopped g c = λ before calls given was.
     let is = c.in-Err-default.is-0 in
-    let unused = err_of _ _ _ is c.use_and_stop.ensures.refused in
-    stops device_state c.args.scripts.now c.loop-script.script-index _ _ _ _ _ _ c.loop-script-test.true
+    let unused = err_of _ is c.use_and_stop.ensures.refused in
+    stops device_state c.args.scripts.now c.loop-script.script-index _ _ _ _ c.loop-script-test.true
     (ap g.W.Write.contents unused.unwritten)
     (c.loop-script.invariant before calls given was) unused.cause unused.reason unused.any_moment unused.left
 

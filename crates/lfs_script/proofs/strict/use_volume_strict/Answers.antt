@@ -4,7 +4,7 @@ use Rattle.lfs_script.proofs.strict.use_volume_strict.Goals as goal
 
 pub returns-in-Ok-clause-ran : goal.returns-in-Ok-clause-ran
 returns-in-Ok-clause-ran g c =
-    rw c.into_device.ensures (used_strictly g.D.SectorDevice.state c.args.device _ _ _ _ _ c.in-Ok.fs _
+    rw c.into_device.ensures (used_strictly c.args.device _ _ c.in-Ok.fs _
     (g.met.D.SectorDevice.lawful c.args.device) c.in-Ok.ensures.only c.in-Ok.ensures.durable
     c.in-Ok.ensures.untouched c.in-Ok.ensures.carries c.in-Ok.ensures.any_moment c.in-Ok.ensures.no_failure c.run_strict-end.ensures)
 

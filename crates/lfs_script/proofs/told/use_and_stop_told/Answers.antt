@@ -8,19 +8,18 @@ pub returns-clause-ran : goal.returns-clause-ran
 returns-clause-ran g c =
     let stop = c.crash.ensures in
     ok_more _ _ c.use_volume_told-end.result.0 (λ end session.
-    stopped_told (device_state c.use_volume_told-end.result.1) (device_state c.crash.new.self)
+    stopped_told
     (λ t x le left. inl left) stop.carries stop.time stop.same_failures stop.durable stop.chosen
-    (device_state c.args.device) c.args.strict end _ _ _ _ _ _ session) c.use_volume_told-end.ensures.ran
+     _ _ _ session) c.use_volume_told-end.ensures.ran
 
 pub returns-clause-refused : goal.returns-clause-refused
 returns-clause-refused g c =
     let stop = c.crash.ensures in
     err_more _ _ c.use_volume_told-end.result.0 (λ fault unused.
-    still_unused (device_state c.use_volume_told-end.result.1) (device_state c.crash.new.self)
+    still_unused
     (λ t x le left. inl left) stop.carries stop.time stop.same_failures stop.durable stop.chosen
-    (device_state c.args.device) fault _ _ _ _ unused) c.use_volume_told-end.ensures.refused
+     unused) c.use_volume_told-end.ensures.refused
 
 pub returns-clause-carries : goal.returns-clause-carries
 returns-clause-carries g c =
-    carries_then (device_state c.args.device) (device_state c.use_volume_told-end.result.1)
-    (device_state c.crash.new.self) c.use_volume_told-end.ensures.carries c.crash.ensures.carries
+    carries_then c.use_volume_told-end.ensures.carries c.crash.ensures.carries

@@ -10,17 +10,17 @@ loop-script-init g c = λ before calls given was. none_told device_state c.args.
 
 pub loop-script-preserved : goal.loop-script-preserved
 loop-script-preserved g c = λ before calls given was. more_told
-    device_state c.args.strict c.args.scripts.now c.loop-script.script-index c.script-item.result c.as_slice-reader.result.now
+    device_state c.args.strict c.args.scripts.now c.loop-script.script-index c.script-item.result
     c.loop-script-test.true (search rules) c.as_slice-reader.ensures.value _ _ _ _ _ _ _ _
-    (c.loop-script.invariant before calls given was) (let session = ok_of _ _ _ c.in-Ok-default.is-0 c.use_and_stop_told.ensures.ran in
+    (c.loop-script.invariant before calls given was) (let session = ok_of _ c.in-Ok-default.is-0 c.use_and_stop_told.ensures.ran in
     (_, _, session, session.uses tt)) c.use_and_stop_told.ensures.alone
 
 pub returns-in-Err-default-clause-stopped : goal.returns-in-Err-default-clause-stopped
 returns-in-Err-default-clause-stopped g c = λ before calls given was.
     let is = c.in-Err-default.is-0 in
-    let unused = err_of _ _ _ is c.use_and_stop_told.ensures.refused in
-    stops_told device_state c.args.strict c.args.scripts.now c.loop-script.script-index _ _ _ _ _ _ _ _ _ c.loop-script-test.true
-    (ap g.W.Write.contents unused.unwritten) (ap g.S.Witness.looks (err_of _ _ _ is c.use_and_stop_told.ensures.unseen))
+    let unused = err_of _ is c.use_and_stop_told.ensures.refused in
+    stops_told device_state c.args.strict c.args.scripts.now c.loop-script.script-index _ _ _ _ _ _ c.loop-script-test.true
+    (ap g.W.Write.contents unused.unwritten) (ap g.S.Witness.looks (err_of _ is c.use_and_stop_told.ensures.unseen))
     (c.loop-script.invariant before calls given was) unused.cause unused.reason unused.any_moment unused.left
 
 pub returns-clause-ran : goal.returns-clause-ran

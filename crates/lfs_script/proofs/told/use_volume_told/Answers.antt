@@ -4,7 +4,7 @@ use Rattle.lfs_script.proofs.told.use_volume_told.Goals as goal
 
 pub returns-in-Ok-clause-ran : goal.returns-in-Ok-clause-ran
 returns-in-Ok-clause-ran g c =
-    rw c.into_device.ensures (used_told g.D.SectorDevice.state c.args.device c.args.strict _ _ _ _ _ c.in-Ok.fs _ _ _
+    rw c.into_device.ensures (used_told c.args.device _ _ c.in-Ok.fs _ _
     (g.met.D.SectorDevice.lawful c.args.device) c.in-Ok.ensures.only c.in-Ok.ensures.durable
     c.in-Ok.ensures.untouched c.in-Ok.ensures.carries c.in-Ok.ensures.any_moment c.in-Ok.ensures.no_failure c.run_told-end.ensures)
 

@@ -19,10 +19,8 @@ returns-in_default-clause-some c =
     let long = c.loop-others.invariant.2 in
     let more = c.loop-others-test.true in
     on_some c.shortened.result _ _ (λ v is. subst (IsChoiceBy t c.args.meta c.args.most p) (sym is.1)
-    (choice_at_end t c.args.meta c.args.most p xs picked.first picked.each picked.apart c.loop-others.best c.loop-others.count tried
-    (omega (arith, long, more))
-    (inr (none_left t p c.loop-others.last xs picked (c.in_default.ensures.leads))) is.0))
-    c.shortened.ensures.some
+    (choice_at_end c.args.meta c.args.most p picked.first picked.each picked.apart tried (omega (arith, long, more))
+    (inr (none_left t p xs picked (c.in_default.ensures.leads))) is.0)) c.shortened.ensures.some
 
 pub returns-in_default-clause-none : goal.returns-in_default-clause-none
 returns-in_default-clause-none c =
@@ -34,10 +32,8 @@ returns-in_default-clause-none c =
     let long = c.loop-others.invariant.2 in
     let more = c.loop-others-test.true in
     on_none c.shortened.result _ _ (λ none.
-    exhausts t c.args.meta c.args.most p xs picked.first picked.each picked.apart c.wanted-wanted.ensures.table c.loop-others.best
-    c.loop-others.count tried (omega (arith, long, more))
-    (inr (none_left t p c.loop-others.last xs picked (c.in_default.ensures.leads))) none)
-    c.shortened.ensures.none
+    exhausts c.args.meta c.args.most p picked.first picked.each picked.apart c.wanted-wanted.ensures.table tried (omega (arith, long, more))
+    (inr (none_left t p xs picked (c.in_default.ensures.leads))) none) c.shortened.ensures.none
 
 pub returns-then-gain-wanted-clause-some : goal.returns-then-gain-wanted-clause-some
 returns-then-gain-wanted-clause-some c =
@@ -49,12 +45,12 @@ returns-then-gain-wanted-clause-some c =
     let long = c.loop-others.invariant.2 in
     let more = c.loop-others-test.true in
     let next = picked_next t p c.loop-others.last xs c.in-Some.next c.loop-others.invariant.0 c.in-Some.ensures.leads in
-    let gain = gain_pushed t c.args.meta xs x c.loop-others.blocks c.from-blocks.result c.loop-others.others c.gain-gain.result
+    let gain = gain_pushed t c.args.meta xs x
     c.loop-others.invariant.3 (c.from-blocks.ensures ∙ c.in-Some.ensures.leads.known.load) long c.gain-gain.ensures in
     let enough = c.if-gain-wanted.true in
     let wanted = c.wanted-wanted.ensures.value in
     subst (IsChoice t c.args.meta c.args.most (Precedes t p)) (sym c.push.ensures.items)
-    (choice_at_once t c.args.meta c.args.most p xs x c.loop-others.best c.loop-others.count tried next.first next.each next.apart
+    (choice_at_once t c.args.most p xs x tried next.first next.each next.apart
     (omega (arith, long, more)) (omega (arith, gain, enough, wanted)))
 
 pub loop-others-preserved : goal.loop-others-preserved
@@ -71,8 +67,7 @@ loop-others-preserved c =
     let few = c.in-Some.next.few in
     let own : c.from-blocks.result ≡ load_of t x = load ∙ c.in-Some.ensures.leads.known.load in
     let next = picked_next t p c.loop-others.last xs c.in-Some.next c.loop-others.invariant.0 c.in-Some.ensures.leads in
-    let gain = gain_pushed t c.args.meta xs x c.loop-others.blocks c.from-blocks.result c.loop-others.others c.gain-gain.result blocks own
-    long c.gain-gain.ensures in
+    let gain = gain_pushed t c.args.meta xs x blocks own long c.gain-gain.ensures in
     let lacks = c.if-gain-wanted.false in
     let wanted = c.wanted-wanted.ensures.value in
     let sum = sum_by_push (load_of t) xs x in
@@ -83,12 +78,11 @@ loop-others-preserved c =
       | then-gain-best w ↦
           let more = w.if-gain-best.true in
           let best = w.best-is in
-          tried_next_more t c.args.meta xs x c.loop-others.best c.loop-others.count tried c.if-gain-best.best c.if-gain-best.count
+          tried_next_more t xs x tried c.if-gain-best.count
           (w.best-is ∙ gain) (let n = w.count-is in omega (arith, n, long)) (omega (arith, best, more))
           (omega (arith, best, small, wanted))
       | else-gain-best w ↦
-          tried_next_still t c.args.meta xs x c.loop-others.best c.loop-others.count tried c.if-gain-best.best c.if-gain-best.count
-          c.gain-gain.result w.best-is w.count-is gain w.if-gain-best.false
+          tried_next_still t xs x tried w.best-is w.count-is gain w.if-gain-best.false
     ] in (
       subst (Picked t p (Some c.in-Some.next)) items next,
       subst (λ (l : List ℕ). Tried t c.args.meta l c.if-gain-best.best c.if-gain-best.count) items step,
@@ -109,8 +103,7 @@ returns-clause-some c =
     let over = c.loop-others-test.false in
     let full : length xs ≡ c.args.most = omega (arith, long, end, over) in
     on_some c.shortened-2.result _ _ (λ v is. subst (IsChoiceBy t c.args.meta c.args.most p) (sym is.1)
-    (choice_at_end t c.args.meta c.args.most p xs picked.first picked.each picked.apart c.loop-others.best c.loop-others.count tried
-    (omega (arith, full)) (inl full) is.0))
+    (choice_at_end c.args.meta c.args.most p picked.first picked.each picked.apart tried (omega (arith, full)) (inl full) is.0))
     c.shortened-2.ensures.some
 
 pub returns-clause-none : goal.returns-clause-none
@@ -125,6 +118,5 @@ returns-clause-none c =
     let over = c.loop-others-test.false in
     let full : length xs ≡ c.args.most = omega (arith, long, end, over) in
     on_none c.shortened-2.result _ _ (λ none.
-    exhausts t c.args.meta c.args.most p xs picked.first picked.each picked.apart c.wanted-wanted.ensures.table c.loop-others.best
-    c.loop-others.count tried (omega (arith, full)) (inl full) none)
-    c.shortened-2.ensures.none
+    exhausts c.args.meta c.args.most p picked.first picked.each picked.apart c.wanted-wanted.ensures.table
+    tried (omega (arith, full)) (inl full) none) c.shortened-2.ensures.none

@@ -7,9 +7,7 @@ use Rattle.lfs_segments.proofs.victims.victims.Goals as goal
 
 pub returns-clause-choice : goal.returns-clause-choice
 returns-clause-choice c =
-    on_some c.choose-2.result _ _ (λ v is. inr (
-      no_choice c.args.usage.now c.args.meta c.args.most
-          (preference.Benefit c.args.now) c.in_default.ensures.none,
+    on_some c.choose-2.result _ _ (λ v is. inr ( no_choice c.in_default.ensures.none,
       is,
     )) c.choose-2.ensures.some
 
@@ -18,4 +16,4 @@ returns-clause-none c = on_none c.choose-2.result _ _ (no_victims c.args.usage.n
 
 pub returns-clause-found : goal.returns-clause-found
 returns-clause-found c pressed limit = some_then c.choose-2.result _
-    (λ none. pressed_gains c.args.usage.now c.args.meta c.args.most none pressed limit) c.choose-2.ensures.none
+    (λ none. pressed_gains none pressed limit) c.choose-2.ensures.none

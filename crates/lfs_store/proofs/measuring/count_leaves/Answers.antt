@@ -12,25 +12,23 @@ pub returns-in_err-has_leaf-clause-reads : goal.returns-in_err-has_leaf-clause-r
 returns-in_err-has_leaf-clause-reads g c =
     same_exit c.from_residual.result c.in_err-has_leaf.field-0.0
     (λ (r : Result ℕ LogFault). ReadsLog g.D.SectorDevice.state c.args.log.now c.has_leaf.new.log r) c.from_residual.ensures
-    (looked_fails g.D.SectorDevice.state Bool ℕ c.args.log.now c.loop-leaf.log c.has_leaf.new.log c.in_err-has_leaf.field-0.0
+    (looked_fails g.D.SectorDevice.state Bool ℕ c.in_err-has_leaf.field-0.0
     (g.met.D.SectorDevice.lawful c.args.log.now.device) c.loop-leaf.invariant.reads c.in_err-has_leaf.ensures.reads)
 
 pub loop-leaf-preserved : goal.loop-leaf-preserved
 loop-leaf-preserved g c =
-    counted_more g.D.SectorDevice.state (λ m. has_leaf m c.args.number.value) c.args.log.now c.loop-leaf.log c.has_leaf.new.log
-    c.args.draft.now.changes c.args.from c.loop-leaf.leaf c.loop-leaf.count
+    counted_more g.D.SectorDevice.state (λ m. has_leaf m c.args.number.value)
     (g.met.D.SectorDevice.lawful c.args.log.now.device) c.loop-leaf.invariant c.has_leaf.ensures.reads.reads c.in_ok-has_leaf.field-0
     (c.loop-leaf.count + c.from.result) (ap (λ (x : ℕ). c.loop-leaf.count + x) c.from.ensures)
     c.in_ok-has_leaf.ensures.answer
 
 pub returns-clause-reads : goal.returns-clause-reads
 returns-clause-reads g c =
-    looked_done g.D.SectorDevice.state c.args.log.now c.loop-leaf.log _ c.loop-leaf.invariant.reads
+    looked_done g.D.SectorDevice.state c.loop-leaf.invariant.reads
 
 pub returns-clause-answer : goal.returns-clause-answer
 returns-clause-answer g c =
     let high = c.loop-leaf.auto.leaf-end c.requires.order in
     let ended = c.loop-leaf-test.false in
     let at_end : c.loop-leaf.leaf ≡ c.args.to = omega (arith, high, ended) in
-    counts_leaves g.D.SectorDevice.state c.args.log.now c.loop-leaf.log c.args.draft.now.changes c.args.number.value c.args.from c.args.to
-    c.loop-leaf.leaf c.loop-leaf.count at_end c.loop-leaf.invariant
+    counts_leaves c.args.number.value at_end c.loop-leaf.invariant

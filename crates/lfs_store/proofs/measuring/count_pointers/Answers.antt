@@ -13,13 +13,13 @@ pub returns-in_err-leaves-clause-reads : goal.returns-in_err-leaves-clause-reads
 returns-in_err-leaves-clause-reads g c =
     same_exit c.from_residual.result c.in_err-leaves.field-0.0
     (λ (r : Result ℕ LogFault). ReadsLog g.D.SectorDevice.state c.args.log.now c.count_leaves.new.log r) c.from_residual.ensures
-    (looked_fails g.D.SectorDevice.state ℕ ℕ c.args.log.now c.args.log.now c.count_leaves.new.log c.in_err-leaves.field-0.0
+    (looked_fails g.D.SectorDevice.state ℕ ℕ c.in_err-leaves.field-0.0
     (g.met.D.SectorDevice.lawful c.args.log.now.device) (reads_none g.D.SectorDevice.state c.args.log.now)
     c.in_err-leaves.ensures.reads)
 
 pub returns-then-leaves-gt0-clause-reads : goal.returns-then-leaves-gt0-clause-reads
 returns-then-leaves-gt0-clause-reads g c =
-    looked_done g.D.SectorDevice.state c.args.log.now c.count_leaves.new.log _ c.count_leaves.ensures.reads.reads
+    looked_done g.D.SectorDevice.state c.count_leaves.ensures.reads.reads
 
 pub returns-then-leaves-gt0-clause-answer : goal.returns-then-leaves-gt0-clause-answer
 returns-then-leaves-gt0-clause-answer g c =
@@ -32,15 +32,12 @@ pub returns-in_err-found-clause-reads : goal.returns-in_err-found-clause-reads
 returns-in_err-found-clause-reads g c =
     same_exit c.from_residual-in_err-found.result c.in_err-found.field-0.0
     (λ (r : Result ℕ LogFault). ReadsLog g.D.SectorDevice.state c.args.log.now c.has_double.new.log r)
-    c.from_residual-in_err-found.ensures
-    (looked_fails g.D.SectorDevice.state Bool ℕ c.args.log.now c.count_leaves.new.log c.has_double.new.log
-    c.in_err-found.field-0.0
+    c.from_residual-in_err-found.ensures (looked_fails g.D.SectorDevice.state Bool ℕ c.in_err-found.field-0.0
     (g.met.D.SectorDevice.lawful c.args.log.now.device) c.count_leaves.ensures.reads.reads c.in_err-found.ensures.reads)
 
 pub returns-clause-reads : goal.returns-clause-reads
 returns-clause-reads g c =
-    looked_done g.D.SectorDevice.state c.args.log.now c.has_double.new.log _
-    (reads_more g.D.SectorDevice.state c.args.log.now c.count_leaves.new.log c.has_double.new.log
+    looked_done g.D.SectorDevice.state (reads_more g.D.SectorDevice.state
     (g.met.D.SectorDevice.lawful c.args.log.now.device) c.count_leaves.ensures.reads.reads c.has_double.ensures.reads.reads)
 
 pub returns-clause-answer : goal.returns-clause-answer
@@ -51,5 +48,4 @@ returns-clause-answer g c =
     (counts_pointers state c.args.draft.now.changes c.args.number.value c.args.log.now c.count_leaves.new.log c.args.size c.args.from
     c.args.to c.leaf_range-first.result.0 c.leaf_range-first.result.1 c.in_ok-leaves.leaves
     c.leaf_range-first.ensures.range c.requires.order c.requires.low c.in_ok-leaves.ensures.answer
-    c.has_double.new.log c.in_ok-found.found c.count_leaves.ensures.reads.reads c.has_double.ensures.reads.reads
-    c.in_ok-found.ensures.answer)
+    c.in_ok-found.found c.count_leaves.ensures.reads.reads c.has_double.ensures.reads.reads c.in_ok-found.ensures.answer)

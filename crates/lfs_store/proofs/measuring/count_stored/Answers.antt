@@ -21,29 +21,27 @@ pub returns-in_err-is_stored-clause-reads : goal.returns-in_err-is_stored-clause
 returns-in_err-is_stored-clause-reads g c =
     same_exit c.from_residual.result c.in_err-is_stored.field-0.0
     (λ (r : Result ℕ LogFault). ReadsLog g.D.SectorDevice.state c.args.log.now c.is_stored.new.log r) c.from_residual.ensures
-    (looked_fails g.D.SectorDevice.state Bool ℕ c.args.log.now c.loop-index.log c.is_stored.new.log c.in_err-is_stored.field-0.0
+    (looked_fails g.D.SectorDevice.state Bool ℕ c.in_err-is_stored.field-0.0
     (g.met.D.SectorDevice.lawful c.args.log.now.device) c.loop-index.invariant.reads c.in_err-is_stored.ensures.reads)
 
 pub loop-index-init : goal.loop-index-init
 loop-index-init g c =
-    counted_none g.D.SectorDevice.state (λ m. is_stored m c.args.number.value) c.args.log.now c.args.draft.now.changes c.args.from
+    counted_none g.D.SectorDevice.state (λ m. is_stored m c.args.number.value)
 
 pub loop-index-preserved : goal.loop-index-preserved
 loop-index-preserved g c =
-    counted_more g.D.SectorDevice.state (λ m. is_stored m c.args.number.value) c.args.log.now c.loop-index.log c.is_stored.new.log
-    c.args.draft.now.changes c.args.from c.loop-index.index c.loop-index.count
+    counted_more g.D.SectorDevice.state (λ m. is_stored m c.args.number.value)
     (g.met.D.SectorDevice.lawful c.args.log.now.device) c.loop-index.invariant c.is_stored.ensures.reads.reads c.in_ok-is_stored.field-0
     (c.loop-index.count + c.from.result) (ap (λ (x : ℕ). c.loop-index.count + x) c.from.ensures)
     c.in_ok-is_stored.ensures.answer
 
 pub returns-clause-reads : goal.returns-clause-reads
 returns-clause-reads g c =
-    looked_done g.D.SectorDevice.state c.args.log.now c.loop-index.log _ c.loop-index.invariant.reads
+    looked_done g.D.SectorDevice.state c.loop-index.invariant.reads
 
 pub returns-clause-answer : goal.returns-clause-answer
 returns-clause-answer g c =
     let high = c.loop-index.auto.index-end c.requires.order in
     let ended = c.loop-index-test.false in
     let at_end : c.loop-index.index ≡ c.args.to = omega (arith, high, ended) in
-    counts_stored g.D.SectorDevice.state c.args.log.now c.loop-index.log c.args.draft.now.changes c.args.number.value c.args.from c.args.to
-    c.loop-index.index c.loop-index.count at_end c.loop-index.invariant
+    counts_stored c.args.number.value at_end c.loop-index.invariant

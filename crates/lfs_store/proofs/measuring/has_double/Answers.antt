@@ -26,24 +26,22 @@ pub returns-in_err-has_leaf-clause-reads : goal.returns-in_err-has_leaf-clause-r
 returns-in_err-has_leaf-clause-reads g c =
     same_exit c.from_residual.result c.in_err-has_leaf.field-0.0
     (λ (r : Result Bool LogFault). ReadsLog g.D.SectorDevice.state c.args.log.now c.has_leaf.new.log r) c.from_residual.ensures
-    (looked_fails g.D.SectorDevice.state Bool Bool c.args.log.now c.loop-leaf.log c.has_leaf.new.log c.in_err-has_leaf.field-0.0
+    (looked_fails g.D.SectorDevice.state Bool Bool c.in_err-has_leaf.field-0.0
     (g.met.D.SectorDevice.lawful c.args.log.now.device) c.loop-leaf.invariant.reads c.in_err-has_leaf.ensures.reads)
 
 pub loop-leaf-init : goal.loop-leaf-init
-loop-leaf-init g c = counted_none g.D.SectorDevice.state (λ m. has_leaf m c.args.number.value) c.args.log.now c.args.draft.now.changes 1
+loop-leaf-init g c = counted_none g.D.SectorDevice.state (λ m. has_leaf m c.args.number.value)
 
 pub loop-leaf-preserved : goal.loop-leaf-preserved
 loop-leaf-preserved g c =
     let tells = subst (λ (b : Bool). TellsLeaf g.D.SectorDevice.state c.loop-leaf.log c.has_leaf.new.log c.args.draft.now.changes
     c.args.number.value c.loop-leaf.leaf b) c.if-branch.false c.in_ok-has_leaf.ensures.answer in
-    counted_more g.D.SectorDevice.state (λ m. has_leaf m c.args.number.value) c.args.log.now c.loop-leaf.log c.has_leaf.new.log
-    c.args.draft.now.changes 1 c.loop-leaf.leaf 0
+    counted_more g.D.SectorDevice.state (λ m. has_leaf m c.args.number.value)
     (g.met.D.SectorDevice.lawful c.args.log.now.device) c.loop-leaf.invariant c.has_leaf.ensures.reads.reads false 0 refl tells
 
 pub returns-then-branch-clause-reads : goal.returns-then-branch-clause-reads
 returns-then-branch-clause-reads g c =
-    looked_done g.D.SectorDevice.state c.args.log.now c.has_leaf.new.log _
-    (reads_more g.D.SectorDevice.state c.args.log.now c.loop-leaf.log c.has_leaf.new.log
+    looked_done g.D.SectorDevice.state (reads_more g.D.SectorDevice.state
     (g.met.D.SectorDevice.lawful c.args.log.now.device) c.loop-leaf.invariant.reads c.has_leaf.ensures.reads.reads)
 
 pub returns-then-branch-clause-answer : goal.returns-then-branch-clause-answer
@@ -53,22 +51,21 @@ returns-then-branch-clause-answer g c =
     let inside = c.loop-leaf-test.true in
     let top = c.max-leaf-end.ensures in
     let few = c.min-end.ensures in
-    double_told g.D.SectorDevice.state c.args.draft.now.changes c.args.number.value c.args.log.now c.loop-leaf.log c.has_leaf.new.log
+    double_told g.D.SectorDevice.state c.args.draft.now.changes c.args.number.value c.has_leaf.new.log
     c.args.size c.loop-leaf.leaf c.loop-leaf.invariant.reads c.loop-leaf.auto.leaf
     (omega (arith, inside, top, few)) tells
 
 pub returns-clause-reads : goal.returns-clause-reads
 returns-clause-reads g c =
-    looked_done g.D.SectorDevice.state c.args.log.now c.loop-leaf.log _ c.loop-leaf.invariant.reads
+    looked_done g.D.SectorDevice.state c.loop-leaf.invariant.reads
 
 pub returns-clause-answer : goal.returns-clause-answer
 returns-clause-answer g c =
-    let past = leaves_cover c.args.size c.div_ceil-blocks.result c.div_ceil-leaves.result c.min-end.result c.div_ceil-blocks.ensures
+    let past = leaves_cover c.args.size c.div_ceil-blocks.ensures
     (c.div_ceil-leaves.ensures ∙ ap (λ (x : ℕ). div_ceil x 128) c.saturating_sub.ensures) c.min-end.ensures in
     let few = c.min-end.ensures in
     let top = c.max-leaf-end.ensures in
     let some = c.loop-leaf.auto.leaf-end (omega (arith, top)) in
     let ended = c.loop-leaf-test.false in
-    double_missed g.D.SectorDevice.state c.args.draft.now.changes c.args.number.value c.args.log.now c.loop-leaf.log c.args.size
-    c.min-end.result c.loop-leaf.leaf past (omega (arith, few))
+    double_missed g.D.SectorDevice.state c.args.draft.now.changes c.args.number.value c.args.size c.min-end.result past (omega (arith, few))
     (omega (arith, top, some, ended)) c.loop-leaf.invariant

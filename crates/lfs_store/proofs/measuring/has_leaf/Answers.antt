@@ -11,7 +11,7 @@ use Rattle.lfs_store.proofs.measuring.has_leaf.Goals as goal
 
 pub returns-then-stores_leaf-clause-reads : goal.returns-then-stores_leaf-clause-reads
 returns-then-stores_leaf-clause-reads g c =
-    looked_done g.D.SectorDevice.state c.args.log.now c.args.log.now _ (reads_none g.D.SectorDevice.state c.args.log.now)
+    looked_done g.D.SectorDevice.state (reads_none g.D.SectorDevice.state c.args.log.now)
 
 pub returns-then-stores_leaf-clause-answer : goal.returns-then-stores_leaf-clause-answer
 returns-then-stores_leaf-clause-answer g c k m0 m keeps is = c.stores_leaf.ensures c.if-stores_leaf.true m
@@ -27,43 +27,37 @@ returns-then-not-changes_blocks-clause-answer g c =
 
 pub loop-index-init : goal.loop-index-init
 loop-index-init g c =
-    searched_none g.D.SectorDevice.state c.args.number.value c.args.log.now c.args.draft.now.changes (112 + 128 * c.args.leaf)
+    searched_none
 
 pub returns-in_err-is_stored-clause-reads : goal.returns-in_err-is_stored-clause-reads
 returns-in_err-is_stored-clause-reads g c =
     same_exit c.from_residual.result c.in_err-is_stored.field-0.0
     (λ (r : Result Bool LogFault). ReadsLog g.D.SectorDevice.state c.args.log.now c.is_stored.new.log r) c.from_residual.ensures
-    (looked_fails g.D.SectorDevice.state Bool Bool c.args.log.now c.loop-index.log c.is_stored.new.log c.in_err-is_stored.field-0.0
+    (looked_fails g.D.SectorDevice.state Bool Bool c.in_err-is_stored.field-0.0
     (g.met.D.SectorDevice.lawful c.args.log.now.device) c.loop-index.invariant.reads c.in_err-is_stored.ensures.reads)
 
 pub loop-index-preserved : goal.loop-index-preserved
 loop-index-preserved g c =
     let tells = subst (λ (b : Bool). TellsStored g.D.SectorDevice.state c.loop-index.log c.is_stored.new.log c.args.draft.now.changes
     c.args.number.value c.loop-index.index b) c.if-branch.false c.in_ok-is_stored.ensures.answer in
-    searched_more g.D.SectorDevice.state c.args.number.value c.args.log.now c.loop-index.log c.is_stored.new.log c.args.draft.now.changes
-    (112 + 128 * c.args.leaf) c.loop-index.index
-    (g.met.D.SectorDevice.lawful c.args.log.now.device) c.loop-index.invariant c.is_stored.ensures.reads.reads tells
+    searched_more (g.met.D.SectorDevice.lawful c.args.log.now.device) c.loop-index.invariant c.is_stored.ensures.reads.reads tells
 
 pub returns-then-branch-clause-reads : goal.returns-then-branch-clause-reads
 returns-then-branch-clause-reads g c =
-    looked_done g.D.SectorDevice.state c.args.log.now c.is_stored.new.log _
-    (reads_more g.D.SectorDevice.state c.args.log.now c.loop-index.log c.is_stored.new.log
+    looked_done g.D.SectorDevice.state (reads_more g.D.SectorDevice.state
     (g.met.D.SectorDevice.lawful c.args.log.now.device) c.loop-index.invariant.reads c.is_stored.ensures.reads.reads)
 
 pub returns-then-branch-clause-answer : goal.returns-then-branch-clause-answer
 returns-then-branch-clause-answer g c =
     let tells = subst (λ (b : Bool). TellsStored g.D.SectorDevice.state c.loop-index.log c.is_stored.new.log c.args.draft.now.changes
     c.args.number.value c.loop-index.index b) c.if-branch.true c.in_ok-is_stored.ensures.answer in
-    leaf_found g.D.SectorDevice.state c.args.number.value c.args.log.now c.loop-index.log c.is_stored.new.log c.args.draft.now.changes
-    (112 + 128 * c.args.leaf) c.loop-index.index
-    (g.met.D.SectorDevice.lawful c.args.log.now.device) c.loop-index.invariant c.is_stored.ensures.reads.reads c.args.leaf refl
+    leaf_found (g.met.D.SectorDevice.lawful c.args.log.now.device) c.loop-index.invariant c.is_stored.ensures.reads.reads c.args.leaf refl
     c.loop-index.auto.index c.loop-index-test.true tells
 
 pub returns-clause-reads : goal.returns-clause-reads
 returns-clause-reads g c =
-    looked_done g.D.SectorDevice.state c.args.log.now c.loop-index.log _ c.loop-index.invariant.reads
+    looked_done g.D.SectorDevice.state c.loop-index.invariant.reads
 
 pub returns-clause-answer : goal.returns-clause-answer
 returns-clause-answer g c =
-    leaf_empty g.D.SectorDevice.state c.args.number.value c.args.log.now c.loop-index.log c.args.draft.now.changes
-    (112 + 128 * c.args.leaf) c.loop-index.index c.args.leaf refl c.loop-index-test.false c.loop-index.invariant
+    leaf_empty c.args.leaf refl c.loop-index-test.false c.loop-index.invariant

@@ -5,7 +5,7 @@ use Rattle.lfs_store.proofs.measuring.is_stored.Goals as goal
 
 pub returns-in-Some-clause-reads : goal.returns-in-Some-clause-reads
 returns-in-Some-clause-reads g c =
-    looked_done g.D.SectorDevice.state c.args.log.now c.args.log.now _ (reads_none g.D.SectorDevice.state c.args.log.now)
+    looked_done g.D.SectorDevice.state (reads_none g.D.SectorDevice.state c.args.log.now)
 
 pub returns-in-None-clause-reads : goal.returns-in-None-clause-reads
 returns-in-None-clause-reads g c =

@@ -4,6 +4,5 @@ use Rattle.lfs_store.proofs.pieces.overlay.Goals as goal
 
 pub returns-then-start-stop : goal.returns-then-start-stop
 returns-then-start-stop c =
-    copied_overlays c.args.block.now c.copy_from_slice.new.self c.args.bytes.now c.args.at c.args.index c.saturating_sub-skip.result
-    c.place_in_block-start.result c.place_in_block-stop.result
+    copied_overlays c.copy_from_slice.new.self c.saturating_sub-skip.result c.place_in_block-start.result c.place_in_block-stop.result
     (search rules) (search rules) (search rules) (search rules) (search rules) (search rules)

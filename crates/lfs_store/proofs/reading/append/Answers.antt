@@ -3,7 +3,5 @@ use Rattle.lfs_store.proofs.reading.append.Goals as goal
 
 pub returns-in-Ok-extend_from_slice-clause-done : goal.returns-in-Ok-extend_from_slice-clause-done
 returns-in-Ok-extend_from_slice-clause-done g c =
-    appends g.D.SectorDevice.state c.args.log.now c.read_block.new.log c.args.draft.now.changes c.args.number.value c.args.at c.args.len
-    c.args.bytes.now.items c.extend_from_slice.new.self.items
-    c.read_block.new.out c.in-Ok.field-0 c.requires.inside c.read_block.array_long c.in-Ok-extend_from_slice.ensures.items
+    appends g.D.SectorDevice.state c.in-Ok.field-0 c.requires.inside c.read_block.array_long c.in-Ok-extend_from_slice.ensures.items
     c.in-Ok.ensures.answer c.in-Ok.ensures.zeros

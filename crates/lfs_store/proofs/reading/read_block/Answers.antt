@@ -5,7 +5,7 @@ use Rattle.lfs_store.proofs.reading.read_block.Goals as goal
 
 pub returns-in-Some-clause-reads : goal.returns-in-Some-clause-reads
 returns-in-Some-clause-reads g c =
-    looked_done g.D.SectorDevice.state c.args.log.now c.args.log.now _ (reads_none g.D.SectorDevice.state c.args.log.now)
+    looked_done g.D.SectorDevice.state (reads_none g.D.SectorDevice.state c.args.log.now)
 
 pub returns-in-Some-clause-answer : goal.returns-in-Some-clause-answer
 returns-in-Some-clause-answer g c k m0 m keeps is = c.in-Some.ensures.says m

@@ -23,11 +23,9 @@ returns-in-Ok-true-stage_texts-clause-done g c k m sees leads told empty =
     let new = g.D.SectorDevice.state c.stage_texts.new.device in
     let looks = c.stage_slots.ensures.keeps.looks in
     let slots = subst (SlotStage m c.args.headers.now c.stage_slots.new.tables) c.in-Ok-true.field-0-test
-    (c.in-Ok-true.ensures.holds k m (sees_first old mid new k m sees c.stage_texts.ensures.keeps.looks) leads told empty) in (
-      slots.0,
-      decided_true (AreTexts m) c.in-Ok-true-stage_texts.field-0 c.in-Ok-true-stage_texts.field-0-test
-          (c.in-Ok-true-stage_texts.ensures.holds k m (sees_then old mid new k m sees looks)
-          (leads_then old mid k c.args.map.now leads looks) told),
+    (c.in-Ok-true.ensures.holds k m (sees_first sees c.stage_texts.ensures.keeps.looks) leads told empty) in ( slots.0,
+      decided_true (AreTexts m) c.in-Ok-true-stage_texts.field-0-test (c.in-Ok-true-stage_texts.ensures.holds k m (sees_then sees looks)
+          (leads_then leads looks) told),
       slots.1,
     )
 
@@ -38,11 +36,9 @@ returns-in-Ok-false-stage_texts-clause-reason g c k m sees leads told empty =
     let new = g.D.SectorDevice.state c.stage_texts.new.device in
     let looks = c.stage_slots.ensures.keeps.looks in
     let slots = subst (SlotStage m c.args.headers.now c.stage_slots.new.tables) c.in-Ok-true.field-0-test
-    (c.in-Ok-true.ensures.holds k m (sees_first old mid new k m sees c.stage_texts.ensures.keeps.looks) leads told empty) in
-    texts_fail refl slots.0
-    (decided_false (AreTexts m) c.in-Ok-false-stage_texts.field-0 c.in-Ok-false-stage_texts.field-0-test
-    (c.in-Ok-false-stage_texts.ensures.holds k m (sees_then old mid new k m sees looks) (leads_then old mid k c.args.map.now leads looks)
-    told))
+    (c.in-Ok-true.ensures.holds k m (sees_first sees c.stage_texts.ensures.keeps.looks) leads told empty) in
+    texts_fail refl slots.0 (decided_false (AreTexts m) c.in-Ok-false-stage_texts.field-0-test
+    (c.in-Ok-false-stage_texts.ensures.holds k m (sees_then sees looks) (leads_then leads looks) told))
 
 pub returns-in-Err-clause-reason : goal.returns-in-Err-clause-reason
 returns-in-Err-clause-reason g c k m sees leads told empty =
@@ -50,6 +46,6 @@ returns-in-Err-clause-reason g c k m sees leads told empty =
     let mid = g.D.SectorDevice.state c.stage_slots.new.device in
     let new = g.D.SectorDevice.state c.stage_texts.new.device in
     let looks = c.stage_slots.ensures.keeps.looks in
-    let rose = c.in-Err.ensures.failed k m (sees_then old mid new k m sees looks) (leads_then old mid k c.args.map.now leads looks) told in
+    let rose = c.in-Err.ensures.failed k m (sees_then sees looks) (leads_then leads looks) told in
     let earlier = looks.carries.failures in
     omega (arith, rose, earlier)

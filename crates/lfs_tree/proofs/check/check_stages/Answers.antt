@@ -16,10 +16,9 @@ returns-in_err-check_objects-clause-reason g c =
     let mid = g.D.SectorDevice.state c.read_headers.new.device in
     let new = g.D.SectorDevice.state c.check_objects.new.device in
     let looks = c.read_headers.ensures.keeps.looks in
-    let told = c.in-Ok.ensures.told k m (sees_first old mid new k m sees c.check_objects.ensures.keeps.looks) of_log.leads in
-    fault_after old mid new looks (IsTreeDamage k.segments m) c.in_err-check_objects.field-0.0
-    (c.in_err-check_objects.ensures.reason k m (sees_then old mid new k m sees looks)
-    (leads_then old mid k c.args.tables.now.map of_log.leads looks) told empty))
+    let told = c.in-Ok.ensures.told k m (sees_first sees c.check_objects.ensures.keeps.looks) of_log.leads in
+    fault_after new looks (IsTreeDamage k.segments m) c.in_err-check_objects.field-0.0
+    (c.in_err-check_objects.ensures.reason k m (sees_then sees looks) (leads_then of_log.leads looks) told empty))
 
 pub returns-clause-done : goal.returns-clause-done
 returns-clause-done g c = on_ok_weaker c.check_names.result (λ whole k m sees of_log empty.
@@ -27,13 +26,9 @@ returns-clause-done g c = on_ok_weaker c.check_names.result (λ whole k m sees o
     let mid = g.D.SectorDevice.state c.read_headers.new.device in
     let new = g.D.SectorDevice.state c.check_objects.new.device in
     let looks = c.read_headers.ensures.keeps.looks in
-    let told = c.in-Ok.ensures.told k m (sees_first old mid new k m sees c.check_objects.ensures.keeps.looks) of_log.leads in
-    let done = c.in_ok-check_objects.ensures.done k m (sees_then old mid new k m sees looks)
-    (leads_then old mid k c.args.tables.now.map of_log.leads looks) told empty in
-    whole old.content k m
-    (gathered old.content k m c.read_headers.new.headers c.check_objects.new.names c.args.tables.now sees.holds sees.sized told done.0
-    done.1 done.2 of_log))
-    c.check_names.ensures.done
+    let told = c.in-Ok.ensures.told k m (sees_first sees c.check_objects.ensures.keeps.looks) of_log.leads in
+    let done = c.in_ok-check_objects.ensures.done k m (sees_then sees looks) (leads_then of_log.leads looks) told empty in
+    whole old.content k m (gathered sees.holds sees.sized told done.0 done.1 done.2 of_log)) c.check_names.ensures.done
 
 pub returns-clause-reason : goal.returns-clause-reason
 returns-clause-reason g c = IfErr-weaker c.check_names.result _ _ (λ fault reason k m sees of_log empty.
@@ -41,11 +36,7 @@ returns-clause-reason g c = IfErr-weaker c.check_names.result _ _ (λ fault reas
     let mid = g.D.SectorDevice.state c.read_headers.new.device in
     let new = g.D.SectorDevice.state c.check_objects.new.device in
     let looks = c.read_headers.ensures.keeps.looks in
-    let told = c.in-Ok.ensures.told k m (sees_first old mid new k m sees c.check_objects.ensures.keeps.looks) of_log.leads in
-    let done = c.in_ok-check_objects.ensures.done k m (sees_then old mid new k m sees looks)
-    (leads_then old mid k c.args.tables.now.map of_log.leads looks) told empty in
+    let told = c.in-Ok.ensures.told k m (sees_first sees c.check_objects.ensures.keeps.looks) of_log.leads in
+    let done = c.in_ok-check_objects.ensures.done k m (sees_then sees looks) (leads_then of_log.leads looks) told empty in
     no_failure (old.failures < new.failures) (IsTreeDamage k.segments m) fault
-    (reason old.content k m
-    (gathered old.content k m c.read_headers.new.headers c.check_objects.new.names c.args.tables.now sees.holds sees.sized told done.0
-    done.1 done.2 of_log)))
-    c.check_names.ensures.reason
+    (reason old.content k m (gathered sees.holds sees.sized told done.0 done.1 done.2 of_log))) c.check_names.ensures.reason

@@ -14,15 +14,14 @@ loop-index-init g c =
     let slots = c.slots_of-slots.ensures in
     let whole = c.slots_in_block-whole.ensures.value in
     let form = c.args.header.form in
-    let up = blocks_up form c.slots_of-slots.result c.slots_in_block-whole.result whole in
+    let up = blocks_up form c.slots_of-slots.result whole in
     let times = ap (λ (i : ℕ). per_block form * i) e in
     record {
       low = omega (arith, times, up, slots);
-      looks = looks_none (g.D.SectorDevice.state c.args.device.now) (g.met.D.SectorDevice.lawful c.args.device.now);
+      looks = looks_none (g.met.D.SectorDevice.lawful c.args.device.now);
       no_failure = refl;
-      taken = λ k m sees is base was. blocks_begin c.args.headers.now c.args.directory.value base m c.args.header c.div_ceil-index.result
-          c.args.names.now c.args.tables.now
-          (let past = blocks_past form c.div_ceil-index.result c.slots_of-slots.result c.slots_in_block-whole.result whole
+      taken = λ k m sees is base was. blocks_begin m c.args.header c.div_ceil-index.result
+          (let past = blocks_past form c.div_ceil-index.result c.slots_of-slots.result whole
           (omega (arith, e)) in omega (arith, past, slots)) was;
     }
 
@@ -32,8 +31,7 @@ returns-in-Err-clause-failed g c same k m sees is =
     let mid = g.D.SectorDevice.state c.loop-index.device in
     let new = g.D.SectorDevice.state c.read_block.new.device in
     let looks = c.loop-index.invariant.looks in
-    let rose = c.in-Err.ensures.failed k m c.args.directory.value (sees_then old mid new k m sees looks)
-    (inode_then old mid k c.args.directory.value c.args.inode.now is looks) in
+    let rose = c.in-Err.ensures.failed k m c.args.directory.value (sees_then sees looks) (inode_then k c.args.directory.value is looks) in
     let earlier = looks.carries.failures in
     omega (arith, rose, earlier)
 
@@ -56,15 +54,12 @@ loop-index-preserved g c =
     omega (arith, e, first, whole, slots) in
     record {
       low = omega (arith, low);
-      looks = looks_then old mid new here.looks c.in-Ok.ensures.keeps.looks;
+      looks = looks_then here.looks c.in-Ok.ensures.keeps.looks;
       no_failure = c.in-Ok.ensures.keeps.no_failure ∙ here.no_failure;
       taken = λ k m sees own base was.
-          blocks_go_on c.args.headers.now c.args.directory.value base m c.args.header c.loop-index.index
-          (c.loop-index.index - 1) c.min-count.result c.read_block.new.out
-          (c.in-Ok.ensures.answer k m c.args.directory.value (sees_then old mid new k m sees here.looks)
-          (inode_then old mid k c.args.directory.value c.args.inode.now own here.looks))
-          is low (omega (arith, t)) c.loop-index.names c.take_slots.new.names c.loop-index.tables c.take_slots.new.tables
-          (here.taken k m (sees_first old mid new k m sees c.in-Ok.ensures.keeps.looks) own base was)
+          blocks_go_on m c.args.header c.loop-index.index (c.in-Ok.ensures.answer k m c.args.directory.value (sees_then sees here.looks)
+          (inode_then k c.args.directory.value own here.looks)) is low (omega (arith, t)) c.take_slots.new.names c.take_slots.new.tables
+          (here.taken k m (sees_first sees c.in-Ok.ensures.keeps.looks) own base was)
           (subst (TakesSlots c.args.header.form c.args.headers.now c.args.directory.value
           (first_slots c.args.header.form c.read_block.new.out c.min-count.result) c.loop-index.names c.take_slots.new.names
           c.loop-index.tables c.take_slots.new.tables) c.in-Ok-true.field-0-test c.in-Ok-true.ensures);
@@ -87,12 +82,9 @@ returns-in-Ok-false-clause-takes g c k m sees own base was =
     omega (arith, u, one) in
     let is : c.min-count.result ≡ min (slot_count c.args.header - per_block form * (c.loop-index.index - 1)) (per_block form) =
     omega (arith, e, first, whole, slots) in
-    blocks_fail c.args.headers.now c.args.directory.value base m c.args.header c.loop-index.index
-    (c.loop-index.index - 1) c.min-count.result c.read_block.new.out
-    (c.in-Ok.ensures.answer k m c.args.directory.value (sees_then old mid new k m sees here.looks)
-    (inode_then old mid k c.args.directory.value c.args.inode.now own here.looks))
-    is low (omega (arith, t)) c.loop-index.names c.take_slots.new.names c.loop-index.tables c.take_slots.new.tables
-    (here.taken k m (sees_first old mid new k m sees c.in-Ok.ensures.keeps.looks) own base was)
+    blocks_fail m c.args.header c.loop-index.index (c.in-Ok.ensures.answer k m c.args.directory.value (sees_then sees here.looks)
+    (inode_then k c.args.directory.value own here.looks)) is low (omega (arith, t)) c.take_slots.new.names c.take_slots.new.tables
+    (here.taken k m (sees_first sees c.in-Ok.ensures.keeps.looks) own base was)
     (subst (TakesSlots c.args.header.form c.args.headers.now c.args.directory.value
     (first_slots c.args.header.form c.read_block.new.out c.min-count.result) c.loop-index.names c.take_slots.new.names
     c.loop-index.tables c.take_slots.new.tables) c.in-Ok-false.field-0-test c.in-Ok-false.ensures)
@@ -100,5 +92,4 @@ returns-in-Ok-false-clause-takes g c k m sees own base was =
 pub returns-clause-takes : goal.returns-clause-takes
 returns-clause-takes g c k m sees own base was =
     let ended = c.loop-index-test.false in
-    blocks_end c.args.headers.now c.args.directory.value base m c.args.header c.loop-index.index c.loop-index.names c.loop-index.tables
-    (omega (arith, ended)) (c.loop-index.invariant.taken k m sees own base was)
+    blocks_end m c.args.header c.loop-index.index (omega (arith, ended)) (c.loop-index.invariant.taken k m sees own base was)

@@ -24,11 +24,9 @@ returns-clause-takes g c = IfOk-weaker c.take_blocks.result _ _ (λ taken takes 
     let new = g.D.SectorDevice.state c.take_blocks.new.device in
     let looks = c.read_inode.ensures.keeps.looks in
     let own = subst (λ (b : Bool). InodeAnswer old.content k m c.args.directory.value c.read_inode.new.out b) c.in-Ok-true.field-0-test
-    (c.in-Ok-true.ensures.answer k m (sees_first old mid new k m sees c.take_blocks.ensures.keeps.looks) leads) in
-    takes k m (sees_then old mid new k m sees looks)
-    (inode_then old mid k c.args.directory.value c.read_inode.new.out own.block looks) base
-    (nothing_taken c.args.header.form c.args.headers.now c.args.directory.value base c.new-names.result c.args.tables.now
-    (names_none c.new-names.result c.new-names.ensures.empty) was))
+    (c.in-Ok-true.ensures.answer k m (sees_first sees c.take_blocks.ensures.keeps.looks) leads) in
+    takes k m (sees_then sees looks) (inode_then k c.args.directory.value own.block looks) base
+    (nothing_taken c.args.header.form c.new-names.result (names_none c.new-names.result c.new-names.ensures.empty) was))
     c.take_blocks.ensures.takes
 
 pub returns-clause-failed : goal.returns-clause-failed
@@ -38,8 +36,7 @@ returns-clause-failed g c same k m sees leads there =
     let new = g.D.SectorDevice.state c.take_blocks.new.device in
     let looks = c.read_inode.ensures.keeps.looks in
     let own = subst (λ (b : Bool). InodeAnswer old.content k m c.args.directory.value c.read_inode.new.out b) c.in-Ok-true.field-0-test
-    (c.in-Ok-true.ensures.answer k m (sees_first old mid new k m sees c.take_blocks.ensures.keeps.looks) leads) in
-    let rose = c.take_blocks.ensures.failed same k m (sees_then old mid new k m sees looks)
-    (inode_then old mid k c.args.directory.value c.read_inode.new.out own.block looks) in
+    (c.in-Ok-true.ensures.answer k m (sees_first sees c.take_blocks.ensures.keeps.looks) leads) in
+    let rose = c.take_blocks.ensures.failed same k m (sees_then sees looks) (inode_then k c.args.directory.value own.block looks) in
     let earlier = looks.carries.failures in
     omega (arith, rose, earlier)

@@ -12,7 +12,7 @@ returns-in_err-found-clause-failed g c = any_error c.from_residual.result _ (λ 
     let mid = g.D.SectorDevice.state c.loop-number.device in
     let new = g.D.SectorDevice.state c.read_header.new.device in
     let looks = c.loop-number.invariant.looks in
-    let rose = c.in_err-found.ensures.failed k m (sees_then old mid new k m sees looks) (leads_then old mid k c.args.map.now leads looks) in
+    let rose = c.in_err-found.ensures.failed k m (sees_then sees looks) (leads_then leads looks) in
     let earlier = looks.carries.failures in
     omega (arith, rose, earlier))
 
@@ -26,13 +26,13 @@ loop-number-preserved g c =
     let whole = c.set.ensures.whole in
     let below = c.loop-number-test.true in
     record {
-      looks = looks_then old mid new here.looks step.keeps.looks;
+      looks = looks_then here.looks step.keeps.looks;
       no_failure = step.keeps.no_failure ∙ here.no_failure;
       told = λ k m sees leads.
           subst (λ (hs : List (Option Header)). TellsHeaders m hs (c.loop-number.number + 1)) (sym c.set.ensures.set)
           (told_next m c.loop-number.headers c.loop-number.number c.in_ok-found.found (omega (arith, whole, below))
-          (here.told k m (sees_first old mid new k m sees step.keeps.looks) leads)
-          (step.answer k m (sees_then old mid new k m sees here.looks) (leads_then old mid k c.args.map.now leads here.looks)));
+          (here.told k m (sees_first sees step.keeps.looks) leads)
+          (step.answer k m (sees_then sees here.looks) (leads_then leads here.looks)));
     }
 
 pub returns-clause-told : goal.returns-clause-told

@@ -35,4 +35,4 @@ returns c marked =
     let first = c.get.ensures.value in
     let some = c.loop-marks-test.false in
     way_done c.args.tables.now.up c.args.marks.now c.args.start.value c.requires c.loop-marks.marks c.loop-marks.at
-    (c.loop-marks.invariant.way marked) (omega (arith, first, some)) c.get-2.result c.get-2.ensures.value
+    (c.loop-marks.invariant.way marked) (omega (arith, first, some)) c.get-2.ensures.value

@@ -9,14 +9,13 @@ use Rattle.lfs_tree.proofs.reading.read_block.Goals as goal
 pub returns-in-Err-Unreadable-clause-failed : goal.returns-in-Err-Unreadable-clause-failed
 returns-in-Err-Unreadable-clause-failed g c k m n sees is =
     let old = g.D.SectorDevice.state c.args.device.now in
-    absurd (data_not_lost old.content k m sees.sized sees.holds n c.args.index c.args.inode.now is
+    absurd (data_not_lost sees.sized sees.holds n c.args.index is
     (c.in-Err-Unreadable.ensures.unreadable (ap Err c.in-Err-Unreadable.field-0-is) sees.keeps))
 
 pub returns-then-address-eq0-clause-answer : goal.returns-then-address-eq0-clause-answer
 returns-then-address-eq0-clause-answer g c k m n sees is =
     let old = g.D.SectorDevice.state c.args.device.now in
-    block_not old.content k m sees.sized sees.holds n c.args.index c.in-Ok.address _
-    (c.in-Ok.ensures.value sees.keeps ∙ data_is old.content k m sees.sized sees.holds n c.args.index c.args.inode.now is)
+    block_not sees.sized sees.holds n _ (c.in-Ok.ensures.value sees.keeps ∙ data_is sees.sized sees.holds n c.args.index is)
     c.if-address-eq0.true refl
 
 pub returns-clause-answer : goal.returns-clause-answer
@@ -24,32 +23,28 @@ returns-clause-answer g c = on_ok_weaker c.read_sector.result (λ read k m n see
     let old = g.D.SectorDevice.state c.args.device.now in
     let mid = g.D.SectorDevice.state c.locate.new.device in
     let new = g.D.SectorDevice.state c.read_sector.new.device in
-    let looks = looks_call old mid (g.met.D.SectorDevice.lawful c.args.device.now) c.locate.ensures.follows.looks.carries
+    let looks = looks_call (g.met.D.SectorDevice.lawful c.args.device.now) c.locate.ensures.follows.looks.carries
     c.locate.ensures.follows.looks.untouched
     c.locate.ensures.follows.looks.time in
-    let before = sees_first old mid new k m sees c.read_sector.ensures.keeps.looks in
+    let before = sees_first sees c.read_sector.ensures.keeps.looks in
     let some = c.if-address-eq0.false in
-    block_there old.content k m sees.sized sees.holds n c.args.index c.in-Ok.address c.read_sector.new.out
-    (c.in-Ok.ensures.value before.keeps ∙ data_is old.content k m sees.sized sees.holds n c.args.index c.args.inode.now is)
-    (omega (arith, some))
-    (read old.content (reads_then old mid new old.content (reads_of old new k m sees) looks)))
-    c.read_sector.ensures.block
+    block_there sees.sized sees.holds n (c.in-Ok.ensures.value before.keeps ∙ data_is sees.sized sees.holds n c.args.index is)
+    (omega (arith, some)) (read old.content (reads_then (reads_of sees) looks))) c.read_sector.ensures.block
 
 pub returns-clause-failed : goal.returns-clause-failed
 returns-clause-failed g c = on_err_weaker c.read_sector.result (λ fails k m n sees is.
     let old = g.D.SectorDevice.state c.args.device.now in
     let mid = g.D.SectorDevice.state c.locate.new.device in
     let new = g.D.SectorDevice.state c.read_sector.new.device in
-    let looks = looks_call old mid (g.met.D.SectorDevice.lawful c.args.device.now) c.locate.ensures.follows.looks.carries
+    let looks = looks_call (g.met.D.SectorDevice.lawful c.args.device.now) c.locate.ensures.follows.looks.carries
     c.locate.ensures.follows.looks.untouched
     c.locate.ensures.follows.looks.time in
-    let before = sees_first old mid new k m sees c.read_sector.ensures.keeps.looks in
+    let before = sees_first sees c.read_sector.ensures.keeps.looks in
     let some = c.if-address-eq0.false in
-    let at = c.in-Ok.ensures.value before.keeps ∙ data_is old.content k m sees.sized sees.holds n c.args.index c.args.inode.now is in
-    let rose = fails old.content (reads_then old mid new old.content (reads_of old new k m sees) looks)
-    (is_inside old.content k m sees.sized sees.holds (Data n c.args.index) c.in-Ok.address at (omega (arith, some)))
-    (is_long old.content k m sees.sized sees.holds (Data n c.args.index) c.in-Ok.address at (omega (arith, some)))
-    in
+    let at = c.in-Ok.ensures.value before.keeps ∙ data_is sees.sized sees.holds n c.args.index is in
+    let rose = fails old.content (reads_then (reads_of sees) looks)
+    (is_inside sees.sized sees.holds (Data n c.args.index) at (omega (arith, some)))
+    (is_long sees.sized sees.holds (Data n c.args.index) at (omega (arith, some))) in
     let earlier = looks.carries.failures in
     omega (arith, rose, earlier))
     c.read_sector.ensures.failed

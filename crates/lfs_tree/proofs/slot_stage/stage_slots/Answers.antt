@@ -10,12 +10,12 @@ use Rattle.lfs_tree.proofs.slot_stage.stage_slots.Goals as goal
 
 pub loop-number-init : goal.loop-number-init
 loop-number-init g c = record {
-  looks = looks_none (g.D.SectorDevice.state c.args.device.now) (g.met.D.SectorDevice.lawful c.args.device.now);
+  looks = looks_none (g.met.D.SectorDevice.lawful c.args.device.now);
   no_failure = refl;
   named = λ k m sees leads told empty.
-      let are = held_headers (g.D.SectorDevice.state c.args.device.now).content k m sees.holds in
+      let are = held_headers sees.holds in
       let none = nobody m are in
-      named_first m c.args.headers.now c.args.tables.now empty (λ h at dir. (let both : None ≡ Some h = sym none ∙ at in absurd (cc)))
+      named_first m c.args.headers.now empty (λ h at dir. (let both : None ≡ Some h = sym none ∙ at in absurd (cc)))
       (no_names m are 0 none);
 }
 
@@ -28,15 +28,15 @@ loop-number-preserved g c =
     let number = c.loop-number.number in
     let headers = c.args.headers.now in
     record {
-      looks = looks_then old mid new here.looks c.in_ok-take_object.ensures.keeps.looks;
+      looks = looks_then here.looks c.in_ok-take_object.ensures.keeps.looks;
       no_failure = c.in_ok-take_object.ensures.keeps.no_failure ∙ here.no_failure;
       named = λ k m sees leads told empty.
-          let was = here.named k m (sees_first old mid new k m sees c.in_ok-take_object.ensures.keeps.looks) leads told empty in
+          let was = here.named k m (sees_first sees c.in_ok-take_object.ensures.keeps.looks) leads told empty in
           let base = base_at m headers c.loop-number.tables number in
-          let taken = c.in_ok-take_object.ensures.takes k m (sees_then old mid new k m sees here.looks)
-          (leads_then old mid k c.args.map.now leads here.looks) told base (noted_begin m headers c.loop-number.tables number was) in
+          let taken = c.in_ok-take_object.ensures.takes k m (sees_then sees here.looks)
+          (leads_then leads here.looks) told base (noted_begin m headers was) in
           let both = subst (TakesObject m headers number base c.take_object.new.tables) c.if-not-branch.false taken in
-          named_more m headers c.loop-number.tables number was c.take_object.new.tables both.0 both.1;
+          named_more m headers was both.0 both.1;
     }
 
 pub returns-then-not-branch-clause-holds : goal.returns-then-not-branch-clause-holds
@@ -47,12 +47,12 @@ returns-then-not-branch-clause-holds g c k m sees leads told empty =
     let here = c.loop-number.invariant in
     let number = c.loop-number.number in
     let headers = c.args.headers.now in
-    let was = here.named k m (sees_first old mid new k m sees c.in_ok-take_object.ensures.keeps.looks) leads told empty in
+    let was = here.named k m (sees_first sees c.in_ok-take_object.ensures.keeps.looks) leads told empty in
     let base = base_at m headers c.loop-number.tables number in
-    let taken = c.in_ok-take_object.ensures.takes k m (sees_then old mid new k m sees here.looks)
-    (leads_then old mid k c.args.map.now leads here.looks) told base (noted_begin m headers c.loop-number.tables number was) in
+    let taken = c.in_ok-take_object.ensures.takes k m (sees_then sees here.looks)
+    (leads_then leads here.looks) told base (noted_begin m headers was) in
     let bad = subst (TakesObject m headers number base c.take_object.new.tables) c.if-not-branch.true taken in
-    λ stage. bad (good_if_stage m (held_headers old.content k m sees.holds) headers told stage number)
+    λ stage. bad (good_if_stage m (held_headers sees.holds) headers told stage number)
 
 pub returns-in_err-take_object-clause-failed : goal.returns-in_err-take_object-clause-failed
 returns-in_err-take_object-clause-failed g c same k m sees leads told =
@@ -60,9 +60,8 @@ returns-in_err-take_object-clause-failed g c same k m sees leads told =
     let mid = g.D.SectorDevice.state c.loop-number.device in
     let new = g.D.SectorDevice.state c.take_object.new.device in
     let looks = c.loop-number.invariant.looks in
-    let rose = c.in_err-take_object.ensures.failed
-    (ap Err (passed_on c.from_residual.result c.in_err-take_object.field-0.0 _ c.from_residual.ensures same)) k m
-    (sees_then old mid new k m sees looks) (leads_then old mid k c.args.map.now leads looks) told in
+    let rose = c.in_err-take_object.ensures.failed (ap Err (passed_on c.in_err-take_object.field-0.0 _ c.from_residual.ensures same)) k m
+    (sees_then sees looks) (leads_then leads looks) told in
     let earlier = looks.carries.failures in
     omega (arith, rose, earlier)
 
@@ -73,4 +72,4 @@ returns-clause-holds g c k m sees leads told empty =
     let high = c.loop-number.auto.number-end in
     let last : c.loop-number.number ≡ 4096 = omega (arith, ended, high) in
     let named = subst (AreNamed m c.args.headers.now c.loop-number.tables) last (c.loop-number.invariant.named k m sees leads told empty) in
-    (stage_if_good m (held_headers old.content k m sees.holds) c.args.headers.now told named.good, named)
+    (stage_if_good m (held_headers sees.holds) c.args.headers.now told named.good, named)

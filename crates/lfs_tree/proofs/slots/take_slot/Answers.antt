@@ -8,8 +8,7 @@ use Rattle.lfs_tree.proofs.slots.take_slot.Goals as goal
 
 pub returns-then-not-branch : goal.returns-then-not-branch
 returns-then-not-branch c base behind was =
-    slot_twice c.args.form c.args.headers.now c.args.directory.value c.args.slot.now c.in-Some.view
-    (sym c.in-Some.ensures.exact) behind was.good
+    slot_twice c.args.form c.args.headers.now c.args.directory.value c.args.slot.now (sym c.in-Some.ensures.exact) was.good
     (λ none.
     let yes = (c.in_ok-insert_name.ensures.new (map_of c.args.form behind) was.names).1
     (ap (λ (n : List ℕ). find byte_cmp n (map_of c.args.form behind)) c.name.ensures ∙ none) in
@@ -31,8 +30,7 @@ returns c base behind was =
     let names = subst (λ (n : List ℕ). HasNames c.insert_name.new.names (put byte_cmp n view.number (map_of c.args.form behind)))
     c.name.ensures (c.in_ok-insert_name.ensures.more (map_of c.args.form behind) view.number was.names) in
     let few = c.args.directory.few in
-    slot_taken c.args.form headers c.args.directory.value c.args.slot.now view
-    (sym c.in-Some.ensures.exact) c.args.names.now c.insert_name.new.names c.args.tables.now c.note.new.self base behind
+    slot_taken c.args.form headers c.args.directory.value c.args.slot.now (sym c.in-Some.ensures.exact) base
     (omega (arith, few)) (omega (arith, most)) (λ none. let both : Some c.in-Some-get.header ≡ None = sym at ∙ none in absurd (cc))
     c.note.ensures.sizes was new names
     (subst (λ (b : Bool). Notes c.args.tables.now c.note.new.self c.args.directory.value view.number b) leads_is

@@ -8,7 +8,7 @@ use Rattle.lfs_tree.proofs.texts.check_bytes.Goals as goal
 
 pub loop-index-init : goal.loop-index-init
 loop-index-init g c = record {
-  looks = looks_none (g.D.SectorDevice.state c.args.device.now) (g.met.D.SectorDevice.lawful c.args.device.now);
+  looks = looks_none (g.met.D.SectorDevice.lawful c.args.device.now);
   no_failure = refl;
   none = λ k m n sees is p low none. omega (arith, low);
 }
@@ -19,8 +19,7 @@ returns-in_err-read_block-clause-failed g c = any_error c.from_residual.result _
     let mid = g.D.SectorDevice.state c.loop-index.device in
     let new = g.D.SectorDevice.state c.read_block.new.device in
     let looks = c.loop-index.invariant.looks in
-    let rose = c.in_err-read_block.ensures.failed k m n (sees_then old mid new k m sees looks)
-    (inode_then old mid k n c.args.inode.now is looks) in
+    let rose = c.in_err-read_block.ensures.failed k m n (sees_then sees looks) (inode_then k n is looks) in
     let earlier = looks.carries.failures in
     omega (arith, rose, earlier))
 
@@ -36,13 +35,11 @@ loop-index-preserved g c =
     let low : 512 * c.loop-index.index < c.args.size = omega (arith, t, d) in
     let is : c.min-count.result ≡ min (c.args.size - 512 * c.loop-index.index) 512 = omega (arith, e) in
     record {
-      looks = looks_then old mid new here.looks c.in_ok-read_block.ensures.keeps.looks;
+      looks = looks_then here.looks c.in_ok-read_block.ensures.keeps.looks;
       no_failure = c.in_ok-read_block.ensures.keeps.no_failure ∙ here.no_failure;
       none = λ k m n sees own.
-          texts_go_on m n c.loop-index.index c.args.size c.min-count.result c.read_block.new.out
-          (c.in_ok-read_block.ensures.answer k m n (sees_then old mid new k m sees here.looks)
-          (inode_then old mid k n c.args.inode.now own here.looks))
-          low is (here.none k m n (sees_first old mid new k m sees c.in_ok-read_block.ensures.keeps.looks) own)
+          texts_go_on m n c.args.size (c.in_ok-read_block.ensures.answer k m n (sees_then sees here.looks) (inode_then k n own here.looks))
+          low is (here.none k m n (sees_first sees c.in_ok-read_block.ensures.keeps.looks) own)
           (c.is_nonzero.ensures.0 c.if-not-is_nonzero.false);
     }
 
@@ -57,9 +54,7 @@ returns-then-not-is_nonzero-clause-holds g c k m n sees own =
     let e = c.min-count.ensures in
     let low : 512 * c.loop-index.index < c.args.size = omega (arith, t, d) in
     let is : c.min-count.result ≡ min (c.args.size - 512 * c.loop-index.index) 512 = omega (arith, e) in
-    texts_fail m n c.loop-index.index c.args.size c.min-count.result c.read_block.new.out
-    (c.in_ok-read_block.ensures.answer k m n (sees_then old mid new k m sees here.looks)
-    (inode_then old mid k n c.args.inode.now own here.looks))
+    texts_fail m n c.args.size (c.in_ok-read_block.ensures.answer k m n (sees_then sees here.looks) (inode_then k n own here.looks))
     low is (λ all. let yes = c.is_nonzero.ensures.1 all in let no_ = c.if-not-is_nonzero.true in absurd (cc))
 
 pub returns-clause-holds : goal.returns-clause-holds

@@ -9,10 +9,10 @@ use Rattle.lfs_tree.proofs.texts.stage_texts.Goals as goal
 
 pub loop-number-init : goal.loop-number-init
 loop-number-init g c = record {
-  looks = looks_none (g.D.SectorDevice.state c.args.device.now) (g.met.D.SectorDevice.lawful c.args.device.now);
+  looks = looks_none (g.met.D.SectorDevice.lawful c.args.device.now);
   no_failure = refl;
   good = λ k m sees leads told n low h at link.
-      let range = (held_headers (g.D.SectorDevice.state c.args.device.now).content k m sees.holds n h at).number in
+      let range = (held_headers sees.holds n h at).number in
       let some = range.0 in
       absurd (omega (arith, low, some));
 }
@@ -25,13 +25,12 @@ loop-number-preserved g c =
     let here = c.loop-number.invariant in
     let number = c.loop-number.number in
     record {
-      looks = looks_then old mid new here.looks c.in_ok-check_object.ensures.keeps.looks;
+      looks = looks_then here.looks c.in_ok-check_object.ensures.keeps.looks;
       no_failure = c.in_ok-check_object.ensures.keeps.no_failure ∙ here.no_failure;
       good = λ k m sees leads told.
-          below_more (IsGoodText m) number
-          (here.good k m (sees_first old mid new k m sees c.in_ok-check_object.ensures.keeps.looks) leads told)
-          (decided_true (IsGoodText m number) _ c.if-not-branch.false (c.in_ok-check_object.ensures.holds k m
-          (sees_then old mid new k m sees here.looks) (leads_then old mid k c.args.map.now leads here.looks) told));
+          below_more (IsGoodText m) number (here.good k m (sees_first sees c.in_ok-check_object.ensures.keeps.looks) leads told)
+          (decided_true (IsGoodText m number) c.if-not-branch.false (c.in_ok-check_object.ensures.holds k m
+          (sees_then sees here.looks) (leads_then leads here.looks) told));
     }
 
 pub returns-then-not-branch-clause-holds : goal.returns-then-not-branch-clause-holds
@@ -41,9 +40,8 @@ returns-then-not-branch-clause-holds g c k m sees leads told stage =
     let new = g.D.SectorDevice.state c.check_object.new.device in
     let here = c.loop-number.invariant in
     let number = c.loop-number.number in
-    decided_false (IsGoodText m number) _ c.if-not-branch.true (c.in_ok-check_object.ensures.holds k m
-    (sees_then old mid new k m sees here.looks) (leads_then old mid k c.args.map.now leads here.looks) told)
-    (text_if_stage m (held_headers old.content k m sees.holds) stage number)
+    decided_false (IsGoodText m number) c.if-not-branch.true (c.in_ok-check_object.ensures.holds k m
+    (sees_then sees here.looks) (leads_then leads here.looks) told) (text_if_stage m (held_headers sees.holds) stage number)
 
 pub returns-in_err-check_object-clause-failed : goal.returns-in_err-check_object-clause-failed
 returns-in_err-check_object-clause-failed g c = any_error c.from_residual.result _ (λ k m sees leads told.
@@ -51,8 +49,7 @@ returns-in_err-check_object-clause-failed g c = any_error c.from_residual.result
     let mid = g.D.SectorDevice.state c.loop-number.device in
     let new = g.D.SectorDevice.state c.check_object.new.device in
     let looks = c.loop-number.invariant.looks in
-    let rose = c.in_err-check_object.ensures.failed k m (sees_then old mid new k m sees looks)
-    (leads_then old mid k c.args.map.now leads looks) told in
+    let rose = c.in_err-check_object.ensures.failed k m (sees_then sees looks) (leads_then leads looks) told in
     let earlier = looks.carries.failures in
     omega (arith, rose, earlier))
 
@@ -60,5 +57,5 @@ pub returns-clause-holds : goal.returns-clause-holds
 returns-clause-holds g c k m sees leads told =
     let old = g.D.SectorDevice.state c.args.device.now in
     let ended = c.loop-number-test.false in
-    stage_if_text m (held_headers old.content k m sees.holds)
+    stage_if_text m (held_headers sees.holds)
     (λ n low. c.loop-number.invariant.good k m sees leads told n (omega (arith, ended, low)))

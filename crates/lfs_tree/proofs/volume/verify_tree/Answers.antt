@@ -15,7 +15,7 @@ returns-in_err-found-clause-cause g c =
     let old = g.D.SectorDevice.state c.args.device.now in
     let new = g.D.SectorDevice.state c.verify_log.new.device in
     same_error c.from_residual.result c.in_err-found.field-0.0 _ c.from_residual.ensures
-    (fault_of_volume old new (g.met.D.SectorDevice.lawful c.args.device.now) c.in_err-found.field-0.0
+    (fault_of_volume new (g.met.D.SectorDevice.lawful c.args.device.now) c.in_err-found.field-0.0
     (refused_log old new c.in_err-found.field-0.0 c.in_err-found.ensures.reason))
 
 pub returns-in_err-found-clause-below_all : goal.returns-in_err-found-clause-below_all
@@ -27,9 +27,7 @@ returns-in_err-found-clause-below_all g c = λ low.
 pub returns-in_err-check_tree-clause-reason : goal.returns-in_err-check_tree-clause-reason
 returns-in_err-check_tree-clause-reason g c =
     same_error c.from_residual-in_err-check_tree.result c.in_err-check_tree.field-0.0 _ c.from_residual-in_err-check_tree.ensures
-    (refused_behind (g.D.SectorDevice.state c.args.device.now) (g.D.SectorDevice.state c.verify_log.new.device)
-    (g.D.SectorDevice.state c.check_tree.new.device)
-    c.verify_log.ensures.looks c.check_tree.ensures.looks c.in_ok-found.found c.in_ok-found.ensures.found
+    (refused_behind c.verify_log.ensures.looks c.check_tree.ensures.looks c.in_ok-found.ensures.found
     c.in_err-check_tree.field-0.0 c.in_err-check_tree.ensures.reason)
 
 pub returns-in_err-check_tree-clause-cause : goal.returns-in_err-check_tree-clause-cause
@@ -38,15 +36,13 @@ returns-in_err-check_tree-clause-cause g c =
     let mid = g.D.SectorDevice.state c.verify_log.new.device in
     let new = g.D.SectorDevice.state c.check_tree.new.device in
     same_error c.from_residual-in_err-check_tree.result c.in_err-check_tree.field-0.0 _ c.from_residual-in_err-check_tree.ensures
-    (fault_of_volume old new (g.met.D.SectorDevice.lawful c.args.device.now) c.in_err-check_tree.field-0.0
-    (refused_behind old mid new c.verify_log.ensures.looks c.check_tree.ensures.looks c.in_ok-found.found
+    (fault_of_volume new (g.met.D.SectorDevice.lawful c.args.device.now) c.in_err-check_tree.field-0.0
+    (refused_behind c.verify_log.ensures.looks c.check_tree.ensures.looks
     c.in_ok-found.ensures.found c.in_err-check_tree.field-0.0 c.in_err-check_tree.ensures.reason))
 
 pub returns-then-not-found-clause-reason : goal.returns-then-not-found-clause-reason
 returns-then-not-found-clause-reason g c =
-    few_clean (g.D.SectorDevice.state c.args.device.now) (g.D.SectorDevice.state c.verify_log.new.device)
-    (g.D.SectorDevice.state c.check_tree.new.device)
-    c.verify_log.ensures.looks c.check_tree.ensures.looks c.in_ok-found.found c.in_ok-found.ensures.found c.in_ok-check_tree.ensures.tree
+    few_clean c.verify_log.ensures.looks c.check_tree.ensures.looks c.in_ok-found.ensures.found c.in_ok-check_tree.ensures.tree
     c.if-not-found.true
 
 pub returns-then-not-found-clause-cause : goal.returns-then-not-found-clause-cause
@@ -54,20 +50,15 @@ returns-then-not-found-clause-cause g c =
     let old = g.D.SectorDevice.state c.args.device.now in
     let mid = g.D.SectorDevice.state c.verify_log.new.device in
     let new = g.D.SectorDevice.state c.check_tree.new.device in
-    fault_of_volume old new (g.met.D.SectorDevice.lawful c.args.device.now) (fault.Damaged 15)
-    (few_clean old mid new c.verify_log.ensures.looks c.check_tree.ensures.looks c.in_ok-found.found c.in_ok-found.ensures.found
-    c.in_ok-check_tree.ensures.tree
+    fault_of_volume new (g.met.D.SectorDevice.lawful c.args.device.now) (fault.Damaged 15)
+    (few_clean c.verify_log.ensures.looks c.check_tree.ensures.looks c.in_ok-found.ensures.found c.in_ok-check_tree.ensures.tree
     c.if-not-found.true)
 
 pub returns-clause-found : goal.returns-clause-found
 returns-clause-found g c =
-    tree_found (g.D.SectorDevice.state c.args.device.now) (g.D.SectorDevice.state c.verify_log.new.device)
-    (g.D.SectorDevice.state c.check_tree.new.device)
-    c.verify_log.ensures.looks c.check_tree.ensures.looks c.in_ok-found.found c.in_ok-found.ensures.found c.in_ok-check_tree.ensures.tree
+    tree_found c.verify_log.ensures.looks c.check_tree.ensures.looks c.in_ok-found.ensures.found c.in_ok-check_tree.ensures.tree
     c.if-not-found.false
 
 pub returns-clause-durable : goal.returns-clause-durable
 returns-clause-durable g c =
-    only_behind (g.D.SectorDevice.state c.args.device.now) (g.D.SectorDevice.state c.verify_log.new.device)
-    (g.D.SectorDevice.state c.check_tree.new.device)
-    c.verify_log.ensures.looks c.check_tree.ensures.looks c.in_ok-found.found c.in_ok-found.ensures.found c.in_ok-found.ensures.durable
+    only_behind c.verify_log.ensures.looks c.check_tree.ensures.looks c.in_ok-found.ensures.found c.in_ok-found.ensures.durable

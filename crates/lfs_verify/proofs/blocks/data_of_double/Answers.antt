@@ -8,34 +8,34 @@ use Rattle.lfs_verify.proofs.blocks.data_of_double.Goals as goal
 
 pub returns-then-address-eq0-clause-goes : goal.returns-then-address-eq0-clause-goes
 returns-then-address-eq0-clause-goes g c = λ d k reads is sized w.
-    double_passed d k c.args.file c.requires.file (sym is ∙ c.if-address-eq0.true) c.args.marks.now w
+    double_passed d k c.args.file c.requires.file (sym is ∙ c.if-address-eq0.true) w
 
 pub returns-then-address-marks-clause-goes : goal.returns-then-address-marks-clause-goes
 returns-then-address-marks-clause-goes g c = λ d k reads is sized w blocks.
-    let lt = root_inside d k c.args.file c.requires.file c.args.marks.now _ (omega arith) c.args.address is c.if-address-eq0.false w in
+    let lt = root_inside d k c.args.file c.requires.file _ (omega arith) is c.if-address-eq0.false w in
     omega arith
 
 pub returns-then-not-branch-clause-goes : goal.returns-then-not-branch-clause-goes
 returns-then-not-branch-clause-goes g c = λ d k reads is sized w blocks.
-    root_readable d k c.args.file c.requires.file c.args.marks.now _ (omega arith) c.args.address is c.if-address-eq0.false w
-    (unread d c.args.address _ _ (c.in_ok-fetch.ensures.block d reads) c.if-not-branch.true)
+    root_readable d k c.args.file c.requires.file _ (omega arith) is c.if-address-eq0.false w
+    (unread d c.args.address _ (c.in_ok-fetch.ensures.block d reads) c.if-not-branch.true)
 
 pub returns-then-not-branch-2-clause-goes : goal.returns-then-not-branch-2-clause-goes
 returns-then-not-branch-2-clause-goes g c = λ d k reads is sized w.
     let s0 = g.D.SectorDevice.state c.args.device.now in
     let s1 = g.D.SectorDevice.state c.fetch.new.device in
     let s2 = g.D.SectorDevice.state c.data_of_leaves.new.device in
-    let root = ap (block d) (sym is) ∙ read_in d c.args.address _ _
-    (c.in_ok-fetch.ensures.block d (reads_first s0 s1 s2 d reads c.data_of_leaves.ensures.keeps.looks)) c.if-not-branch.false in
-    goes_false (view d k) _ _ _ _ (Blocks (view d k)) _ c.if-not-branch-2.true
-    (c.in_ok-data_of_leaves.ensures.goes d k (reads_then s0 s1 s2 d reads c.fetch.ensures.keeps.looks) root sized) w
+    let root = ap (block d) (sym is) ∙ read_in d c.args.address _
+    (c.in_ok-fetch.ensures.block d (reads_first reads c.data_of_leaves.ensures.keeps.looks)) c.if-not-branch.false in
+    goes_false _ _ (Blocks (view d k)) c.if-not-branch-2.true
+    (c.in_ok-data_of_leaves.ensures.goes d k (reads_then reads c.fetch.ensures.keeps.looks) root sized) w
 
 pub returns-clause-goes : goal.returns-clause-goes
 returns-clause-goes g c = λ d k reads is sized w.
     let s0 = g.D.SectorDevice.state c.args.device.now in
     let s1 = g.D.SectorDevice.state c.fetch.new.device in
     let s2 = g.D.SectorDevice.state c.data_of_leaves.new.device in
-    let root = ap (block d) (sym is) ∙ read_in d c.args.address _ _
-    (c.in_ok-fetch.ensures.block d (reads_first s0 s1 s2 d reads c.data_of_leaves.ensures.keeps.looks)) c.if-not-branch.false in
-    goes_true (view d k) _ _ _ _ (Blocks (view d k)) _ c.if-not-branch-2.false
-    (c.in_ok-data_of_leaves.ensures.goes d k (reads_then s0 s1 s2 d reads c.fetch.ensures.keeps.looks) root sized) w
+    let root = ap (block d) (sym is) ∙ read_in d c.args.address _
+    (c.in_ok-fetch.ensures.block d (reads_first reads c.data_of_leaves.ensures.keeps.looks)) c.if-not-branch.false in
+    goes_true _ _ (Blocks (view d k)) c.if-not-branch-2.false
+    (c.in_ok-data_of_leaves.ensures.goes d k (reads_then reads c.fetch.ensures.keeps.looks) root sized) w

@@ -9,7 +9,7 @@ use Rattle.lfs_verify.proofs.blocks.data_of_leaves.Goals as goal
 
 pub loop-place-init : goal.loop-place-init
 loop-place-init g c = record {
-  keeps = keeps_none (g.D.SectorDevice.state c.args.device.now) c.args.marks.now (g.met.D.SectorDevice.lawful c.args.device.now);
+  keeps = keeps_none (g.met.D.SectorDevice.lawful c.args.device.now);
   walked = λ d k reads is sized w.
       let e : 536624 + 16624 * c.args.file + 240 ≡ 536624 + 16624 * c.args.file + (112 + 128 * (0 + 1)) = omega arith in
       subst (Walked (view d k) c.args.marks.now) e w;
@@ -22,10 +22,9 @@ returns-then-not-branch-clause-goes g c = λ d k reads is sized w.
     let new = g.D.SectorDevice.state c.data_of_leaf.new.device in
     let here = c.loop-place.invariant in
     let step = c.in_ok-data_of_leaf.ensures in
-    let at = under_at d k c.args.file c.args.root.now is c.loop-place.place _ c.word_at-address.ensures in
-    goes_false (view d k) _ _ _ _ (Blocks (view d k)) _ c.if-not-branch.true
-    (step.goes d k (reads_then old mid new d reads here.keeps.looks) at sized)
-    (here.walked d k (reads_first old mid new d reads step.keeps.looks) is sized w)
+    let at = under_at d k c.args.file c.args.root.now is c.loop-place.place c.word_at-address.ensures in
+    goes_false _ _ (Blocks (view d k)) c.if-not-branch.true (step.goes d k (reads_then reads here.keeps.looks) at sized)
+    (here.walked d k (reads_first reads step.keeps.looks) is sized w)
 
 pub loop-place-preserved : goal.loop-place-preserved
 loop-place-preserved g c =
@@ -35,12 +34,11 @@ loop-place-preserved g c =
     let here = c.loop-place.invariant in
     let step = c.in_ok-data_of_leaf.ensures in
     record {
-      keeps = keeps_then old mid new _ _ _ _ here.keeps step.keeps;
+      keeps = keeps_then here.keeps step.keeps;
       walked = λ d k reads is sized w.
-          let at = under_at d k c.args.file c.args.root.now is c.loop-place.place _ c.word_at-address.ensures in
-          goes_true (view d k) _ _ _ _ (Blocks (view d k)) _ c.if-not-branch.false
-          (step.goes d k (reads_then old mid new d reads here.keeps.looks) at sized)
-          (here.walked d k (reads_first old mid new d reads step.keeps.looks) is sized w);
+          let at = under_at d k c.args.file c.args.root.now is c.loop-place.place c.word_at-address.ensures in
+          goes_true _ _ (Blocks (view d k)) c.if-not-branch.false (step.goes d k (reads_then reads here.keeps.looks) at sized)
+          (here.walked d k (reads_first reads step.keeps.looks) is sized w);
     }
 
 pub returns-clause-goes : goal.returns-clause-goes

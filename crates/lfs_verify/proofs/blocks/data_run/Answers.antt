@@ -8,7 +8,7 @@ use Rattle.lfs_verify.proofs.blocks.data_run.Goals as goal
 
 pub loop-place-init : goal.loop-place-init
 loop-place-init g c = record {
-  keeps = keeps_none (g.D.SectorDevice.state c.args.device.now) c.args.marks.now (g.met.D.SectorDevice.lawful c.args.device.now);
+  keeps = keeps_none (g.met.D.SectorDevice.lawful c.args.device.now);
   walked = λ d k reads is sized w.
       let e : 536624 + 16624 * c.args.file + c.args.index ≡ 536624 + 16624 * c.args.file + c.args.index + 0 = omega arith in
       subst (Walked (view d k) c.args.marks.now) e w;
@@ -21,11 +21,9 @@ returns-then-not-branch-clause-goes g c = λ d k reads is sized w blocks.
     let new = g.D.SectorDevice.state c.take_data.new.device in
     let here = c.loop-place.invariant in
     let step = c.in_ok-take_data.ensures in
-    (run_next d k c.args.file c.args.index c.loop-place.place c.requires.file (omega arith) c.args.size sized _ _ _
-    (c.word_at-address.ensures ∙ is c.loop-place.place (omega arith)) _
-    (step.takes d (reads_then old mid new d reads here.keeps.looks))
-    (here.walked d k (reads_first old mid new d reads step.keeps.looks) is sized w)).0
-    c.if-not-branch.true blocks
+    (run_next d k c.args.file c.args.index c.loop-place.place c.requires.file (omega arith) sized _ _ _
+    (c.word_at-address.ensures ∙ is c.loop-place.place (omega arith)) _ (step.takes d (reads_then reads here.keeps.looks))
+    (here.walked d k (reads_first reads step.keeps.looks) is sized w)).0 c.if-not-branch.true blocks
 
 pub loop-place-preserved : goal.loop-place-preserved
 loop-place-preserved g c =
@@ -35,12 +33,11 @@ loop-place-preserved g c =
     let here = c.loop-place.invariant in
     let step = c.in_ok-take_data.ensures in
     record {
-      keeps = keeps_then old mid new _ _ _ _ here.keeps step.keeps;
+      keeps = keeps_then here.keeps step.keeps;
       walked = λ d k reads is sized w.
-          (run_next d k c.args.file c.args.index c.loop-place.place c.requires.file (omega arith) c.args.size sized _ _ _
-          (c.word_at-address.ensures ∙ is c.loop-place.place (omega arith)) _
-          (step.takes d (reads_then old mid new d reads here.keeps.looks))
-          (here.walked d k (reads_first old mid new d reads step.keeps.looks) is sized w)).1 c.if-not-branch.false;
+          (run_next d k c.args.file c.args.index c.loop-place.place c.requires.file (omega arith) sized _ _ _
+          (c.word_at-address.ensures ∙ is c.loop-place.place (omega arith)) _ (step.takes d (reads_then reads here.keeps.looks))
+          (here.walked d k (reads_first reads step.keeps.looks) is sized w)).1 c.if-not-branch.false;
     }
 
 pub returns-clause-goes : goal.returns-clause-goes

@@ -8,7 +8,7 @@ use Rattle.lfs_verify.proofs.blocks.leaf_blocks.Goals as goal
 
 pub loop-leaf-init : goal.loop-leaf-init
 loop-leaf-init g c = record {
-  keeps = keeps_none (g.D.SectorDevice.state c.args.device.now) c.args.marks.now (g.met.D.SectorDevice.lawful c.args.device.now);
+  keeps = keeps_none (g.met.D.SectorDevice.lawful c.args.device.now);
   walked = λ d k reads is w. let e : 12336 + 128 * c.args.file ≡ 12336 + 128 * c.args.file + 0 = omega arith in
       subst (Walked (view d k) c.args.marks.now) e w;
 }
@@ -20,9 +20,8 @@ returns-then-not-branch-clause-goes g c = λ d k reads is w leaves.
     let new = g.D.SectorDevice.state c.take_pointers.new.device in
     let here = c.loop-leaf.invariant in
     let step = c.in_ok-take_pointers.ensures in
-    leaf_refused d k c.args.file c.requires.file c.args.root.now is c.loop-leaf.leaf (omega arith) _ _ _ c.word_at-address.ensures _
-    (step.takes d (reads_then old mid new d reads here.keeps.looks))
-    (here.walked d k (reads_first old mid new d reads step.keeps.looks) is w)
+    leaf_refused d k c.args.file c.requires.file is c.loop-leaf.leaf (omega arith) _ _ _ c.word_at-address.ensures _
+    (step.takes d (reads_then reads here.keeps.looks)) (here.walked d k (reads_first reads step.keeps.looks) is w)
     c.if-not-branch.true leaves
 
 pub loop-leaf-preserved : goal.loop-leaf-preserved
@@ -33,11 +32,10 @@ loop-leaf-preserved g c =
     let here = c.loop-leaf.invariant in
     let step = c.in_ok-take_pointers.ensures in
     record {
-      keeps = keeps_then old mid new _ _ _ _ here.keeps step.keeps;
+      keeps = keeps_then here.keeps step.keeps;
       walked = λ d k reads is w.
-          leaf_took d k c.args.file c.requires.file c.args.root.now is c.loop-leaf.leaf (omega arith) _ _ _ c.word_at-address.ensures _
-          (step.takes d (reads_then old mid new d reads here.keeps.looks))
-          (here.walked d k (reads_first old mid new d reads step.keeps.looks) is w)
+          leaf_took d k c.args.file c.requires.file is c.loop-leaf.leaf (omega arith) _ _ _ c.word_at-address.ensures _
+          (step.takes d (reads_then reads here.keeps.looks)) (here.walked d k (reads_first reads step.keeps.looks) is w)
           c.if-not-branch.false;
     }
 

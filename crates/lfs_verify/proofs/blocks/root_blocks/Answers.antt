@@ -16,11 +16,9 @@ returns-then-not-branch-2-clause-goes g c = λ d k reads is w.
     let s1 = g.D.SectorDevice.state c.take_pointers.new.device in
     let s2 = g.D.SectorDevice.state c.take_pointers-2.new.device in
     double_refused d k c.args.file c.requires.file (address d k (Inode c.args.file)) _ refl is
-    _ _ _ c.word_at-single.ensures _
-    (c.in_ok-take_pointers.ensures.takes d (reads_first s0 s1 s2 d reads c.take_pointers-2.ensures.keeps.looks))
+    _ _ _ c.word_at-single.ensures _ (c.in_ok-take_pointers.ensures.takes d (reads_first reads c.take_pointers-2.ensures.keeps.looks))
     w c.if-not-branch.false
-    _ _ c.word_at-double.ensures _
-    (c.in_ok-take_pointers-2.ensures.takes d (reads_then s0 s1 s2 d reads c.take_pointers.ensures.keeps.looks))
+    _ _ c.word_at-double.ensures _ (c.in_ok-take_pointers-2.ensures.takes d (reads_then reads c.take_pointers.ensures.keeps.looks))
     c.if-not-branch-2.true
 
 pub returns-clause-goes : goal.returns-clause-goes
@@ -29,9 +27,7 @@ returns-clause-goes g c = λ d k reads is w.
     let s1 = g.D.SectorDevice.state c.take_pointers.new.device in
     let s2 = g.D.SectorDevice.state c.take_pointers-2.new.device in
     double_took d k c.args.file c.requires.file (address d k (Inode c.args.file)) _ refl is
-    _ _ _ c.word_at-single.ensures _
-    (c.in_ok-take_pointers.ensures.takes d (reads_first s0 s1 s2 d reads c.take_pointers-2.ensures.keeps.looks))
+    _ _ _ c.word_at-single.ensures _ (c.in_ok-take_pointers.ensures.takes d (reads_first reads c.take_pointers-2.ensures.keeps.looks))
     w c.if-not-branch.false
-    _ _ c.word_at-double.ensures _
-    (c.in_ok-take_pointers-2.ensures.takes d (reads_then s0 s1 s2 d reads c.take_pointers.ensures.keeps.looks))
+    _ _ c.word_at-double.ensures _ (c.in_ok-take_pointers-2.ensures.takes d (reads_then reads c.take_pointers.ensures.keeps.looks))
     c.if-not-branch-2.false

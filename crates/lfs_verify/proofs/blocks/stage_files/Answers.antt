@@ -9,7 +9,7 @@ use Rattle.lfs_verify.proofs.blocks.stage_files.Goals as goal
 
 pub loop-file-init : goal.loop-file-init
 loop-file-init g c = record {
-  keeps = keeps_none (g.D.SectorDevice.state c.args.device.now) c.args.marks.now (g.met.D.SectorDevice.lawful c.args.device.now);
+  keeps = keeps_none (g.met.D.SectorDevice.lawful c.args.device.now);
   few = omega arith;
   place = sym (there_start c.args.map.now);
   walked = λ d k reads lists keeps w. w;
@@ -22,10 +22,10 @@ returns-then-not-branch-clause-goes g c = λ d k reads lists keeps w.
     let new = g.D.SectorDevice.state c.take_file.new.device in
     let here = c.loop-file.invariant in
     let step = c.in_ok-take_file.ensures in
-    goes_false (view d k) _ _ _ _ (Holds c.args.stage (view d k)) _ c.if-not-branch.true
-    (step.goes d k (reads_then old mid new d reads here.keeps.looks) (lists c.loop-file.file (omega arith))
-    (keeps_here d c.args.map.now c.args.inodes.now keeps c.loop-file.file (omega arith) c.loop-file.place here.place))
-    (here.walked d k (reads_first old mid new d reads step.keeps.looks) lists keeps w)
+    goes_false _ _ (Holds c.args.stage (view d k)) c.if-not-branch.true
+    (step.goes d k (reads_then reads here.keeps.looks) (lists c.loop-file.file (omega arith))
+    (keeps_here d c.args.map.now c.args.inodes.now keeps c.loop-file.file (omega arith) here.place))
+    (here.walked d k (reads_first reads step.keeps.looks) lists keeps w)
 
 pub loop-file-preserved : goal.loop-file-preserved
 loop-file-preserved g c =
@@ -35,14 +35,14 @@ loop-file-preserved g c =
     let here = c.loop-file.invariant in
     let step = c.in_ok-take_file.ensures in
     record {
-      keeps = keeps_then old mid new _ _ _ _ here.keeps step.keeps;
+      keeps = keeps_then here.keeps step.keeps;
       few = omega (arith, here.few, c.inodes_at.ensures.few);
       place = let next = there_next c.args.map.now c.loop-file.file in omega (arith, next, here.place, c.inodes_at.ensures.number);
       walked = λ d k reads lists keeps w.
-          goes_true (view d k) _ _ _ _ (Holds c.args.stage (view d k)) _ c.if-not-branch.false
-          (step.goes d k (reads_then old mid new d reads here.keeps.looks) (lists c.loop-file.file (omega arith))
-          (keeps_here d c.args.map.now c.args.inodes.now keeps c.loop-file.file (omega arith) c.loop-file.place here.place))
-          (here.walked d k (reads_first old mid new d reads step.keeps.looks) lists keeps w);
+          goes_true _ _ (Holds c.args.stage (view d k)) c.if-not-branch.false
+          (step.goes d k (reads_then reads here.keeps.looks) (lists c.loop-file.file (omega arith))
+          (keeps_here d c.args.map.now c.args.inodes.now keeps c.loop-file.file (omega arith) here.place))
+          (here.walked d k (reads_first reads step.keeps.looks) lists keeps w);
     }
 
 pub returns-clause-goes : goal.returns-clause-goes

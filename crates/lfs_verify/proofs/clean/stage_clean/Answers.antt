@@ -5,7 +5,7 @@ use Rattle.lfs_verify.proofs.clean.stage_clean.Goals as goal
 
 pub returns : goal.returns
 returns c = λ v table.
-    let law = enough_clean v c.args.used.now c.count_clean.result table c.count_clean.ensures.count in
+    let law = enough_clean v table c.count_clean.ensures.count in
     let e = c.div_ceil.ensures in (
       λ on. law.0 (let le = leb-true c.div_ceil.result c.count_clean.result on in omega (arith, e, le)),
       λ enough.

@@ -10,7 +10,7 @@ use Rattle.lfs_verify.proofs.inode_stage.all_inodes.Goals as goal
 
 pub loop-file-init : goal.loop-file-init
 loop-file-init g c = record {
-  keeps = keeps_none (g.D.SectorDevice.state c.args.device.now) c.args.marks.now (g.met.D.SectorDevice.lawful c.args.device.now);
+  keeps = keeps_none (g.met.D.SectorDevice.lawful c.args.device.now);
   at = λ i lt. absurd (omega (arith, lt));
   room = c.requires.room;
   count = sym c.args.inodes.now.ok.0 ∙ c.requires.none ∙ sym (there_start c.args.map.now);
@@ -26,8 +26,7 @@ returns-then-not-branch-clause-goes g c = λ d k reads same lists w inodes.
     let here = c.loop-file.invariant in
     let step = c.in_ok-take_inode.ensures in
     inode_refused d k c.loop-file.file (omega arith) _ _ _ (lists c.loop-file.file (omega arith)) _ _ same
-    (step.takes d (reads_then old mid new d reads here.keeps.looks))
-    (here.walked d k (reads_first old mid new d reads step.keeps.looks) same lists w)
+    (step.takes d (reads_then reads here.keeps.looks)) (here.walked d k (reads_first reads step.keeps.looks) same lists w)
     c.if-not-branch.true inodes
 
 pub keep_inode-requires : goal.keep_inode-requires
@@ -47,7 +46,7 @@ loop-file-preserved g c =
     let here = c.loop-file.invariant in
     let step = c.in_ok-take_inode.ensures in
     record {
-      keeps = keeps_then old mid new _ _ _ _ here.keeps step.keeps;
+      keeps = keeps_then here.keeps step.keeps;
       at = below_more _ _ here.at (in_marks _ _ _ here.keeps.len (step.at c.if-not-branch.false));
       room = omega (arith, here.room, c.keep_inode.ensures.room);
       count = count_next c.args.map.now c.loop-file.file c.loop-file.inodes.items c.keep_inode.new.inodes.items here.count _
@@ -55,12 +54,12 @@ loop-file-preserved g c =
       kept = λ d reads.
           keeps_next c.args.map.now c.loop-file.file c.loop-file.inodes.items c.keep_inode.new.inodes.items here.count _
           c.keep_inode.ensures.kept c.keep_inode.ensures.none
-          d (λ some. step.read c.if-not-branch.false some d (reads_then old mid new d reads here.keeps.looks))
-          (here.kept d (reads_first old mid new d reads step.keeps.looks));
+          d (λ some. step.read c.if-not-branch.false some d (reads_then reads here.keeps.looks))
+          (here.kept d (reads_first reads step.keeps.looks));
       walked = λ d k reads same lists w.
           inode_took d k c.loop-file.file (omega arith) _ _ _ (lists c.loop-file.file (omega arith)) _ _ same
-          (step.takes d (reads_then old mid new d reads here.keeps.looks))
-          (here.walked d k (reads_first old mid new d reads step.keeps.looks) same lists w) c.if-not-branch.false;
+          (step.takes d (reads_then reads here.keeps.looks))
+          (here.walked d k (reads_first reads step.keeps.looks) same lists w) c.if-not-branch.false;
     }
 
 pub returns-clause-goes : goal.returns-clause-goes

@@ -7,7 +7,7 @@ use Rattle.lfs_verify.proofs.LabelSteps.{puts_none, puts_more}
 use Rattle.lfs_verify.proofs.labels.label_chunk.Goals as goal
 
 pub loop-place-init : goal.loop-place-init
-loop-place-init c = record { puts = puts_none c.args.names.now c.args.labels.now c.args.first }
+loop-place-init c = record { puts = puts_none }
 
 pub loop-place-preserved : goal.loop-place-preserved
 loop-place-preserved c =
@@ -18,9 +18,7 @@ loop-place-preserved c =
     omega (arith, n, size, c.requires.inside, c.loop-place-test.true) in
     let step : c.step_of_name.result + 1 ≡ suc (step_of (entry_of c.get.result)) = omega (arith, c.step_of_name.ensures.step) in
     record {
-      puts = puts_more c.args.names.now c.args.labels.now c.loop-place.labels c.args.first c.loop-place.place
-          (c.step_of_name.result + 1) inside
-          (step ∙ ap (λ (b : BlockNameValue). suc (step_of (entry_of b))) c.get.ensures) was;
+      puts = puts_more inside (step ∙ ap (λ (b : BlockNameValue). suc (step_of (entry_of b))) c.get.ensures) was;
     }
 
 pub returns : goal.returns

@@ -8,7 +8,7 @@ pub returns-then-not-agrees : goal.returns-then-not-agrees
 returns-then-not-agrees c = λ v has w bounded. (
   λ on. absurd (cc),
   λ named.
-      let here = each_agrees v c.args.labels.now c.args.marks.now has w bounded named c.loop-sector.sector c.loop-sector-test.true in
+      let here = each_agrees v has w bounded named c.loop-sector.sector c.loop-sector-test.true in
       let e : true ≡ false = sym (c.agrees.ensures.1 here) ∙ c.if-not-agrees.true in
       absurd (cc),
 )
@@ -23,6 +23,6 @@ loop-sector-preserved c = λ i lt. ⊎_elim
 
 pub returns : goal.returns
 returns c = λ v has w bounded. (
-  λ on. all_agree v c.args.labels.now c.args.marks.now has w bounded (λ i lt. c.loop-sector.invariant i (omega arith)),
+  λ on. all_agree v has w bounded (λ i lt. c.loop-sector.invariant i (omega arith)),
   λ named. search rules,
 )

@@ -11,7 +11,7 @@ use Rattle.lfs_verify.proofs.map_stage.stage_maps.Goals as goal
 
 pub loop-index-init : goal.loop-index-init
 loop-index-init g c = record {
-  keeps = keeps_none (g.D.SectorDevice.state c.args.device.now) c.args.marks.now (g.met.D.SectorDevice.lawful c.args.device.now);
+  keeps = keeps_none (g.met.D.SectorDevice.lawful c.args.device.now);
   files = refl;
   empty = λ n le. c.requires.empty n;
   lists = λ d reads n lt. absurd (omega (arith, lt));
@@ -26,8 +26,8 @@ returns-then-not-branch-clause-goes g c = λ d reads w.
     let v = view d c.args.checkpoint.now in
     let here = c.loop-index.invariant in
     let step = c.in_ok-take_map.ensures in
-    goes_false v _ _ _ _ (Maps v) _ c.if-not-branch.true (step.goes d (reads_then old mid new d reads here.keeps.looks))
-    (here.walked d (reads_first old mid new d reads step.keeps.looks) w)
+    goes_false _ _ (Maps v) c.if-not-branch.true (step.goes d (reads_then reads here.keeps.looks))
+    (here.walked d (reads_first reads step.keeps.looks) w)
 
 pub loop-index-preserved : goal.loop-index-preserved
 loop-index-preserved g c =
@@ -37,15 +37,15 @@ loop-index-preserved g c =
     let here = c.loop-index.invariant in
     let step = c.in_ok-take_map.ensures in
     record {
-      keeps = keeps_then old mid new _ _ _ _ here.keeps step.keeps;
+      keeps = keeps_then here.keeps step.keeps;
       files = step.files ∙ here.files;
       empty = step.empty c.if-not-branch.false;
-      lists = λ d reads. step.lists c.if-not-branch.false d (reads_then old mid new d reads here.keeps.looks)
-          (here.lists d (reads_first old mid new d reads step.keeps.looks));
+      lists = λ d reads. step.lists c.if-not-branch.false d (reads_then reads here.keeps.looks)
+          (here.lists d (reads_first reads step.keeps.looks));
       walked = λ d reads w.
           let v = view d c.args.checkpoint.now in
-          goes_true v _ _ _ _ (Maps v) _ c.if-not-branch.false (step.goes d (reads_then old mid new d reads here.keeps.looks))
-          (here.walked d (reads_first old mid new d reads step.keeps.looks) w);
+          goes_true _ _ (Maps v) c.if-not-branch.false (step.goes d (reads_then reads here.keeps.looks))
+          (here.walked d (reads_first reads step.keeps.looks) w);
     }
 
 pub returns-then-map-ne0-clause-goes : goal.returns-then-map-ne0-clause-goes
@@ -79,6 +79,6 @@ returns-clause-holds g c = λ is d reads bounded w.
     let last : 16 + c.loop-index.index ≡ 48 = omega arith in
     let v = view d c.args.checkpoint.now in
     let lists = subst (ListsUpTo v c.loop-index.map) e (c.loop-index.invariant.lists d reads) in
-    maps_of v c.loop-index.marks (subst (Walked v c.loop-index.marks) last (c.loop-index.invariant.walked d reads w)) bounded
+    maps_of v (subst (Walked v c.loop-index.marks) last (c.loop-index.invariant.walked d reads w)) bounded
     (none_holds d c.args.checkpoint.now c.loop-index.map lists c.if-map-ne0.false)
     (root_reached d c.args.checkpoint.now c.loop-index.map lists c.if-map-eq0.false)

@@ -7,11 +7,11 @@ returns-then-not-claim-clause-takes g c = λ k reads o. let e = c.if-not-claim.e
 
 pub returns-then-not-branch-clause-takes : goal.returns-then-not-branch-clause-takes
 returns-then-not-branch-clause-takes g c =
-    λ k reads o. unread k c.args.address _ _ (c.in_ok-fetch.ensures.block k reads) c.if-not-branch.true
+    λ k reads o. unread k c.args.address _ (c.in_ok-fetch.ensures.block k reads) c.if-not-branch.true
 
 pub returns-clause-takes : goal.returns-clause-takes
 returns-clause-takes g c = λ k reads. (
   c.if-not-claim.ensures.is_open.0 refl,
-  read_in k c.args.address _ _ (c.in_ok-fetch.ensures.block k reads) c.if-not-branch.false,
+  read_in k c.args.address _ (c.in_ok-fetch.ensures.block k reads) c.if-not-branch.false,
   c.if-not-claim.ensures.marked,
 )

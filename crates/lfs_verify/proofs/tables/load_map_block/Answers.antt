@@ -19,15 +19,14 @@ returns-in_err-bytes-clause-cause g c =
     same_error c.from_residual.result fault (IsTableFault old new k) c.from_residual.ensures
     (fault_on (old.failures < new.failures) (LacksBlock old new c.segments_of-segments.result at) (old.failures < new.failures)
     (LacksTables old new k) (λ rose. rose)
-    (λ lacks. map_fault old new k c.args.index at (g.met.D.SectorDevice.lawful c.args.device.now).now
+    (λ lacks. map_fault old new k c.args.index (g.met.D.SectorDevice.lawful c.args.device.now).now
     (sym c.map_address-address.ensures) c.if-address-eq0.false
     (subst (λ (n : ℕ). LacksBlock old new n at) c.segments_of-segments.ensures lacks))
     fault lends.cause)
 
 pub returns-clause-after : goal.returns-clause-after
 returns-clause-after g c =
-    map_more c.args.index c.map_address-address.result c.args.map.now c.load.new.self c.set_block_address.new.self c.new.result
-    c.requires.before c.load.ensures c.set_block_address.ensures.changed
+    map_more c.set_block_address.new.self c.requires.before c.load.ensures c.set_block_address.ensures.changed
     (ap (λ (a : MapValue). a.addresses) c.set_block_address.ensures.set) (ap (λ (a : MapValue). a.hidden) c.set_block_address.ensures.set)
 
 pub returns-clause-says : goal.returns-clause-says
@@ -37,13 +36,11 @@ returns-clause-says g c keeps says =
     let at = c.map_address-address.result in
     let bytes = c.in_ok-bytes.bytes.now in
     let lends = subst (LendsTable old new c.segments_of-segments.result at) c.in_ok-bytes.was c.read_table.follows.holds-at-none in
-    says_map_more c.args.index at c.args.map.now c.load.new.self c.set_block_address.new.self c.new.result c.requires.before c.load.ensures
-    c.set_block_address.ensures.changed
+    says_map_more c.set_block_address.new.self c.requires.before c.load.ensures c.set_block_address.ensures.changed
     (ap (λ (a : MapValue). a.addresses) c.set_block_address.ensures.set) (ap (λ (a : MapValue). a.hidden) c.set_block_address.ensures.set)
-    old.content c.args.checkpoint.now bytes (lent_block old.content at bytes (lends.value keeps) lends.above)
+     bytes (lent_block old.content at (lends.value keeps) lends.above)
     (sym c.map_address-address.ensures) c.new.ensures.fits c.new.ensures.spelled says
 
 pub returns-then-address-eq0-clause-says : goal.returns-then-address-eq0-clause-says
 returns-then-address-eq0-clause-says g c keeps says =
-    says_skipped c.args.index c.args.map.now c.requires.before (g.D.SectorDevice.state c.args.device.now).content c.args.checkpoint.now
-    ((sym c.map_address-address.ensures) ∙ c.if-address-eq0.true) says
+    says_skipped c.requires.before ((sym c.map_address-address.ensures) ∙ c.if-address-eq0.true) says

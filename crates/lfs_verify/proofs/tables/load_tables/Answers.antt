@@ -13,4 +13,4 @@ returns-in_err-load_map-clause-cause g c =
     let e = c.in_err-load_map.field-0.0 in
     same_error c.from_residual-in_err-load_map.result e (λ f. (f ≡ fault.NoMemory → ⊥) → IsTableFault old new c.args.checkpoint.now f)
     c.from_residual-in_err-load_map.ensures
-    (λ other. fault_then old mid new c.args.checkpoint.now c.in_ok-load_usage.ensures.keeps.looks e c.in_err-load_map.ensures.cause)
+    (λ other. fault_then new c.args.checkpoint.now c.in_ok-load_usage.ensures.keeps.looks e c.in_err-load_map.ensures.cause)

@@ -9,7 +9,7 @@ pub loop-index-init : goal.loop-index-init
 loop-index-init g c = record {
   upto = c.requires.before;
   says = λ keeps. says_nothing _ _ _;
-  looks = looks_none (g.D.SectorDevice.state c.args.device.now) (g.met.D.SectorDevice.lawful c.args.device.now);
+  looks = looks_none (g.met.D.SectorDevice.lawful c.args.device.now);
   no_failure = refl;
 }
 
@@ -22,10 +22,8 @@ loop-index-preserved g c =
     let now = c.in_ok-load_usage_block.ensures in
     record {
       upto = now.after;
-      says = λ keeps. says_then old mid c.args.checkpoint.now c.loop-index.index
-          (c.loop-index.index + 1) c.loop-index.usage c.load_usage_block.new.usage was.looks
-          (was.says (now.keeps.looks.carries.kept_before keeps)) (now.says keeps);
-      looks = looks_then old mid new was.looks now.keeps.looks;
+      says = λ keeps. says_then was.looks (was.says (now.keeps.looks.carries.kept_before keeps)) (now.says keeps);
+      looks = looks_then was.looks now.keeps.looks;
       no_failure = now.keeps.no_failure ∙ was.no_failure;
     }
 
@@ -36,4 +34,4 @@ returns-in_err-load_usage_block-clause-cause g c =
     let new = g.D.SectorDevice.state c.load_usage_block.new.device in
     let fault = c.in_err-load_usage_block.field-0.0 in
     same_error c.from_residual.result fault (IsTableFault old new c.args.checkpoint.now) c.from_residual.ensures
-    (fault_then old mid new c.args.checkpoint.now c.loop-index.invariant.looks fault c.in_err-load_usage_block.ensures.cause)
+    (fault_then new c.args.checkpoint.now c.loop-index.invariant.looks fault c.in_err-load_usage_block.ensures.cause)

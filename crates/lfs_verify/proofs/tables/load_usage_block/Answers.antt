@@ -17,7 +17,7 @@ returns-in_err-bytes-clause-cause g c =
     same_error c.from_residual.result fault (IsTableFault old new k) c.from_residual.ensures
     (fault_on (old.failures < new.failures) (LacksBlock old new c.segments_of-segments.result at) (old.failures < new.failures)
     (LacksTables old new k) (λ rose. rose)
-    (λ lacks. usage_fault old new k c.args.index at c.requires.index (sym c.usage_address-address.ensures)
+    (λ lacks. usage_fault old new k c.args.index c.requires.index (sym c.usage_address-address.ensures)
     (subst (λ (n : ℕ). LacksBlock old new n at) c.segments_of-segments.ensures lacks))
     fault lends.cause)
 
@@ -31,8 +31,8 @@ returns-in_default-clause-cause g c =
     let lends = subst (LendsTable old new c.segments_of-segments.result at) c.in_ok-bytes.was c.read_table.follows.holds-at-none in
     usage_undecoded old new c.args.checkpoint.now c.args.index
     at bytes c.requires.index (sym c.usage_address-address.ensures)
-    (λ keeps. lent_block old.content at bytes (lends.value keeps) lends.above) all
-    (λ keeps. lent_long old.content at bytes (lends.value keeps) all) (c.segments_of-segments.result - 64 * c.args.index)
+    (λ keeps. lent_block old.content at (lends.value keeps) lends.above) all
+    (λ keeps. lent_long old.content at (lends.value keeps) all)
     (ap (λ (n : ℕ). n - 64 * c.args.index) c.segments_of-segments.ensures) (sym c.decode.ensures.exact ∙ c.in_default.is)
 
 pub returns-clause-says : goal.returns-clause-says
@@ -43,13 +43,9 @@ returns-clause-says g c keeps says =
     let bytes = c.in_ok-bytes.bytes.now in
     let all = (g.met.D.SectorDevice.lawful c.args.device.now).now in
     let lends = subst (LendsTable old new c.segments_of-segments.result at) c.in_ok-bytes.was c.read_table.follows.holds-at-none in
-    says_more c.args.usage.now c.take_entries.new.usage c.set_block.new.self c.in-Some.block c.args.index c.args.checkpoint.now.segments at
-    c.has_dead_age.result
-    c.requires.before c.take_entries.ensures c.set_block.ensures old.content c.args.checkpoint.now says bytes
-    (c.segments_of-segments.result - 64 * c.args.index)
-    (lent_block old.content at bytes (lends.value keeps) lends.above) (sym c.usage_address-address.ensures) all
-    (lent_long old.content at bytes (lends.value keeps) all)
-    (sym c.decode.ensures.exact ∙ c.in-Some.is) c.has_dead_age.ensures
+    says_more at c.requires.before c.take_entries.ensures c.set_block.ensures says bytes (c.segments_of-segments.result - 64 * c.args.index)
+    (lent_block old.content at (lends.value keeps) lends.above) (sym c.usage_address-address.ensures) all
+    (lent_long old.content at (lends.value keeps) all) (sym c.decode.ensures.exact ∙ c.in-Some.is) c.has_dead_age.ensures
 
 pub returns-clause-after : goal.returns-clause-after
 returns-clause-after g c =
@@ -57,6 +53,4 @@ returns-clause-after g c =
     let new = g.D.SectorDevice.state c.read_table.follows.lender-at-none in
     let at = c.usage_address-address.result in
     let lends = subst (LendsTable old new c.segments_of-segments.result at) c.in_ok-bytes.was c.read_table.follows.holds-at-none in
-    usage_more c.args.usage.now c.take_entries.new.usage c.set_block.new.self c.in-Some.block c.args.index c.args.checkpoint.now.segments at
-    c.has_dead_age.result
-    c.requires.before c.take_entries.ensures c.set_block.ensures lends.above
+    usage_more at c.requires.before c.take_entries.ensures c.set_block.ensures lends.above

@@ -5,7 +5,7 @@ use Rattle.lfs_verify.proofs.usage_stage.copy_uses.Goals as goal
 use Rattle.lfs_verify.proofs.usage_stage.copy_uses.Goals.{then-segment-used, else-segment-used}
 
 pub loop-place-init : goal.loop-place-init
-loop-place-init c = record { copies = uses_none c.args.block.now c.args.used.now c.args.live.now (64 * c.args.index) }
+loop-place-init c = record { copies = uses_none }
 
 pub loop-place-preserved : goal.loop-place-preserved
 loop-place-preserved c =
@@ -18,13 +18,8 @@ loop-place-preserved c =
             let live_is : w.entry.inside.live ≡ (get_or c.args.block.now c.loop-place.place no_use).live = search rules in
             let inside_live : 64 * c.args.index + c.loop-place.place < length c.loop-place.live =
             omega (arith, w.if-segment-used.true, was.used_size, was.live_size, same) in
-            uses_same c.args.block.now c.args.used.now c.args.live.now _ _ _ _ (64 * c.args.index) _ w.used-is w.live-is
-            (uses_more c.args.block.now c.args.used.now c.args.live.now c.loop-place.used c.loop-place.live
-            (64 * c.args.index) c.loop-place.place was _ _
-            w.if-segment-used.true inside_live used_is live_is)
+            uses_same _ _ _ w.used-is w.live-is (uses_more was _ _ w.if-segment-used.true inside_live used_is live_is)
         | else-segment-used w ↦
-            uses_same c.args.block.now c.args.used.now c.args.live.now _ _ _ _ (64 * c.args.index) _ w.used-is w.live-is
-            (uses_past c.args.block.now c.args.used.now c.args.live.now c.loop-place.used c.loop-place.live
-            (64 * c.args.index) c.loop-place.place was w.if-segment-used.false)
+            uses_same _ _ _ w.used-is w.live-is (uses_past was w.if-segment-used.false)
       ];
     }

@@ -9,7 +9,7 @@ use Rattle.lfs_verify.proofs.usage_stage.stage_usages.Goals as goal
 
 pub loop-index-init : goal.loop-index-init
 loop-index-init g c = record {
-  keeps = keeps_none (g.D.SectorDevice.state c.args.device.now) c.args.marks.now (g.met.D.SectorDevice.lawful c.args.device.now);
+  keeps = keeps_none (g.met.D.SectorDevice.lawful c.args.device.now);
   used = refl;
   live = refl;
   is_there = λ j lt. absurd (omega (arith, lt));
@@ -25,8 +25,8 @@ returns-then-not-branch-clause-goes g c = λ d reads w.
     let v = view d c.args.checkpoint.now in
     let here = c.loop-index.invariant in
     let step = c.in_ok-take_usage.ensures in
-    goes_false v _ _ _ _ (Usages v) _ c.if-not-branch.true (step.goes d (reads_then old mid new d reads here.keeps.looks))
-    (here.walked d (reads_first old mid new d reads step.keeps.looks) w)
+    goes_false _ _ (Usages v) c.if-not-branch.true (step.goes d (reads_then reads here.keeps.looks))
+    (here.walked d (reads_first reads step.keeps.looks) w)
 
 pub loop-index-preserved : goal.loop-index-preserved
 loop-index-preserved g c =
@@ -36,16 +36,16 @@ loop-index-preserved g c =
     let here = c.loop-index.invariant in
     let step = c.in_ok-take_usage.ensures in
     record {
-      keeps = keeps_then old mid new _ _ _ _ here.keeps step.keeps;
+      keeps = keeps_then here.keeps step.keeps;
       used = step.lengths.used ∙ here.used;
       live = step.lengths.live ∙ here.live;
       is_there = below_more _ _ here.is_there (step.is_there c.if-not-branch.false);
-      says = λ d reads. step.says c.if-not-branch.false d (reads_then old mid new d reads here.keeps.looks)
-          (here.says d (reads_first old mid new d reads step.keeps.looks));
+      says = λ d reads. step.says c.if-not-branch.false d (reads_then reads here.keeps.looks)
+          (here.says d (reads_first reads step.keeps.looks));
       walked = λ d reads w.
           let v = view d c.args.checkpoint.now in
-          goes_true v _ _ _ _ (Usages v) _ c.if-not-branch.false (step.goes d (reads_then old mid new d reads here.keeps.looks))
-          (here.walked d (reads_first old mid new d reads step.keeps.looks) w);
+          goes_true _ _ (Usages v) c.if-not-branch.false (step.goes d (reads_then reads here.keeps.looks))
+          (here.walked d (reads_first reads step.keeps.looks) w);
     }
 
 pub returns-clause-goes : goal.returns-clause-goes
@@ -61,5 +61,5 @@ returns-clause-says g c = λ is d reads s within.
 pub returns-clause-holds : goal.returns-clause-holds
 returns-clause-holds g c = λ is d reads bounded w.
     let e : c.loop-index.index ≡ 16 = omega arith in
-    usages_of d c.args.checkpoint.now c.requires.few (λ j lt. c.loop-index.invariant.is_there j (omega (arith, lt, e))) c.loop-index.marks
+    usages_of d c.args.checkpoint.now c.requires.few (λ j lt. c.loop-index.invariant.is_there j (omega (arith, lt, e)))
     (subst (Walked (view d c.args.checkpoint.now) c.loop-index.marks) e (c.loop-index.invariant.walked d reads w)) bounded

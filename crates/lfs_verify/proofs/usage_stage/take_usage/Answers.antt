@@ -11,7 +11,7 @@ returns-then-address-ne0-clause-goes g c = λ d reads w.
 pub returns-then-index-segments-clause-goes : goal.returns-then-index-segments-clause-goes
 returns-then-index-segments-clause-goes g c = λ d reads w.
     usage_passed d c.args.checkpoint.now c.args.index c.requires.index _ c.segments_of-segments.ensures _ c.usage_address-address.ensures
-    c.if-address-ne0.false c.args.marks.now w
+    c.if-address-ne0.false w
 
 pub returns-then-index-segments-clause-is_there : goal.returns-then-index-segments-clause-is_there
 returns-then-index-segments-clause-is_there g c = λ is.
@@ -31,15 +31,14 @@ returns-then-address-eq0-clause-goes g c = λ d reads w.
 pub returns-then-not-branch-clause-goes : goal.returns-then-not-branch-clause-goes
 returns-then-not-branch-clause-goes g c = λ d reads.
     usage_missed d c.args.checkpoint.now c.args.index c.requires.index _ c.segments_of-segments.ensures _ c.usage_address-address.ensures
-    c.if-address-eq0.false c.args.marks.now c.args.marks.now
-    (block_missed d c.args.marks.now c.take_block.new.marks _ c.args.index c.take_block.new.out _
+    c.if-address-eq0.false c.args.marks.now (block_missed d c.args.marks.now c.take_block.new.marks _ c.args.index c.take_block.new.out
     (c.in_ok-take_block.ensures.takes d reads) c.if-not-branch.true)
 
 pub returns-in_default-clause-goes : goal.returns-in_default-clause-goes
 returns-in_default-clause-goes g c = λ d reads.
-    let taken = block_taken d c.args.marks.now c.take_block.new.marks _ c.args.index c.take_block.new.out _
+    let taken = block_taken d c.args.marks.now c.take_block.new.marks _ c.args.index c.take_block.new.out
     (c.in_ok-take_block.ensures.takes d reads) c.if-not-branch.false in
-    let bytes = read_bytes _ _ d _ _ (g.met.D.SectorDevice.lawful c.args.device.now).now reads taken.1 in
+    let bytes = read_bytes _ _ (g.met.D.SectorDevice.lawful c.args.device.now).now reads taken.1 in
     usage_undecoded d c.args.checkpoint.now c.args.index c.requires.index _ c.segments_of-segments.ensures _ c.usage_address-address.ensures
     _
     taken.1 (c.in_ok-take_block.ensures.long c.if-not-branch.false) bytes c.if-address-eq0.false c.args.marks.now c.args.marks.now
@@ -47,13 +46,11 @@ returns-in_default-clause-goes g c = λ d reads.
 
 pub returns-clause-goes : goal.returns-clause-goes
 returns-clause-goes g c = λ d reads.
-    let taken = block_taken d c.args.marks.now c.take_block.new.marks _ c.args.index c.take_block.new.out _
+    let taken = block_taken d c.args.marks.now c.take_block.new.marks _ c.args.index c.take_block.new.out
     (c.in_ok-take_block.ensures.takes d reads) c.if-not-branch.false in
-    let bytes = read_bytes _ _ d _ _ (g.met.D.SectorDevice.lawful c.args.device.now).now reads taken.1 in
+    let bytes = read_bytes _ _ (g.met.D.SectorDevice.lawful c.args.device.now).now reads taken.1 in
     usage_taken d c.args.checkpoint.now c.args.index c.requires.index _ c.segments_of-segments.ensures _ c.usage_address-address.ensures _
-    taken.1 (c.in_ok-take_block.ensures.long c.if-not-branch.false) bytes c.in-Some.block c.in-Some.ensures.exact c.args.marks.now
-    c.take_block.new.marks
-    taken.0 taken.2
+    taken.1 (c.in_ok-take_block.ensures.long c.if-not-branch.false) bytes c.in-Some.block c.in-Some.ensures.exact taken.0 taken.2
 
 pub returns-clause-is_there : goal.returns-clause-is_there
 returns-clause-is_there g c = λ is.
@@ -62,9 +59,9 @@ returns-clause-is_there g c = λ is.
 
 pub returns-clause-says : goal.returns-clause-says
 returns-clause-says g c = λ is d reads.
-    let taken = block_taken d c.args.marks.now c.take_block.new.marks _ c.args.index c.take_block.new.out _
+    let taken = block_taken d c.args.marks.now c.take_block.new.marks _ c.args.index c.take_block.new.out
     (c.in_ok-take_block.ensures.takes d reads) c.if-not-branch.false in
-    let bytes = read_bytes _ _ d _ _ (g.met.D.SectorDevice.lawful c.args.device.now).now reads taken.1 in
+    let bytes = read_bytes _ _ (g.met.D.SectorDevice.lawful c.args.device.now).now reads taken.1 in
     says_taken d c.args.checkpoint.now c.args.index c.requires.index _ c.segments_of-segments.ensures _ c.usage_address-address.ensures _
     taken.1 (c.in_ok-take_block.ensures.long c.if-not-branch.false) bytes c.in-Some.block c.in-Some.ensures.exact
-    c.args.used.now c.args.live.now c.copy_uses.new.used c.copy_uses.new.live c.requires.used c.copy_uses.ensures
+     c.requires.used c.copy_uses.ensures

@@ -16,7 +16,7 @@ returns-in_err-found-clause-cause g c =
     let old = g.D.SectorDevice.state c.args.device.now in
     let new = g.D.SectorDevice.state c.verify_log.new.device in
     same_error c.from_residual.result c.in_err-found.field-0.0 _ c.from_residual.ensures
-    (open_fault old new (g.met.D.SectorDevice.lawful c.args.device.now) c.in_err-found.field-0.0
+    (open_fault new (g.met.D.SectorDevice.lawful c.args.device.now) c.in_err-found.field-0.0
     (refused_log old new c.in_err-found.field-0.0 c.in_err-found.ensures.reason))
 
 pub returns-in_err-found-clause-below_all : goal.returns-in_err-found-clause-below_all
@@ -27,17 +27,17 @@ returns-in_err-found-clause-below_all g c = λ low.
 
 pub returns-then-not-found-clause-reason : goal.returns-then-not-found-clause-reason
 returns-then-not-found-clause-reason g c =
-    few_clean (g.D.SectorDevice.state c.args.device.now) (g.D.SectorDevice.state c.verify_log.new.device) c.in_ok-found.found
+    few_clean (g.D.SectorDevice.state c.args.device.now) (g.D.SectorDevice.state c.verify_log.new.device)
     c.in_ok-found.ensures.found (not-true c.in_ok-found.found.enough_clean c.if-not-found.true)
 
 pub returns-then-not-found-clause-cause : goal.returns-then-not-found-clause-cause
 returns-then-not-found-clause-cause g c =
     let old = g.D.SectorDevice.state c.args.device.now in
     let new = g.D.SectorDevice.state c.verify_log.new.device in
-    open_fault old new (g.met.D.SectorDevice.lawful c.args.device.now) (fault.Damaged 15)
-    (few_clean old new c.in_ok-found.found c.in_ok-found.ensures.found (not-true c.in_ok-found.found.enough_clean c.if-not-found.true))
+    open_fault new (g.met.D.SectorDevice.lawful c.args.device.now) (fault.Damaged 15)
+    (few_clean old new c.in_ok-found.ensures.found (not-true c.in_ok-found.found.enough_clean c.if-not-found.true))
 
 pub returns-clause-found : goal.returns-clause-found
 returns-clause-found g c =
-    has_tables (g.D.SectorDevice.state c.args.device.now) (g.D.SectorDevice.state c.verify_log.new.device) c.in_ok-found.found
+    has_tables (g.D.SectorDevice.state c.args.device.now) (g.D.SectorDevice.state c.verify_log.new.device)
     c.in_ok-found.ensures.found (not-false c.in_ok-found.found.enough_clean c.if-not-found.false)

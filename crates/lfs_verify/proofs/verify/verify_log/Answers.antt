@@ -17,34 +17,23 @@ returns-in_err-checkpoint-clause-below_all g c = λ low.
 pub returns-in_err-walked-clause-reason : goal.returns-in_err-walked-clause-reason
 returns-in_err-walked-clause-reason g c =
     let s2 = g.D.SectorDevice.state c.check.new.device in
-    same_error c.from_residual-in_err-walked.result c.in_err-walked.field-0.0 _ c.from_residual-in_err-walked.ensures
-    (check_refused (g.D.SectorDevice.state c.args.device.now) (g.D.SectorDevice.state c.find_checkpoint.new.device) s2 s2
+    same_error c.from_residual-in_err-walked.result c.in_err-walked.field-0.0 _ c.from_residual-in_err-walked.ensures (check_refused
     c.find_checkpoint.ensures.keeps.looks c.check.ensures.keeps.looks
-    (looks_none s2 (g.met.D.SectorDevice.lawful c.check.new.device)) c.in_ok-checkpoint.checkpoint c.in_ok-checkpoint.ensures.found
+    (looks_none (g.met.D.SectorDevice.lawful c.check.new.device)) c.in_ok-checkpoint.ensures.found
     c.in_err-walked.field-0.0 c.in_err-walked.ensures.reason)
 
 pub returns-in_err-tables-clause-reason : goal.returns-in_err-tables-clause-reason
 returns-in_err-tables-clause-reason g c =
-    same_error c.from_residual-in_err-tables.result c.in_err-tables.field-0.0 _ c.from_residual-in_err-tables.ensures
-    (load_refused (g.D.SectorDevice.state c.args.device.now) (g.D.SectorDevice.state c.find_checkpoint.new.device)
-    (g.D.SectorDevice.state c.check.new.device) (g.D.SectorDevice.state c.load_tables.new.device)
-    c.find_checkpoint.ensures.keeps.looks c.check.ensures.keeps.looks c.load_tables.ensures.looks c.in_ok-checkpoint.checkpoint
-    c.in_ok-checkpoint.ensures.found c.in_ok-walked.walked.0 c.in_ok-walked.walked.1
-    c.in_ok-walked.ensures.holds c.in_err-tables.field-0.0 c.in_err-tables.ensures.cause)
+    same_error c.from_residual-in_err-tables.result c.in_err-tables.field-0.0 _ c.from_residual-in_err-tables.ensures (load_refused
+    c.find_checkpoint.ensures.keeps.looks c.check.ensures.keeps.looks c.load_tables.ensures.looks c.in_ok-checkpoint.ensures.found
+    c.in_ok-walked.ensures.holds c.in_err-tables.ensures.cause)
 
 pub returns-clause-found : goal.returns-clause-found
 returns-clause-found g c =
-    log_found (g.D.SectorDevice.state c.args.device.now) (g.D.SectorDevice.state c.find_checkpoint.new.device)
-    (g.D.SectorDevice.state c.check.new.device) (g.D.SectorDevice.state c.load_tables.new.device)
-    c.find_checkpoint.ensures.keeps.looks c.check.ensures.keeps.looks c.load_tables.ensures.looks c.in_ok-checkpoint.checkpoint
-    c.in_ok-checkpoint.ensures.found c.in_ok-walked.walked.0 c.in_ok-walked.walked.1
-    c.in_ok-walked.ensures.holds c.in_ok-checkpoint.ensures.fits c.in_ok-tables.tables c.in_ok-tables.ensures.says
-    c.in_ok-tables.ensures.totals
+    log_found c.find_checkpoint.ensures.keeps.looks c.check.ensures.keeps.looks c.load_tables.ensures.looks c.in_ok-checkpoint.ensures.found
+    c.in_ok-walked.ensures.holds c.in_ok-checkpoint.ensures.fits c.in_ok-tables.ensures.says c.in_ok-tables.ensures.totals
 
 pub returns-clause-durable : goal.returns-clause-durable
 returns-clause-durable g c =
-    only_then (g.D.SectorDevice.state c.args.device.now) (g.D.SectorDevice.state c.find_checkpoint.new.device)
-    (g.D.SectorDevice.state c.check.new.device) (g.D.SectorDevice.state c.load_tables.new.device)
-    c.find_checkpoint.ensures.keeps.looks c.check.ensures.keeps.looks c.load_tables.ensures.looks c.in_ok-checkpoint.checkpoint
-    c.in_ok-checkpoint.ensures.found c.in_ok-walked.walked.0 c.in_ok-walked.walked.1
+    only_then c.find_checkpoint.ensures.keeps.looks c.check.ensures.keeps.looks c.load_tables.ensures.looks c.in_ok-checkpoint.ensures.found
     c.in_ok-walked.ensures.holds c.in_ok-checkpoint.ensures.durable

@@ -7,7 +7,7 @@ use Rattle.lfs_verify.proofs.walk.walk_all.Goals as goal
 
 pub returns-in-Err-clause-damaged : goal.returns-in-Err-clause-damaged
 returns-in-Err-clause-damaged g c = λ d reads code is.
-    let passed = passed_start _ _ (g.met.D.SectorDevice.lawful c.args.device.now) d reads c.args.checkpoint.now c.requires.fits
+    let passed = passed_start (g.met.D.SectorDevice.lawful c.args.device.now) reads c.requires.fits
     c.args.marks.now c.requires.marks c.requires.unmarked in
     c.in-Err.ensures.damaged d reads passed code is
 
@@ -21,9 +21,9 @@ returns-in-Err-walk_inodes-clause-damaged g c = λ d reads code is.
     let l2 = c.walk_inodes.ensures.keeps.looks in
     let m1 = l1 in
     let r2 = reads in
-    let r1 = reads_first s0 s1 s2 d r2 l2 in
-    let q2 = reads_then s0 s1 s2 d r2 m1 in
-    let p0 = passed_start _ _ (g.met.D.SectorDevice.lawful c.args.device.now) d reads c.args.checkpoint.now c.requires.fits c.args.marks.now
+    let r1 = reads_first r2 l2 in
+    let q2 = reads_then r2 m1 in
+    let p0 = passed_start (g.met.D.SectorDevice.lawful c.args.device.now) reads c.requires.fits c.args.marks.now
     c.requires.marks c.requires.unmarked in
     let p1 = c.in-Ok.ensures.holds d r1 p0 in
     let tables = c.in-Ok.ensures.tables d r1 p0 in
@@ -41,13 +41,13 @@ returns-in-Err-walk_files-clause-damaged g c = λ d reads code is.
     let l2 = c.walk_inodes.ensures.keeps.looks in
     let l3 = c.walk_files.ensures.keeps.looks in
     let m1 = l1 in
-    let m2 = looks_then s0 s1 s2 m1 l2 in
+    let m2 = looks_then m1 l2 in
     let r3 = reads in
-    let r2 = reads_first s0 s2 s3 d r3 l3 in
-    let r1 = reads_first s0 s1 s2 d r2 l2 in
-    let q2 = reads_then s0 s1 s2 d r2 m1 in
-    let q3 = reads_then s0 s2 s3 d r3 m2 in
-    let p0 = passed_start _ _ (g.met.D.SectorDevice.lawful c.args.device.now) d reads c.args.checkpoint.now c.requires.fits c.args.marks.now
+    let r2 = reads_first r3 l3 in
+    let r1 = reads_first r2 l2 in
+    let q2 = reads_then r2 m1 in
+    let q3 = reads_then r3 m2 in
+    let p0 = passed_start (g.met.D.SectorDevice.lawful c.args.device.now) reads c.requires.fits c.args.marks.now
     c.requires.marks c.requires.unmarked in
     let p1 = c.in-Ok.ensures.holds d r1 p0 in
     let tables = c.in-Ok.ensures.tables d r1 p0 in
@@ -68,13 +68,13 @@ returns-in-Err-walk_segments-clause-damaged g c = λ d reads code is.
     let l2 = c.walk_inodes.ensures.keeps.looks in
     let l3 = c.walk_files.ensures.keeps.looks in
     let m1 = l1 in
-    let m2 = looks_then s0 s1 s2 m1 l2 in
+    let m2 = looks_then m1 l2 in
     let r3 = reads in
-    let r2 = reads_first s0 s2 s3 d r3 l3 in
-    let r1 = reads_first s0 s1 s2 d r2 l2 in
-    let q2 = reads_then s0 s1 s2 d r2 m1 in
-    let q3 = reads_then s0 s2 s3 d r3 m2 in
-    let p0 = passed_start _ _ (g.met.D.SectorDevice.lawful c.args.device.now) d reads c.args.checkpoint.now c.requires.fits c.args.marks.now
+    let r2 = reads_first r3 l3 in
+    let r1 = reads_first r2 l2 in
+    let q2 = reads_then r2 m1 in
+    let q3 = reads_then r3 m2 in
+    let p0 = passed_start (g.met.D.SectorDevice.lawful c.args.device.now) reads c.requires.fits c.args.marks.now
     c.requires.marks c.requires.unmarked in
     let p1 = c.in-Ok.ensures.holds d r1 p0 in
     let tables = c.in-Ok.ensures.tables d r1 p0 in
@@ -96,13 +96,13 @@ returns-clause-holds g c = λ d reads.
     let l2 = c.walk_inodes.ensures.keeps.looks in
     let l3 = c.walk_files.ensures.keeps.looks in
     let m1 = l1 in
-    let m2 = looks_then s0 s1 s2 m1 l2 in
+    let m2 = looks_then m1 l2 in
     let r3 = reads in
-    let r2 = reads_first s0 s2 s3 d r3 l3 in
-    let r1 = reads_first s0 s1 s2 d r2 l2 in
-    let q2 = reads_then s0 s1 s2 d r2 m1 in
-    let q3 = reads_then s0 s2 s3 d r3 m2 in
-    let p0 = passed_start _ _ (g.met.D.SectorDevice.lawful c.args.device.now) d reads c.args.checkpoint.now c.requires.fits c.args.marks.now
+    let r2 = reads_first r3 l3 in
+    let r1 = reads_first r2 l2 in
+    let q2 = reads_then r2 m1 in
+    let q3 = reads_then r3 m2 in
+    let p0 = passed_start (g.met.D.SectorDevice.lawful c.args.device.now) reads c.requires.fits c.args.marks.now
     c.requires.marks c.requires.unmarked in
     let p1 = c.in-Ok.ensures.holds d r1 p0 in
     let tables = c.in-Ok.ensures.tables d r1 p0 in
@@ -125,13 +125,13 @@ returns-clause-counts g c = λ d reads.
     let l2 = c.walk_inodes.ensures.keeps.looks in
     let l3 = c.walk_files.ensures.keeps.looks in
     let m1 = l1 in
-    let m2 = looks_then s0 s1 s2 m1 l2 in
+    let m2 = looks_then m1 l2 in
     let r3 = reads in
-    let r2 = reads_first s0 s2 s3 d r3 l3 in
-    let r1 = reads_first s0 s1 s2 d r2 l2 in
-    let q2 = reads_then s0 s1 s2 d r2 m1 in
-    let q3 = reads_then s0 s2 s3 d r3 m2 in
-    let p0 = passed_start _ _ (g.met.D.SectorDevice.lawful c.args.device.now) d reads c.args.checkpoint.now c.requires.fits c.args.marks.now
+    let r2 = reads_first r3 l3 in
+    let r1 = reads_first r2 l2 in
+    let q2 = reads_then r2 m1 in
+    let q3 = reads_then r3 m2 in
+    let p0 = passed_start (g.met.D.SectorDevice.lawful c.args.device.now) reads c.requires.fits c.args.marks.now
     c.requires.marks c.requires.unmarked in
     let p1 = c.in-Ok.ensures.holds d r1 p0 in
     let tables = c.in-Ok.ensures.tables d r1 p0 in
@@ -141,4 +141,4 @@ returns-clause-counts g c = λ d reads.
     let keeps = subst (KeepsInodes d c.walk_inodes.new.map) (sym c.deref.ensures.value) (c.in-Ok-walk_inodes.ensures.kept d q2) in
     let p3 = c.in-Ok-walk_files.ensures.holds d c.args.checkpoint.now q3 lists keeps p2 in
     λ m st. c.count_totals-totals.ensures d c.args.checkpoint.now
-    (sized_content s0 s3 (g.met.D.SectorDevice.lawful c.args.device.now) d reads) m st p3.walked
+    (sized_content (g.met.D.SectorDevice.lawful c.args.device.now) d reads) m st p3.walked

@@ -15,11 +15,11 @@ returns-in-Ok-false-clause-damaged g c = λ d k reads lists keeps passed code is
     let s1 = g.D.SectorDevice.state c.walk_pointers.new.device in
     let s2 = g.D.SectorDevice.state c.stage_data.new.device in
     let v = view d k in
-    let pointers = c.in-Ok.ensures.holds d k (reads_first s0 s1 s2 d reads c.stage_data.ensures.keeps.looks) passed.bounded lists keeps
+    let pointers = c.in-Ok.ensures.holds d k (reads_first reads c.stage_data.ensures.keeps.looks) passed.bounded lists keeps
     passed.below passed.walked in
-    let six = passed_pointers v _ passed.bounded pointers in
-    let goes = c.in-Ok-false.ensures.goes d k (reads_then s0 s1 s2 d reads c.walk_pointers.ensures.keeps.looks) lists keeps in
-    walk_fails v 7 (Blocks v) (stage_7 v) _ _ six _ _ _ c.in-Ok-false.field-0-test goes code is
+    let six = passed_pointers passed.bounded pointers in
+    let goes = c.in-Ok-false.ensures.goes d k (reads_then reads c.walk_pointers.ensures.keeps.looks) lists keeps in
+    walk_fails (Blocks v) (stage_7 v) six _ _ c.in-Ok-false.field-0-test goes is
 
 pub returns-in-Ok-true-clause-holds : goal.returns-in-Ok-true-clause-holds
 returns-in-Ok-true-clause-holds g c = λ d k reads lists keeps passed.
@@ -27,8 +27,8 @@ returns-in-Ok-true-clause-holds g c = λ d k reads lists keeps passed.
     let s1 = g.D.SectorDevice.state c.walk_pointers.new.device in
     let s2 = g.D.SectorDevice.state c.stage_data.new.device in
     let v = view d k in
-    let pointers = c.in-Ok.ensures.holds d k (reads_first s0 s1 s2 d reads c.stage_data.ensures.keeps.looks) passed.bounded lists keeps
+    let pointers = c.in-Ok.ensures.holds d k (reads_first reads c.stage_data.ensures.keeps.looks) passed.bounded lists keeps
     passed.below passed.walked in
-    let six = passed_pointers v _ passed.bounded pointers in
-    let goes = c.in-Ok-true.ensures.goes d k (reads_then s0 s1 s2 d reads c.walk_pointers.ensures.keeps.looks) lists keeps in
-    walk_pass v 7 (Blocks v) (stage_7 v) _ _ six _ _ _ c.in-Ok-true.field-0-test goes (λ w bounded. blocks_of v _ w bounded)
+    let six = passed_pointers passed.bounded pointers in
+    let goes = c.in-Ok-true.ensures.goes d k (reads_then reads c.walk_pointers.ensures.keeps.looks) lists keeps in
+    walk_pass (Blocks v) (stage_7 v) six _ _ c.in-Ok-true.field-0-test goes (λ w bounded. blocks_of v _ w bounded)

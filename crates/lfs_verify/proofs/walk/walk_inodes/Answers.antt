@@ -8,7 +8,7 @@ use Rattle.lfs_verify.proofs.walk.walk_inodes.Goals as goal
 pub returns-in-Ok-false-clause-damaged : goal.returns-in-Ok-false-clause-damaged
 returns-in-Ok-false-clause-damaged g c = λ d reads passed code is.
     let v = view d c.args.checkpoint.now in
-    walk_fails v 3 (Maps v) (stage_3 v) _ _ passed _ _ _ c.in-Ok-false.field-0-test (c.in-Ok-false.ensures.goes d reads) code is
+    walk_fails (Maps v) (stage_3 v) passed _ _ c.in-Ok-false.field-0-test (c.in-Ok-false.ensures.goes d reads) is
 
 pub returns-in-Ok-false-stage_inodes-clause-damaged : goal.returns-in-Ok-false-stage_inodes-clause-damaged
 returns-in-Ok-false-stage_inodes-clause-damaged g c = λ d reads passed code is.
@@ -16,13 +16,13 @@ returns-in-Ok-false-stage_inodes-clause-damaged g c = λ d reads passed code is.
     let s1 = g.D.SectorDevice.state c.stage_maps.new.device in
     let s2 = g.D.SectorDevice.state c.stage_inodes.new.device in
     let v = view d c.args.checkpoint.now in
-    let reads1 = reads_first s0 s1 s2 d reads c.stage_inodes.ensures.keeps.looks in
-    let reads2 = reads_then s0 s1 s2 d reads c.stage_maps.ensures.keeps.looks in
+    let reads1 = reads_first reads c.stage_inodes.ensures.keeps.looks in
+    let reads2 = reads_then reads c.stage_maps.ensures.keeps.looks in
     let lists = c.in-Ok-true.ensures.lists c.in-Ok-true.field-0-test d reads1 in
-    let one = walk_pass v 3 (Maps v) (stage_3 v) _ _ passed _ _ _ c.in-Ok-true.field-0-test (c.in-Ok-true.ensures.goes d reads1)
+    let one = walk_pass (Maps v) (stage_3 v) passed _ _ c.in-Ok-true.field-0-test (c.in-Ok-true.ensures.goes d reads1)
     (λ w bounded. c.in-Ok-true.ensures.holds c.in-Ok-true.field-0-test d reads1 bounded passed.walked) in
-    walk_fails v 4 (Inodes v) (stage_4 v) _ _ one _ _ _ c.in-Ok-false-stage_inodes.field-0-test
-    (c.in-Ok-false-stage_inodes.ensures.goes d c.args.checkpoint.now reads2 (sym c.version_of-version.ensures) lists) code is
+    walk_fails (Inodes v) (stage_4 v) one _ _ c.in-Ok-false-stage_inodes.field-0-test
+    (c.in-Ok-false-stage_inodes.ensures.goes d c.args.checkpoint.now reads2 (sym c.version_of-version.ensures) lists) is
 
 pub returns-in-Ok-true-stage_inodes-clause-holds : goal.returns-in-Ok-true-stage_inodes-clause-holds
 returns-in-Ok-true-stage_inodes-clause-holds g c = λ d reads passed.
@@ -30,12 +30,12 @@ returns-in-Ok-true-stage_inodes-clause-holds g c = λ d reads passed.
     let s1 = g.D.SectorDevice.state c.stage_maps.new.device in
     let s2 = g.D.SectorDevice.state c.stage_inodes.new.device in
     let v = view d c.args.checkpoint.now in
-    let reads1 = reads_first s0 s1 s2 d reads c.stage_inodes.ensures.keeps.looks in
-    let reads2 = reads_then s0 s1 s2 d reads c.stage_maps.ensures.keeps.looks in
+    let reads1 = reads_first reads c.stage_inodes.ensures.keeps.looks in
+    let reads2 = reads_then reads c.stage_maps.ensures.keeps.looks in
     let lists = c.in-Ok-true.ensures.lists c.in-Ok-true.field-0-test d reads1 in
-    let one = walk_pass v 3 (Maps v) (stage_3 v) _ _ passed _ _ _ c.in-Ok-true.field-0-test (c.in-Ok-true.ensures.goes d reads1)
+    let one = walk_pass (Maps v) (stage_3 v) passed _ _ c.in-Ok-true.field-0-test (c.in-Ok-true.ensures.goes d reads1)
     (λ w bounded. c.in-Ok-true.ensures.holds c.in-Ok-true.field-0-test d reads1 bounded passed.walked) in
-    walk_pass v 4 (Inodes v) (stage_4 v) _ _ one _ _ _ c.in-Ok-true-stage_inodes.field-0-test
+    walk_pass (Inodes v) (stage_4 v) one _ _ c.in-Ok-true-stage_inodes.field-0-test
     (c.in-Ok-true-stage_inodes.ensures.goes d c.args.checkpoint.now reads2 (sym c.version_of-version.ensures) lists)
     (λ w bounded. c.in-Ok-true-stage_inodes.ensures.holds c.in-Ok-true-stage_inodes.field-0-test d c.args.checkpoint.now reads2
     (sym c.version_of-version.ensures) lists bounded one.walked)
@@ -45,12 +45,11 @@ returns-in-Ok-true-stage_inodes-clause-lists g c = λ d reads.
     let s0 = g.D.SectorDevice.state c.args.device.now in
     let s1 = g.D.SectorDevice.state c.stage_maps.new.device in
     let s2 = g.D.SectorDevice.state c.stage_inodes.new.device in
-    c.in-Ok-true.ensures.lists c.in-Ok-true.field-0-test d (reads_first s0 s1 s2 d reads c.stage_inodes.ensures.keeps.looks)
+    c.in-Ok-true.ensures.lists c.in-Ok-true.field-0-test d (reads_first reads c.stage_inodes.ensures.keeps.looks)
 
 pub returns-in-Ok-true-stage_inodes-clause-kept : goal.returns-in-Ok-true-stage_inodes-clause-kept
 returns-in-Ok-true-stage_inodes-clause-kept g c = λ d reads.
     let s0 = g.D.SectorDevice.state c.args.device.now in
     let s1 = g.D.SectorDevice.state c.stage_maps.new.device in
     let s2 = g.D.SectorDevice.state c.stage_inodes.new.device in
-    c.in-Ok-true-stage_inodes.ensures.kept c.in-Ok-true-stage_inodes.field-0-test d
-    (reads_then s0 s1 s2 d reads c.stage_maps.ensures.keeps.looks)
+    c.in-Ok-true-stage_inodes.ensures.kept c.in-Ok-true-stage_inodes.field-0-test d (reads_then reads c.stage_maps.ensures.keeps.looks)

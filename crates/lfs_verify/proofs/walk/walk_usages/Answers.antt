@@ -8,7 +8,7 @@ use Rattle.lfs_verify.proofs.walk.walk_usages.Goals as goal
 pub returns-in-Ok-false-clause-damaged : goal.returns-in-Ok-false-clause-damaged
 returns-in-Ok-false-clause-damaged g c = λ d reads passed code is.
     let v = view d c.args.checkpoint.now in
-    walk_fails v 1 (Usages v) (stage_1 v) _ _ passed _ _ _ c.in-Ok-false.field-0-test (c.in-Ok-false.ensures.goes d reads) code is
+    walk_fails (Usages v) (stage_1 v) passed _ _ c.in-Ok-false.field-0-test (c.in-Ok-false.ensures.goes d reads) is
 
 pub returns-in-Ok-false-stage_rows-clause-damaged : goal.returns-in-Ok-false-stage_rows-clause-damaged
 returns-in-Ok-false-stage_rows-clause-damaged g c = λ d reads passed code is.
@@ -16,15 +16,14 @@ returns-in-Ok-false-stage_rows-clause-damaged g c = λ d reads passed code is.
     let s1 = g.D.SectorDevice.state c.stage_usages.new.device in
     let s2 = g.D.SectorDevice.state c.stage_rows.new.device in
     let v = view d c.args.checkpoint.now in
-    let reads1 = reads_first s0 s1 s2 d reads c.stage_rows.ensures.keeps.looks in
+    let reads1 = reads_first reads c.stage_rows.ensures.keeps.looks in
     let usages = c.in-Ok-true.ensures.holds c.in-Ok-true.field-0-test d reads1 passed.bounded passed.walked in
     let says = c.in-Ok-true.ensures.says c.in-Ok-true.field-0-test d reads1 in
-    let used = used_says v _ _ usages (c.stage_usages.ensures.lengths.used ∙ c.requires.used) says in
-    let one = walk_pass v 1 (Usages v) (stage_1 v) _ _ passed _ _ _ c.in-Ok-true.field-0-test (c.in-Ok-true.ensures.goes d reads1)
+    let used = used_says _ _ usages (c.stage_usages.ensures.lengths.used ∙ c.requires.used) says in
+    let one = walk_pass (Usages v) (stage_1 v) passed _ _ c.in-Ok-true.field-0-test (c.in-Ok-true.ensures.goes d reads1)
     (λ w bounded. usages) in
-    look_fails v 2 (IsRows v) (stage_2 v) _ _ one _ c.in-Ok-false-stage_rows.field-0-test
-    (c.in-Ok-false-stage_rows.ensures.rows d c.args.checkpoint.now (reads_then s0 s1 s2 d reads c.stage_usages.ensures.keeps.looks) used)
-    code is
+    look_fails (IsRows v) (stage_2 v) one c.in-Ok-false-stage_rows.field-0-test
+    (c.in-Ok-false-stage_rows.ensures.rows d c.args.checkpoint.now (reads_then reads c.stage_usages.ensures.keeps.looks) used) is
 
 pub returns-in-Ok-true-stage_rows-clause-holds : goal.returns-in-Ok-true-stage_rows-clause-holds
 returns-in-Ok-true-stage_rows-clause-holds g c = λ d reads passed.
@@ -32,14 +31,14 @@ returns-in-Ok-true-stage_rows-clause-holds g c = λ d reads passed.
     let s1 = g.D.SectorDevice.state c.stage_usages.new.device in
     let s2 = g.D.SectorDevice.state c.stage_rows.new.device in
     let v = view d c.args.checkpoint.now in
-    let reads1 = reads_first s0 s1 s2 d reads c.stage_rows.ensures.keeps.looks in
+    let reads1 = reads_first reads c.stage_rows.ensures.keeps.looks in
     let usages = c.in-Ok-true.ensures.holds c.in-Ok-true.field-0-test d reads1 passed.bounded passed.walked in
     let says = c.in-Ok-true.ensures.says c.in-Ok-true.field-0-test d reads1 in
-    let used = used_says v _ _ usages (c.stage_usages.ensures.lengths.used ∙ c.requires.used) says in
-    let one = walk_pass v 1 (Usages v) (stage_1 v) _ _ passed _ _ _ c.in-Ok-true.field-0-test (c.in-Ok-true.ensures.goes d reads1)
+    let used = used_says _ _ usages (c.stage_usages.ensures.lengths.used ∙ c.requires.used) says in
+    let one = walk_pass (Usages v) (stage_1 v) passed _ _ c.in-Ok-true.field-0-test (c.in-Ok-true.ensures.goes d reads1)
     (λ w bounded. usages) in
-    look_pass v 2 (IsRows v) (stage_2 v) _ _ one _ c.in-Ok-true-stage_rows.field-0-test
-    (c.in-Ok-true-stage_rows.ensures.rows d c.args.checkpoint.now (reads_then s0 s1 s2 d reads c.stage_usages.ensures.keeps.looks) used)
+    look_pass (IsRows v) (stage_2 v) one c.in-Ok-true-stage_rows.field-0-test
+    (c.in-Ok-true-stage_rows.ensures.rows d c.args.checkpoint.now (reads_then reads c.stage_usages.ensures.keeps.looks) used)
 
 pub returns-in-Ok-true-stage_rows-clause-tables : goal.returns-in-Ok-true-stage_rows-clause-tables
 returns-in-Ok-true-stage_rows-clause-tables g c = λ d reads passed.
@@ -47,10 +46,10 @@ returns-in-Ok-true-stage_rows-clause-tables g c = λ d reads passed.
     let s1 = g.D.SectorDevice.state c.stage_usages.new.device in
     let s2 = g.D.SectorDevice.state c.stage_rows.new.device in
     let v = view d c.args.checkpoint.now in
-    let reads1 = reads_first s0 s1 s2 d reads c.stage_rows.ensures.keeps.looks in
+    let reads1 = reads_first reads c.stage_rows.ensures.keeps.looks in
     let usages = c.in-Ok-true.ensures.holds c.in-Ok-true.field-0-test d reads1 passed.bounded passed.walked in
     let says = c.in-Ok-true.ensures.says c.in-Ok-true.field-0-test d reads1 in
-    let used = used_says v _ _ usages (c.stage_usages.ensures.lengths.used ∙ c.requires.used) says in
+    let used = used_says _ _ usages (c.stage_usages.ensures.lengths.used ∙ c.requires.used) says in
     (used, live_says v _ _ (c.stage_usages.ensures.lengths.live ∙ c.requires.live) says)
 
 pub returns-in-Ok-true-stage_rows-clause-labels : goal.returns-in-Ok-true-stage_rows-clause-labels
@@ -59,9 +58,9 @@ returns-in-Ok-true-stage_rows-clause-labels g c = λ d reads passed.
     let s1 = g.D.SectorDevice.state c.stage_usages.new.device in
     let s2 = g.D.SectorDevice.state c.stage_rows.new.device in
     let v = view d c.args.checkpoint.now in
-    let reads1 = reads_first s0 s1 s2 d reads c.stage_rows.ensures.keeps.looks in
+    let reads1 = reads_first reads c.stage_rows.ensures.keeps.looks in
     let usages = c.in-Ok-true.ensures.holds c.in-Ok-true.field-0-test d reads1 passed.bounded passed.walked in
     let says = c.in-Ok-true.ensures.says c.in-Ok-true.field-0-test d reads1 in
-    let used = used_says v _ _ usages (c.stage_usages.ensures.lengths.used ∙ c.requires.used) says in
+    let used = used_says _ _ usages (c.stage_usages.ensures.lengths.used ∙ c.requires.used) says in
     c.in-Ok-true-stage_rows.ensures.labels c.in-Ok-true-stage_rows.field-0-test d c.args.checkpoint.now
-    (reads_then s0 s1 s2 d reads c.stage_usages.ensures.keeps.looks) used
+    (reads_then reads c.stage_usages.ensures.keeps.looks) used

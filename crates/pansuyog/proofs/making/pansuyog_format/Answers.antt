@@ -4,7 +4,6 @@ use Rattle.pansuyog.proofs.making.pansuyog_format.Goals as goal
 
 pub returns : goal.returns
 returns c =
-    make_tried c.volume-volume.result.now c.args.volume.now.value _ c.args.room c.args.segments c.args.version _ c.in-Ok.device
-    c.make_on-code.new.device
+    make_tried _ _ c.in-Ok.device c.make_on-code.new.device
     c.volume-volume.ensures.value c.in-Ok.ensures.unmounted c.in-Ok.ensures.taken c.in-Ok.ensures.listing c.in-Ok.ensures.fs refl
     (search rules)

@@ -6,6 +6,4 @@ use Rattle.pansuyog.proofs.orders.pansuyog_run.Goals as goal
 
 pub returns-in-Some-clause-told : goal.returns-in-Some-clause-told
 returns-in-Some-clause-told c =
-    run_by (device_in c.args.volume.now.value) c.in-Some.device.now
-    (sym (ap (λ (v : Volume). device_in v) c.volume.ensures.value) ∙ c.in-Some.ensures.some)
-    c.args.number _ c.args.first.now c.tell_run.new.first c.args.out.now c.tell_run.new.out (search rules)
+    run_by (sym (ap (λ (v : Volume). device_in v) c.volume.ensures.value) ∙ c.in-Some.ensures.some) _ (search rules)

@@ -18,23 +18,21 @@ returns-in_err-read-clause-agrees g c =
     let old = g.D.SectorDevice.state c.args.self.now.device in
     let new = g.D.SectorDevice.state c.read.new.self in
     let kept = c.args.self.now.kept in
-    rw (missed kept c.promote.new.self c.args.sector c.promote.result c.promote.ensures.entries c.promote.ensures.value c.if-promote.false)
-    (agrees-untouched kept old new c.read.ensures.untouched c.read.ensures.carries c.requires.agrees)
+    rw (missed kept c.args.sector c.promote.ensures.entries c.promote.ensures.value c.if-promote.false)
+    (agrees-untouched kept c.read.ensures.untouched c.read.ensures.carries c.requires.agrees)
 
 pub returns-in_err-read-clause-unkept : goal.returns-in_err-read-clause-unkept
 returns-in_err-read-clause-unkept g c =
     at_err c.from_residual.result (c.promote.new.self ≡ c.args.self.now.kept)
-    (missed c.args.self.now.kept c.promote.new.self c.args.sector c.promote.result c.promote.ensures.entries c.promote.ensures.value
-    c.if-promote.false)
+    (missed c.args.self.now.kept c.args.sector c.promote.ensures.entries c.promote.ensures.value c.if-promote.false)
 
 pub returns-clause-agrees : goal.returns-clause-agrees
 returns-clause-agrees g c =
     let old = g.D.SectorDevice.state c.args.self.now.device in
     let new = g.D.SectorDevice.state c.read.new.self in
     let kept = c.args.self.now.kept in
-    let same = missed kept c.promote.new.self c.args.sector c.promote.result c.promote.ensures.entries c.promote.ensures.value
-    c.if-promote.false in
-    let before = agrees-untouched kept old new c.read.ensures.untouched c.read.ensures.carries c.requires.agrees in
+    let same = missed kept c.args.sector c.promote.ensures.entries c.promote.ensures.value c.if-promote.false in
+    let before = agrees-untouched kept c.read.ensures.untouched c.read.ensures.carries c.requires.agrees in
     agrees-also kept c.keep.new.kept c.args.sector c.read.new.out new
     (subst (λ k. KeepsAlso c.args.sector c.read.new.out k c.keep.new.kept) same c.keep.ensures)
     (λ keeps t w apart h. before keeps t w h)
@@ -42,6 +40,5 @@ returns-clause-agrees g c =
 
 pub returns-clause-kept : goal.returns-clause-kept
 returns-clause-kept g c =
-    let same = missed c.args.self.now.kept c.promote.new.self c.args.sector c.promote.result c.promote.ensures.entries
-    c.promote.ensures.value c.if-promote.false in
+    let same = missed c.args.self.now.kept c.args.sector c.promote.ensures.entries c.promote.ensures.value c.if-promote.false in
     λ none. subst (λ k. KeepsAlso c.args.sector c.read.new.out k c.keep.new.kept) same c.keep.ensures

@@ -8,7 +8,7 @@ returns-in-Ok-clause-agrees g c =
     let new = g.D.SectorDevice.state c.write.new.self in
     let law = g.met.D.SectorDevice.lawful c.args.self.now.device in
     agrees-also c.args.self.now.kept c.keep.new.kept c.args.sector c.args.bytes.now new c.keep.ensures
-    (elsewhere_after_write c.args.self.now.kept c.args.sector c.args.bytes.now old new c.requires.agrees c.write.ensures.carries
+    (elsewhere_after_write c.args.self.now.kept {s = c.args.sector} {v = c.args.bytes.now} c.requires.agrees c.write.ensures.carries
     (λ keeps. left_new (c.in-Ok.ensures.written keeps)))
     (λ keeps. rw (c.in-Ok.ensures.written keeps) (cell_at-put old.content c.args.sector c.args.bytes.now (rw law.size c.requires.within)))
 
@@ -17,5 +17,4 @@ returns-in-Err-clause-agrees g c =
     let old = g.D.SectorDevice.state c.args.self.now.device in
     let new = g.D.SectorDevice.state c.write.new.self in
     rw c.forget.ensures.others (agrees-without c.args.self.now.kept c.args.sector new (rw c.forget.ensures.others at c.forget.ensures.gone)
-    (elsewhere_after_write c.args.self.now.kept c.args.sector c.args.bytes.now old new c.requires.agrees c.write.ensures.carries
-    c.in-Err.ensures.failed_write))
+    (elsewhere_after_write c.args.self.now.kept c.requires.agrees c.write.ensures.carries c.in-Err.ensures.failed_write))

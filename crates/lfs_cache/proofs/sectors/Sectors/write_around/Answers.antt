@@ -8,5 +8,4 @@ returns-clause-agrees g c =
     let left = may_write c.write_around.result c.args.sector c.args.bytes.now old new c.write_around.ensures.written
     c.write_around.ensures.failed_write in
     rw c.forget.ensures.others (agrees-without c.args.self.now.kept c.args.sector new (rw c.forget.ensures.others at c.forget.ensures.gone)
-    (elsewhere_after_write c.args.self.now.kept c.args.sector c.args.bytes.now old new c.requires.agrees c.write_around.ensures.carries
-    left))
+    (elsewhere_after_write c.args.self.now.kept c.requires.agrees c.write_around.ensures.carries left))

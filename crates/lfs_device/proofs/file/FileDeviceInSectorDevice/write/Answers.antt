@@ -3,7 +3,7 @@ use Rattle.lfs_device.proofs.file.FileDeviceInSectorDevice.write.Goals as goal
 
 pub returns-then-is_err-clause-carries : goal.returns-then-is_err-clause-carries
 returns-then-is_err-clause-carries g c =
-    call_carries (g.W.World.fate c.args.self.now.opened.value c.args.self.now.sectors) _ _ _ c.note.ensures
+    call_carries (g.W.World.fate c.args.self.now.opened.value c.args.self.now.sectors) _ _ c.note.ensures
 
 pub returns-clause-carries : goal.returns-clause-carries
-returns-clause-carries g c = call_carries (g.W.World.fate c.args.self.now.opened.value c.args.self.now.sectors) _ _ _ c.note-2.ensures
+returns-clause-carries g c = call_carries (g.W.World.fate c.args.self.now.opened.value c.args.self.now.sectors) _ _ c.note-2.ensures

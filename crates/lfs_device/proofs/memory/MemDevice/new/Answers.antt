@@ -8,7 +8,7 @@ use Rattle.lfs_device.proofs.memory.MemDevice.new.Goals as goal
 
 pub returns-clause-zeros : goal.returns-clause-zeros
 returns-clause-zeros c =
-    present_if_new _ _ _ (c.in_ok-from_elem.ensures.items_if_clones_equal (λ y is. search rules)
+    present_if_new _ _ (c.in_ok-from_elem.ensures.items_if_clones_equal (λ y is. search rules)
     ∙ ap (λ (r : Row). replicate c.args.sectors r) c.stands.ensures)
 
 pub returns-clause-durable : goal.returns-clause-durable
@@ -18,10 +18,10 @@ returns-clause-durable c =
 
 pub invariant_of-result-clause-whole : goal.invariant_of-result-clause-whole
 invariant_of-result-clause-whole c =
-    whole_if_new _ _ _ zeros_are_bytes
+    whole_if_new _ _ zeros_are_bytes
     (c.in_ok-from_elem.ensures.items_if_clones_equal (λ y is. search rules) ∙ ap (λ (r : Row). replicate c.args.sectors r) c.stands.ensures)
 
 pub invariant_of-result-clause-listed : goal.invariant_of-result-clause-listed
 invariant_of-result-clause-listed c =
-    none_if_new _ _ _ _ c.in_ok-with_capacity.ensures.items
+    none_if_new _ _ _ c.in_ok-with_capacity.ensures.items
     (c.in_ok-from_elem.ensures.items_if_clones_equal (λ y is. search rules) ∙ ap (λ (r : Row). replicate c.args.sectors r) c.stands.ensures)

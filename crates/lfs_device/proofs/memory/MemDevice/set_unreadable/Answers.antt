@@ -9,10 +9,10 @@ pub returns-clause-lost : goal.returns-clause-lost
 returns-clause-lost c = lost_row _ _ _ c.stands.ensures
 
 pub returns-clause-durable : goal.returns-clause-durable
-returns-clause-durable c = lost_leaves _ _ _ c.note.ensures _ _ c.stands.ensures
+returns-clause-durable c = lost_leaves c.note.ensures _ _ c.stands.ensures
 
 pub invariant_of-self-clause-listed : goal.invariant_of-self-clause-listed
-invariant_of-self-clause-listed c = let_go_of _ _ _ c.args.self.now.listed c.requires _ _ c.let_go.ensures.others c.stands.ensures
+invariant_of-self-clause-listed c = let_go_of _ c.args.self.now.listed c.requires _ c.let_go.ensures.others c.stands.ensures
 
 pub invariant_of-self-clause-room : goal.invariant_of-self-clause-room
 invariant_of-self-clause-room c =

@@ -12,18 +12,17 @@ invariant_of-self c =
     record {
       sized = c.args.self.now.sized ∙ sym same;
       fits = omega (arith, same, c.args.self.now.fits);
-      whole = whole_after_stop _ _ _ _ c.stop_rows.ensures c.args.self.now.whole;
-      were_whole = were_whole _ _ _ c.note.ensures
-          c.args.self.now.whole c.args.self.now.were_whole;
-      listed = none_after_stop _ _ _ _ _ c.clear.ensures.items c.stop_rows.ensures;
+      whole = whole_after_stop _ _ _ c.stop_rows.ensures c.args.self.now.whole;
+      were_whole = were_whole c.note.ensures c.args.self.now.whole c.args.self.now.were_whole;
+      listed = none_after_stop _ _ _ _ c.clear.ensures.items c.stop_rows.ensures;
       room = (let kept = c.clear.ensures.capacity in let room = c.args.self.now.room in omega (arith, same, kept, room));
     }
 
 pub returns : goal.returns
 returns c = record {
   rows = c.stop_rows.ensures;
-  chosen = chosen_by_stop _ _ _ _ _ c.stop_rows.ensures;
-  durable = only_after_stop _ _ _ _ _ c.stop_rows.ensures;
+  chosen = chosen_by_stop _ _ _ _ c.stop_rows.ensures;
+  durable = only_after_stop _ _ _ _ c.stop_rows.ensures;
   same_failures = refl;
   carries = search rules;
   time = search rules;

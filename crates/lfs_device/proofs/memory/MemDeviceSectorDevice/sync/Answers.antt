@@ -14,21 +14,21 @@ returns-clause-durable c = λ kept. only_after_sync _ _ _ c.settle.ensures.rows
 
 pub returns-clause-untouched : goal.returns-clause-untouched
 returns-clause-untouched c =
-    record { content = present_after_sync _ _ c.settle.ensures.rows; crash = crash_after_sync _ _ _ _ c.settle.ensures.rows }
+    record { content = present_after_sync _ c.settle.ensures.rows; crash = crash_after_sync _ _ _ c.settle.ensures.rows }
 
 pub invariant_of-self-2-clause-whole : goal.invariant_of-self-2-clause-whole
-invariant_of-self-2-clause-whole c = whole_after_sync _ _ c.settle.ensures.rows c.args.self.now.whole
+invariant_of-self-2-clause-whole c = whole_after_sync _ c.settle.ensures.rows c.args.self.now.whole
 
 pub invariant_of-self-2-clause-were_whole : goal.invariant_of-self-2-clause-were_whole
-invariant_of-self-2-clause-were_whole c = were_whole _ _ _ c.note.ensures c.args.self.now.whole c.args.self.now.were_whole
+invariant_of-self-2-clause-were_whole c = were_whole c.note.ensures c.args.self.now.whole c.args.self.now.were_whole
 
 pub returns-clause-carries : goal.returns-clause-carries
 returns-clause-carries c =
-    change_carries _ _ _ _ _ _ _ _ (ap (λ (l : List Row). length l) c.settle.ensures.rows ∙ length-map c.args.self.now.rows.items settled)
+    change_carries _ _ _ _ _ _ _ (ap (λ (l : List Row). length l) c.settle.ensures.rows ∙ length-map c.args.self.now.rows.items settled)
     c.note.ensures (omega arith) (grows_one _ _ _ c.tell_sync.ensures)
 
 pub invariant_of-self-2-clause-listed : goal.invariant_of-self-2-clause-listed
-invariant_of-self-2-clause-listed c = none_after_sync _ _ _ c.settle.ensures.none c.settle.ensures.rows
+invariant_of-self-2-clause-listed c = none_after_sync _ _ c.settle.ensures.none c.settle.ensures.rows
 
 pub invariant_of-self-2-clause-room : goal.invariant_of-self-2-clause-room
 invariant_of-self-2-clause-room c =

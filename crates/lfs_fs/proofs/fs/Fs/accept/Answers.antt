@@ -9,8 +9,7 @@ returns-in-Err-accept-clause-refused g c =
       alloc = c.args.self.now.alloc;
       store = c.accept.new.self;
       handles = c.args.self.now.handles;
-    } c.in-Err-accept.fault c.from.result c.from.ensures
-    c.requires.running c.in-Ok.ensures.young c.in-Err-accept.ensures.accepts.kept
+    } c.in-Err-accept.fault c.from.ensures c.requires.running c.in-Ok.ensures.young c.in-Err-accept.ensures.accepts.kept
     record { room = c.in-Err-accept.ensures.accepts.told; one_commit = c.in-Err-accept.ensures.accepts.one_commit }
     (λ e. c.in-Err-accept.ensures.accepts.full (ap Err e)) (λ e. c.in-Err-accept.ensures.accepts.never (ap Err e))
     (λ e. c.in-Err-accept.ensures.accepts.memory (ap Err e)) (λ e. c.in-Err-accept.ensures.accepts.device (ap Err e))
@@ -19,6 +18,6 @@ returns-in-Err-accept-clause-refused g c =
 
 pub returns-in-Err-accept-clause-fits : goal.returns-in-Err-accept-clause-fits
 returns-in-Err-accept-clause-fits g c memory rest =
-    never_large c.in-Err-accept.fault c.from.result _ c.from.ensures c.requires.room
+    never_large c.in-Err-accept.fault _ c.from.ensures c.requires.room
     (λ e. c.in-Err-accept.ensures.accepts.fits (ap Err e) rest)
     memory

@@ -11,8 +11,8 @@ returns-in_err-begin-clause-refused g c =
 pub returns-in_err-place-clause-refused : goal.returns-in_err-place-clause-refused
 returns-in_err-place-clause-refused g c =
     let p = err_from_is_err_and c.from_residual-in_err-place.result c.from_residual-in_err-place.ensures.1 in rw (p.1, p.2)
-    (place_lacks g.D.SectorDevice.state g.met.D.SectorDevice.lawful c.args.self.now c.reach.new.self c.args.path.now
-    c.begin.new.self c.in_ok-begin.ensures.done c.in_err-place.ensures.reads (bytes_of c.args.path.now c.type_inv.path)
+    (place_lacks g.met.D.SectorDevice.lawful c.args.self.now c.reach.new.self c.args.path.now
+    c.in_ok-begin.ensures.done c.in_err-place.ensures.reads (bytes_of c.args.path.now c.type_inv.path)
     c.args.nameless c.in_err-place.field-0.0 c.in_err-place.ensures.refused)
 
 pub returns-clause-begun : goal.returns-clause-begun
@@ -20,9 +20,7 @@ returns-clause-begun g c =
     let begins = c.in_ok-begin.ensures.done in
     let found = c.in_ok-place.ensures in
     record {
-      reached = place_reached g.D.SectorDevice.state g.met.D.SectorDevice.lawful c.args.self.now c.reach.new.self c.args.path.now
-          c.begin.new.self begins found.reads (bytes_of c.args.path.now c.type_inv.path) c.in_ok-place.place.0.value
-          (Some c.in_ok-place.place.1) found.found;
-      ready = place_ready g.D.SectorDevice.state g.met.D.SectorDevice.lawful c.args.self.now c.reach.new.self c.args.path.now
-          c.begin.new.self begins found.reads;
+      reached = place_reached g.met.D.SectorDevice.lawful c.args.self.now c.reach.new.self c.args.path.now
+          begins found.reads (bytes_of c.args.path.now c.type_inv.path) found.found;
+      ready = place_ready g.met.D.SectorDevice.lawful c.args.self.now c.reach.new.self c.args.path.now begins found.reads;
     }

@@ -6,8 +6,8 @@ use Rattle.lfs_fs.proofs.fs.Fs.begin_with.Goals as goal
 pub returns-in_err-begin-clause-refused : goal.returns-in_err-begin-clause-refused
 returns-in_err-begin-clause-refused g c =
     let p = err_from_is_err_and c.from_residual.result c.from_residual.ensures.1 in rw (p.1, p.2)
-    (λ call free unclean memory steps. halted_serves g.D.SectorDevice.state c.args.self.now c.begin.new.self call
-    c.in_err-begin.field-0.0 (g.met.D.SectorDevice.lawful (seen c.args.self.now).log.device) c.in_err-begin.ensures.same
+    (λ call free unclean memory steps. halted_serves g.D.SectorDevice.state call
+    (g.met.D.SectorDevice.lawful (seen c.args.self.now).log.device) c.in_err-begin.ensures.same
     c.in_err-begin.ensures.halted c.in_err-begin.ensures.fault)
 
 pub returns-in_err-number-clause-refused : goal.returns-in_err-number-clause-refused

@@ -14,8 +14,7 @@ use Rattle.lfs_fs.proofs.fs.Fs.create.Goals as goal
 pub returns-in_err-directory : goal.returns-in_err-directory
 returns-in_err-directory g c =
     let p = err_from_is_err_and c.from_residual.result c.from_residual.ensures.1 in rw (p.1, p.2)
-    (unreached g.D.SectorDevice.state g.met.D.SectorDevice.lawful c.args.self.now c.begin_at.new.self c.args.path.now
-    (Create c.args.path.now) refl refl refl
+    (unreached g.met.D.SectorDevice.lawful c.args.self.now c.begin_at.new.self c.args.path.now (Create c.args.path.now) refl refl refl
     (λ k m0 m s keeps is r w. create_refused (segments_of (seen c.args.self.now)) s c.args.path.now r w) false
     (λ s d walk. checks_new (create_call _ _ _ d (bytes_of c.args.path.now c.type_inv.path)) s refl walk)
     c.in_err-directory.field-0.0 c.in_err-directory.ensures.refused)
@@ -24,7 +23,7 @@ pub returns-in_err-holder : goal.returns-in_err-holder
 returns-in_err-holder g c =
     let begins = c.in_ok-directory.ensures.begun in
     let p = err_from_is_err_and c.from_residual-in_err-holder.result c.from_residual-in_err-holder.ensures.1 in rw (p.1, p.2)
-    (entry_refused g.D.SectorDevice.state g.met.D.SectorDevice.lawful begins (create_call _ _ _ _ begins.reached.bytes)
+    (entry_refused g.met.D.SectorDevice.lawful begins (create_call _ _ _ _ begins.reached.bytes)
     c.check_new_entry.new.files c.in_err-holder.field-0.0 c.in_err-holder.ensures)
 
 -- no handle is free
@@ -32,7 +31,7 @@ pub returns-in_default : goal.returns-in_default
 returns-in_default g c =
     let begins = c.in_ok-directory.ensures.begun in
     let rule = c.in_ok-holder.ensures in
-    own_refused g.D.SectorDevice.state g.met.D.SectorDevice.lawful begins (create_call _ _ _ _ begins.reached.bytes)
+    own_refused g.met.D.SectorDevice.lawful begins (create_call _ _ _ _ begins.reached.bytes)
     c.check_new_entry.new.files c.in_ok-holder.holder rule tt
     (λ s handles are.
     at_most 64 _ (subst (λ (t : Handles). 64 ≤ least_handle t) (sym handles) c.in_default.ensures.full))
@@ -44,7 +43,7 @@ returns-in_default-least_free g c =
     let rule = c.in_ok-holder.ensures in
     let first = c.in-Some.ensures.first in
     let within = c.in-Some.ensures.within in
-    number_refused g.D.SectorDevice.state g.met.D.SectorDevice.lawful begins (create_call _ _ _ _ begins.reached.bytes)
+    number_refused g.met.D.SectorDevice.lawful begins (create_call _ _ _ _ begins.reached.bytes)
     c.check_new_entry.new.files c.in_ok-holder.holder rule
     (λ s handles are. (let is = ap least_handle handles ∙ first in not_at_most 64 _ (omega (arith, is, within))))
     c.in_default-least_free.ensures.none
@@ -91,9 +90,9 @@ returns g c =
     entry_opens state lawful begins create store c.in_ok-holder.holder rule (λ on. cc) c.in-Some-least_free.file.value
     c.in-Some-least_free.ensures.some
     (λ s handles are. (let is = ap least_handle handles ∙ first in not_at_most 64 _ (omega (arith, is, within))))
-    c.draft_entry-drafted.new.files draft.only.redrafts c.finish.new.self rest (Handle c.in-Some.handle) refl c.open.new.self
+    c.draft_entry-drafted.new.files draft.only.redrafts c.finish.new.self rest refl c.open.new.self
     (λ s handles are least.
     let is = ap least_handle handles ∙ first in
     (ap Handle is, (λ i. put nat_cmp (is i) (least i) ((handles ∙ sym rest) i)) ∙ sym c.open.ensures))
-    (makes_behaves state _ _ (Create c.args.path.now) (Handle c.in-Some.handle) refl refl refl)
+    (makes_behaves state (Create c.args.path.now) (Handle c.in-Some.handle) refl refl refl)
     c.draft_entry-drafted.result draft tt c.in_ok-finish.ensures.ends

@@ -14,8 +14,7 @@ use Rattle.lfs_fs.proofs.fs.Fs.mkdir.Goals as goal
 pub returns-in_err-directory : goal.returns-in_err-directory
 returns-in_err-directory g c =
     let p = err_from_is_err_and c.from_residual.result c.from_residual.ensures.1 in rw (p.1, p.2)
-    (unreached g.D.SectorDevice.state g.met.D.SectorDevice.lawful c.args.self.now c.begin_at.new.self c.args.path.now
-    (Mkdir c.args.path.now) refl refl refl
+    (unreached g.met.D.SectorDevice.lawful c.args.self.now c.begin_at.new.self c.args.path.now (Mkdir c.args.path.now) refl refl refl
     (λ k m0 m s keeps is r w. mkdir_refused (segments_of (seen c.args.self.now)) s c.args.path.now r w) true
     (λ s d walk. checks_new (mkdir_call _ _ _ d (bytes_of c.args.path.now c.type_inv.path) _ refl) s refl walk)
     c.in_err-directory.field-0.0 c.in_err-directory.ensures.refused)
@@ -24,7 +23,7 @@ pub returns-in_err-holder : goal.returns-in_err-holder
 returns-in_err-holder g c =
     let begins = c.in_ok-directory.ensures.begun in
     let p = err_from_is_err_and c.from_residual-in_err-holder.result c.from_residual-in_err-holder.ensures.1 in rw (p.1, p.2)
-    (entry_refused g.D.SectorDevice.state g.met.D.SectorDevice.lawful begins (mkdir_call _ _ _ _ begins.reached.bytes _ refl)
+    (entry_refused g.met.D.SectorDevice.lawful begins (mkdir_call _ _ _ _ begins.reached.bytes _ refl)
     c.check_new_entry.new.files c.in_err-holder.field-0.0 c.in_err-holder.ensures)
 
 -- the directory has all the links that it may have
@@ -33,7 +32,7 @@ returns-then-holder-ge-MOST_LINKS g c =
     let begins = c.in_ok-directory.ensures.begun in
     let rule = c.in_ok-holder.ensures in
     let many = c.if-holder-ge-MOST_LINKS.true in
-    own_refused g.D.SectorDevice.state g.met.D.SectorDevice.lawful begins (mkdir_call _ _ _ _ begins.reached.bytes _ refl)
+    own_refused g.met.D.SectorDevice.lawful begins (mkdir_call _ _ _ _ begins.reached.bytes _ refl)
     c.check_new_entry.new.files c.in_ok-holder.holder rule tt
     (λ s handles are. at_most 1000 _ (omega (arith, many, are)))
 
@@ -43,7 +42,7 @@ returns-in_default g c =
     let begins = c.in_ok-directory.ensures.begun in
     let rule = c.in_ok-holder.ensures in
     let few = c.if-holder-ge-MOST_LINKS.false in
-    number_refused g.D.SectorDevice.state g.met.D.SectorDevice.lawful begins (mkdir_call _ _ _ _ begins.reached.bytes _ refl)
+    number_refused g.met.D.SectorDevice.lawful begins (mkdir_call _ _ _ _ begins.reached.bytes _ refl)
     c.check_new_entry.new.files c.in_ok-holder.holder rule
     (λ s handles are. not_at_most 1000 _ (omega (arith, few, are))) c.in_default.ensures.none
 

@@ -4,20 +4,18 @@ use Rattle.lfs_fs.proofs.fs.Fs.mount.Goals as goal
 
 pub with_tables-requires-clause-found : goal.with_tables-requires-clause-found
 with_tables-requires-clause-found g c =
-    tables_there (g.D.SectorDevice.state c.in-Ok.device) (g.D.SectorDevice.state c.verify_tree.new.device) c.in-Ok-verify_tree.ensures.looks
-    c.in-Ok-verify_tree.tables c.in-Ok-verify_tree.ensures.found
+    tables_there c.in-Ok-verify_tree.ensures.looks c.in-Ok-verify_tree.ensures.found
 
 pub with_tables-requires-clause-durable : goal.with_tables-requires-clause-durable
 with_tables-requires-clause-durable g c =
-    only_there (g.D.SectorDevice.state c.in-Ok.device) (g.D.SectorDevice.state c.verify_tree.new.device) c.in-Ok-verify_tree.ensures.looks
-    c.in-Ok-verify_tree.ensures.durable
+    only_there c.in-Ok-verify_tree.ensures.looks c.in-Ok-verify_tree.ensures.durable
 
 pub returns-in-Ok-with_tables-clause-mounts : goal.returns-in-Ok-with_tables-clause-mounts
 returns-in-Ok-with_tables-clause-mounts g c =
     let told = c.in-Ok-with_tables.ensures in
     let fs : Fs g.row.D.Denot = record { alloc = c.args.alloc; store = c.in-Ok-with_tables.store; handles = c.new.result } in
     subst (λ (d : g.row.D.Denot). MountsFs g.D.SectorDevice.state d fs) c.in-Ok.ensures.same
-    (mounts_fs g.D.SectorDevice.state c.in-Ok.device c.verify_tree.new.device
+    (mounts_fs g.D.SectorDevice.state c.in-Ok.device
     (g.met.D.SectorDevice.lawful c.in-Ok.device) c.in-Ok-verify_tree.ensures.looks fs told.same told.stores told.counts
     c.in-Ok-verify_tree.ensures.durable told.saved c.new.ensures)
 
@@ -26,9 +24,9 @@ returns-in-Ok-with_tables-clause-only g c =
     let told = c.in-Ok-with_tables.ensures in
     let fs : Fs g.row.D.Denot = record { alloc = c.args.alloc; store = c.in-Ok-with_tables.store; handles = c.new.result } in
     subst (λ (d : g.row.D.Denot). FindsState g.D.SectorDevice.state d fs) c.in-Ok.ensures.same
-    (finds_state g.D.SectorDevice.state c.in-Ok.device c.verify_tree.new.device
+    (finds_state g.D.SectorDevice.state c.in-Ok.device
     (g.met.D.SectorDevice.lawful c.in-Ok.device) c.in-Ok-verify_tree.ensures.looks fs told.same told.stores told.counts
-    c.in-Ok-verify_tree.ensures.durable told.saved c.new.ensures c.in-Ok-verify_tree.tables c.in-Ok-verify_tree.ensures.found)
+    c.in-Ok-verify_tree.ensures.durable told.saved c.new.ensures c.in-Ok-verify_tree.ensures.found)
 
 pub returns-in-Ok-with_tables-clause-durable : goal.returns-in-Ok-with_tables-clause-durable
 returns-in-Ok-with_tables-clause-durable g c =
@@ -36,18 +34,18 @@ returns-in-Ok-with_tables-clause-durable g c =
     let fs : Fs g.row.D.Denot = record { alloc = c.args.alloc; store = c.in-Ok-with_tables.store; handles = c.new.result } in
     subst (λ (d : g.row.D.Denot). (g.D.SectorDevice.state (seen fs).log.device).keeps_model
     → Only (g.D.SectorDevice.state d).content (g.D.SectorDevice.state (seen fs).log.device)) c.in-Ok.ensures.same
-    (durable_now g.D.SectorDevice.state c.in-Ok.device c.verify_tree.new.device
+    (durable_now g.D.SectorDevice.state c.in-Ok.device
     (g.met.D.SectorDevice.lawful c.in-Ok.device) c.in-Ok-verify_tree.ensures.looks fs told.same told.stores told.counts
     c.in-Ok-verify_tree.ensures.durable)
 
 pub returns-in-Err-with_tables-clause-cause : goal.returns-in-Err-with_tables-clause-cause
 returns-in-Err-with_tables-clause-cause g c =
-    memory_fault (g.D.SectorDevice.state c.args.device) (g.D.SectorDevice.state c.in-Err-with_tables.fault.1) c.in-Err-with_tables.fault.0
+    memory_fault (g.D.SectorDevice.state c.args.device) (g.D.SectorDevice.state c.in-Err-with_tables.fault.1)
     c.in-Err-with_tables.ensures.refused
 
 pub returns-in-Err-with_tables-clause-reason : goal.returns-in-Err-with_tables-clause-reason
 returns-in-Err-with_tables-clause-reason g c =
-    memory_reason (g.D.SectorDevice.state c.args.device) (g.D.SectorDevice.state c.in-Err-with_tables.fault.1) c.in-Err-with_tables.fault.0
+    memory_reason (g.D.SectorDevice.state c.args.device) (g.D.SectorDevice.state c.in-Err-with_tables.fault.1)
     c.in-Err-with_tables.ensures.refused
 
 pub returns-in-Err-clause-cause : goal.returns-in-Err-clause-cause

@@ -39,4 +39,4 @@ returns g c =
     opens_file g.met.D.SectorDevice.lawful
     (looked g.met.D.SectorDevice.lawful c.in_ok-number.ensures.found c.header_of.new.files
     c.in_ok-header.ensures.reads c.in_ok-header.header c.in_ok-header.ensures.answer)
-    c.in_ok-check_file.ensures.done c.in-Some.handle free.within free.first c.open.new.self c.open.ensures
+    c.in_ok-check_file.ensures.done free.within free.first c.open.ensures

@@ -5,9 +5,8 @@ use Rattle.lfs_fs.proofs.fs.Fs.pread.Goals as goal
 
 pub returns-in_err-begin : goal.returns-in_err-begin
 returns-in_err-begin g c =
-    let p = err_from_is_err_and c.from_residual.result c.from_residual.ensures.1 in rw (p.1, p.2)
-    (halted_serves g.D.SectorDevice.state c.args.self.now c.begin.new.self
-    (Pread c.args.handle c.args.offset c.args.len) c.in_err-begin.field-0.0
+    let p = err_from_is_err_and c.from_residual.result c.from_residual.ensures.1 in rw (p.1, p.2) (halted_serves g.D.SectorDevice.state
+    (Pread c.args.handle c.args.offset c.args.len)
     (g.met.D.SectorDevice.lawful (seen c.args.self.now).log.device) c.in_err-begin.ensures.same
     c.in_err-begin.ensures.halted c.in_err-begin.ensures.fault)
 
@@ -33,5 +32,4 @@ pub returns : goal.returns
 returns g c =
     let read = c.in_ok-bytes.ensures in
     pread_gives g.met.D.SectorDevice.lawful c.in_ok-begin.ensures.done c.args.handle c.in_ok-number.ensures.opens c.read_object.new.files
-    read.only.reads
-    c.if-len-gt-LONGEST_TRANSFER.false c.in_ok-bytes.bytes.items read.answer
+    read.only.reads c.if-len-gt-LONGEST_TRANSFER.false read.answer

@@ -6,51 +6,41 @@ use Rattle.lfs_fs.proofs.fs.Fs.pwrite.Goals as goal
 pub returns-in_err-begin : goal.returns-in_err-begin
 returns-in_err-begin g c =
     let p = err_from_is_err_and c.from_residual.result c.from_residual.ensures.1 in rw (p.1, p.2)
-    (halted_begin g.D.SectorDevice.state g.met.D.SectorDevice.lawful c.args.self.now c.begin.new.self _ c.in_err-begin.field-0.0
-    c.in_err-begin.ensures.same
-    c.in_err-begin.ensures.halted c.in_err-begin.ensures.fault)
+    (halted_begin g.met.D.SectorDevice.lawful _ c.in_err-begin.ensures.same c.in_err-begin.ensures.halted c.in_err-begin.ensures.fault)
 
 pub returns-in_err-number : goal.returns-in_err-number
 returns-in_err-number g c =
     let p = err_from_is_err_and c.from_residual-in_err-number.result c.from_residual-in_err-number.ensures.1 in rw (p.1, p.2)
-    (begun g.D.SectorDevice.state g.met.D.SectorDevice.lawful c.args.self.now c.begin.new.self c.begin.new.self _ _
-    c.in_ok-begin.ensures.done
-    (write_unopened g.D.SectorDevice.state g.met.D.SectorDevice.lawful (seen c.begin.new.self)
-    (still_running g.D.SectorDevice.state g.met.D.SectorDevice.lawful c.args.self.now c.begin.new.self c.in_ok-begin.ensures.done)
+    (begun g.met.D.SectorDevice.lawful c.begin.new.self c.in_ok-begin.ensures.done
+    (write_unopened g.met.D.SectorDevice.lawful (seen c.begin.new.self)
+    (still_running g.met.D.SectorDevice.lawful c.in_ok-begin.ensures.done)
     c.args.handle c.args.offset c.args.bytes.now c.in_err-number.field-0.0 c.in_err-number.ensures.missing))
 
 pub returns-then-bytes : goal.returns-then-bytes
 returns-then-bytes g c =
-    begun g.D.SectorDevice.state g.met.D.SectorDevice.lawful c.args.self.now c.begin.new.self c.begin.new.self _ _
-    c.in_ok-begin.ensures.done
-    (write_refused g.D.SectorDevice.state g.met.D.SectorDevice.lawful (seen c.begin.new.self)
-    (still_running g.D.SectorDevice.state g.met.D.SectorDevice.lawful c.args.self.now c.begin.new.self c.in_ok-begin.ensures.done)
-    c.args.handle c.in_ok-number.number.value c.in_ok-number.ensures.opens c.args.offset c.args.bytes.now c.if-bytes.true)
+    begun g.met.D.SectorDevice.lawful c.begin.new.self c.in_ok-begin.ensures.done
+    (write_refused g.met.D.SectorDevice.lawful (seen c.begin.new.self)
+    (still_running g.met.D.SectorDevice.lawful c.in_ok-begin.ensures.done)
+    c.args.handle c.in_ok-number.ensures.opens c.args.offset c.args.bytes.now c.if-bytes.true)
 
 pub returns-in-Ok : goal.returns-in-Ok
 returns-in-Ok g c =
-    begun g.D.SectorDevice.state g.met.D.SectorDevice.lawful c.args.self.now c.begin.new.self c.begin.new.self _ _
-    c.in_ok-begin.ensures.done
-    (write_none g.D.SectorDevice.state g.met.D.SectorDevice.lawful (seen c.begin.new.self)
-    (still_running g.D.SectorDevice.state g.met.D.SectorDevice.lawful c.args.self.now c.begin.new.self c.in_ok-begin.ensures.done)
-    c.args.handle c.in_ok-number.number.value c.in_ok-number.ensures.opens c.args.offset c.args.bytes.now (omega (arith, c.if-bytes.false))
+    begun g.met.D.SectorDevice.lawful c.begin.new.self c.in_ok-begin.ensures.done
+    (write_none g.met.D.SectorDevice.lawful (seen c.begin.new.self) (still_running g.met.D.SectorDevice.lawful c.in_ok-begin.ensures.done)
+    c.args.handle c.in_ok-number.ensures.opens c.args.offset c.args.bytes.now (omega (arith, c.if-bytes.false))
     (none_of (length c.args.bytes.now) (sym c.is_empty.ensures ∙ c.if-is_empty.true)) c.in-Ok.ensures.young)
 
 pub returns-in-Err : goal.returns-in-Err
 returns-in-Err g c =
-    begun g.D.SectorDevice.state g.met.D.SectorDevice.lawful c.args.self.now c.begin.new.self c.begin.new.self _ _
-    c.in_ok-begin.ensures.done
-    (write_none_worn g.D.SectorDevice.state g.met.D.SectorDevice.lawful (seen c.begin.new.self)
-    (still_running g.D.SectorDevice.state g.met.D.SectorDevice.lawful c.args.self.now c.begin.new.self c.in_ok-begin.ensures.done)
-    c.args.handle c.in_ok-number.number.value c.in_ok-number.ensures.opens c.args.offset c.args.bytes.now (omega (arith, c.if-bytes.false))
-    (none_of (length c.args.bytes.now) (sym c.is_empty.ensures ∙ c.if-is_empty.true)) c.in-Err.fault
-    c.in-Err.ensures.fault c.in-Err.ensures.old)
+    begun g.met.D.SectorDevice.lawful c.begin.new.self c.in_ok-begin.ensures.done
+    (write_none_worn g.met.D.SectorDevice.lawful (seen c.begin.new.self)
+    (still_running g.met.D.SectorDevice.lawful c.in_ok-begin.ensures.done)
+    c.args.handle c.in_ok-number.ensures.opens c.args.offset c.args.bytes.now (omega (arith, c.if-bytes.false))
+    (none_of (length c.args.bytes.now) (sym c.is_empty.ensures ∙ c.if-is_empty.true)) c.in-Err.ensures.fault c.in-Err.ensures.old)
 
 pub returns-then-offset-len : goal.returns-then-offset-len
 returns-then-offset-len g c =
-    begun g.D.SectorDevice.state g.met.D.SectorDevice.lawful c.args.self.now c.begin.new.self c.begin.new.self _ _
-    c.in_ok-begin.ensures.done
-    (write_past g.D.SectorDevice.state g.met.D.SectorDevice.lawful (seen c.begin.new.self)
-    (still_running g.D.SectorDevice.state g.met.D.SectorDevice.lawful c.args.self.now c.begin.new.self c.in_ok-begin.ensures.done)
-    c.args.handle c.in_ok-number.number.value c.in_ok-number.ensures.opens c.args.offset c.args.bytes.now (omega (arith, c.if-bytes.false))
+    begun g.met.D.SectorDevice.lawful c.begin.new.self c.in_ok-begin.ensures.done
+    (write_past g.met.D.SectorDevice.lawful (seen c.begin.new.self) (still_running g.met.D.SectorDevice.lawful c.in_ok-begin.ensures.done)
+    c.args.handle c.in_ok-number.ensures.opens c.args.offset c.args.bytes.now (omega (arith, c.if-bytes.false))
     (some_of (length c.args.bytes.now) (sym c.is_empty.ensures ∙ c.if-is_empty.false)) (omega (arith, c.if-offset-len.true)))

@@ -4,7 +4,7 @@ use Rattle.lfs_fs.proofs.calls.StoreCalls.{ends_parent, ends_refused}
 use Rattle.lfs_fs.proofs.fs.Fs.reach.Goals as goal
 
 pub returns-in_err-place-clause-reads : goal.returns-in_err-place-clause-reads
-returns-in_err-place-clause-reads g c = path_read g.D.SectorDevice.state c.args.self.now c.parent.new.files c.in_err-place.ensures.reads
+returns-in_err-place-clause-reads g c = path_read g.D.SectorDevice.state c.parent.new.files c.in_err-place.ensures.reads
 
 pub returns-in_err-place-clause-refused : goal.returns-in_err-place-clause-refused
 returns-in_err-place-clause-refused g c =
@@ -20,7 +20,7 @@ returns-in_err-place-clause-refused g c =
     }))
 
 pub returns-in_default-clause-reads : goal.returns-in_default-clause-reads
-returns-in_default-clause-reads g c = path_read g.D.SectorDevice.state c.args.self.now c.parent.new.files c.in_ok-place.ensures.reads
+returns-in_default-clause-reads g c = path_read g.D.SectorDevice.state c.parent.new.files c.in_ok-place.ensures.reads
 
 pub returns-in_default-clause-refused : goal.returns-in_default-clause-refused
 returns-in_default-clause-refused g c =
@@ -32,13 +32,13 @@ returns-in_default-clause-refused g c =
         record {
           last = subst (λ (l : Option Last). HasLast c.args.path.now l) c.in_default.is walk.last;
           walks = ends_parent g.D.SectorDevice.state c.args.self.now.store c.parent.new.files c.args.path.now c.in_ok-place.place.chain
-              (here c.in_ok-place.place.chain) refl walk.answer;
+              {d = here c.in_ok-place.place.chain} refl walk.answer;
         },
       ),
     )
 
 pub returns-clause-reads : goal.returns-clause-reads
-returns-clause-reads g c = path_read g.D.SectorDevice.state c.args.self.now c.parent.new.files c.in_ok-place.ensures.reads
+returns-clause-reads g c = path_read g.D.SectorDevice.state c.parent.new.files c.in_ok-place.ensures.reads
 
 pub returns-clause-found : goal.returns-clause-found
 returns-clause-found g c =
@@ -46,5 +46,5 @@ returns-clause-found g c =
     record {
       last = subst (λ (l : Option Last). HasLast c.args.path.now l) c.in-Some.is walk.last;
       walks = ends_parent g.D.SectorDevice.state c.args.self.now.store c.parent.new.files c.args.path.now c.in_ok-place.place.chain
-          c.directory.result.value c.directory.ensures.value walk.answer;
+          c.directory.ensures.value walk.answer;
     }

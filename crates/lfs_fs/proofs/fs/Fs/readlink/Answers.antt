@@ -18,5 +18,4 @@ returns-in_err-text g c =
 pub returns : goal.returns
 returns g c =
     let read = c.in_ok-text.ensures in
-    readlink_gives g.met.D.SectorDevice.lawful c.in_ok-number.ensures.found c.read_link.new.files read.only.reads c.in_ok-text.text.items
-    read.answer
+    readlink_gives g.met.D.SectorDevice.lawful c.in_ok-number.ensures.found c.read_link.new.files read.only.reads read.answer

@@ -7,8 +7,7 @@ use Rattle.lfs_fs.proofs.fs.Fs.rename_from.Goals as goal
 pub returns : goal.returns
 returns g c v from reached =
     let walk = c.in_ok-place.ensures in
-    c.rename_at.ensures v from c.args.to.now
-    (reaches_both g.D.SectorDevice.state g.met.D.SectorDevice.lawful v c.args.self.now from c.args.directory.value c.args.last
+    c.rename_at.ensures v from c.args.to.now (reaches_both g.met.D.SectorDevice.lawful v
     reached c.requires.ready c.parent.new.files walk.reads c.args.to.now
     (bytes_of c.args.to.now c.type_inv.to) c.in_ok-place.place.chain c.in_ok-place.place.last walk.last walk.answer)
 
@@ -17,13 +16,13 @@ pub returns-in_err-place : goal.returns-in_err-place
 returns-in_err-place g c v from reached =
     let p = err_from_is_err_and c.from_residual.result c.from_residual.ensures.1 in rw (p.1)
     (let walk = c.in_err-place.ensures in
-    second_ends g.D.SectorDevice.state g.met.D.SectorDevice.lawful v c.args.self.now from c.args.directory.value c.args.last
+    second_ends g.met.D.SectorDevice.lawful v
     reached c.requires.ready c.parent.new.files walk.reads c.args.to.now c.in_err-place.field-0.0 p.0 p.2
     walk.refused (λ e. walk.halted (ap Err e)) (λ e. walk.other (ap Err e)))
 
 pub rename_at-requires : goal.rename_at-requires
 rename_at-requires g c = record {
   ready =
-      ready_after g.D.SectorDevice.state _ _ c.requires.ready
-      (path_read g.D.SectorDevice.state c.args.self.now c.parent.new.files c.in_ok-place.ensures.reads);
+      ready_after g.D.SectorDevice.state c.requires.ready
+      (path_read g.D.SectorDevice.state {old = c.args.self.now} c.parent.new.files c.in_ok-place.ensures.reads);
 }

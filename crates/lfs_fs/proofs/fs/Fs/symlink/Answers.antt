@@ -13,9 +13,8 @@ use Rattle.lfs_fs.proofs.fs.Fs.symlink.Goals as goal
 
 pub returns-in_err-begin : goal.returns-in_err-begin
 returns-in_err-begin g c =
-    let p = err_from_is_err_and c.from_residual.result c.from_residual.ensures.1 in rw (p.1, p.2)
-    (halted_serves g.D.SectorDevice.state c.args.self.now c.begin.new.self
-    (Symlink c.args.text.now c.args.path.now) c.in_err-begin.field-0.0
+    let p = err_from_is_err_and c.from_residual.result c.from_residual.ensures.1 in rw (p.1, p.2) (halted_serves g.D.SectorDevice.state
+    (Symlink c.args.text.now c.args.path.now)
     (g.met.D.SectorDevice.lawful (seen c.args.self.now).log.device) c.in_err-begin.ensures.same c.in_err-begin.ensures.halted
     c.in_err-begin.ensures.fault)
 
@@ -23,25 +22,21 @@ returns-in_err-begin g c =
 pub returns-in_err-check_link_text : goal.returns-in_err-check_link_text
 returns-in_err-check_link_text g c =
     let p = err_from_is_err_and c.from_residual-in_err-check_link_text.result c.from_residual-in_err-check_link_text.ensures.1 in
-    rw (p.1, p.2)
-    (begun_serves g.D.SectorDevice.state c.args.self.now c.begin.new.self (seen c.begin.new.self) (Symlink c.args.text.now c.args.path.now)
-    (Refuse (refusal_of c.in_err-check_link_text.field-0.0)) c.in_ok-begin.ensures.done
-    (text_ends g.D.SectorDevice.state g.met.D.SectorDevice.lawful c.args.self.now c.begin.new.self c.in_ok-begin.ensures.done
-    c.args.text.now
-    c.args.path.now (refusal_of c.in_err-check_link_text.field-0.0) c.in_err-check_link_text.ensures.refused))
+    rw (p.1, p.2) (begun_serves g.D.SectorDevice.state c.in_ok-begin.ensures.done
+    (text_ends g.met.D.SectorDevice.lawful c.in_ok-begin.ensures.done c.args.text.now
+    c.args.path.now c.in_err-check_link_text.ensures.refused))
 
 -- the path is refused, or has no piece
 pub returns-in_err-directory : goal.returns-in_err-directory
 returns-in_err-directory g c =
     let good = c.in_ok-check_link_text.ensures.good in
     let p = err_from_is_err_and c.from_residual-in_err-directory.result c.from_residual-in_err-directory.ensures.1 in rw (p.1, p.2)
-    (unreached g.D.SectorDevice.state g.met.D.SectorDevice.lawful c.args.self.now c.reach.new.self c.args.path.now
+    (unreached g.met.D.SectorDevice.lawful c.args.self.now c.reach.new.self c.args.path.now
     (Symlink c.args.text.now c.args.path.now) refl refl refl
     (λ k m0 m s keeps is r w. symlink_refused (segments_of (seen c.args.self.now)) s c.args.path.now c.args.text.now good r w) false
     (λ s d walk. checks_new (symlink_call _ _ _ d (bytes_of c.args.path.now c.type_inv.path) c.args.text.now
     (bytes_of c.args.text.now c.type_inv.text) good) s refl walk)
-    c.in_err-directory.field-0.0
-    (place_lacks g.D.SectorDevice.state g.met.D.SectorDevice.lawful c.args.self.now c.reach.new.self c.args.path.now c.begin.new.self
+    c.in_err-directory.field-0.0 (place_lacks g.met.D.SectorDevice.lawful c.args.self.now c.reach.new.self c.args.path.now
     c.in_ok-begin.ensures.done c.in_err-directory.ensures.reads (bytes_of c.args.path.now c.type_inv.path) _
     c.in_err-directory.field-0.0 c.in_err-directory.ensures.refused))
 
@@ -50,9 +45,9 @@ returns-in_err-holder g c =
     let state = g.D.SectorDevice.state in
     let lawful = g.met.D.SectorDevice.lawful in
     let found = c.in_ok-directory.ensures in
-    let begins = place_begins state lawful c.in_ok-begin.ensures.done found.reads (bytes_of c.args.path.now c.type_inv.path) found.found in
+    let begins = place_begins lawful c.in_ok-begin.ensures.done found.reads (bytes_of c.args.path.now c.type_inv.path) found.found in
     let p = err_from_is_err_and c.from_residual-in_err-holder.result c.from_residual-in_err-holder.ensures.1 in rw (p.1, p.2)
-    (entry_refused state lawful begins (symlink_call _ _ _ _ begins.reached.bytes c.args.text.now
+    (entry_refused lawful begins (symlink_call _ _ _ _ begins.reached.bytes c.args.text.now
     (bytes_of c.args.text.now c.type_inv.text) c.in_ok-check_link_text.ensures.good)
     c.check_new_entry.new.files c.in_err-holder.field-0.0 c.in_err-holder.ensures)
 
@@ -62,9 +57,9 @@ returns-in_default g c =
     let state = g.D.SectorDevice.state in
     let lawful = g.met.D.SectorDevice.lawful in
     let found = c.in_ok-directory.ensures in
-    let begins = place_begins state lawful c.in_ok-begin.ensures.done found.reads (bytes_of c.args.path.now c.type_inv.path) found.found in
+    let begins = place_begins lawful c.in_ok-begin.ensures.done found.reads (bytes_of c.args.path.now c.type_inv.path) found.found in
     let rule = c.in_ok-holder.ensures in
-    number_refused state lawful begins (symlink_call _ _ _ _ begins.reached.bytes c.args.text.now
+    number_refused lawful begins (symlink_call _ _ _ _ begins.reached.bytes c.args.text.now
     (bytes_of c.args.text.now c.type_inv.text) c.in_ok-check_link_text.ensures.good)
     c.check_new_entry.new.files c.in_ok-holder.holder rule (λ s handles are. refl) c.in_default.ensures.none
 
@@ -73,7 +68,7 @@ finish-requires-clause-room g c =
     let state = g.D.SectorDevice.state in
     let lawful = g.met.D.SectorDevice.lawful in
     let found = c.in_ok-directory.ensures in
-    let begins = place_begins state lawful c.in_ok-begin.ensures.done found.reads (bytes_of c.args.path.now c.type_inv.path) found.found in
+    let begins = place_begins lawful c.in_ok-begin.ensures.done found.reads (bytes_of c.args.path.now c.type_inv.path) found.found in
     let draft = c.draft_entry-drafted.ensures in
     ok_then c.draft_entry-drafted.result _ _
     (takes_draft state lawful (seen c.args.self.now) _
@@ -85,7 +80,7 @@ returns g c =
     let state = g.D.SectorDevice.state in
     let lawful = g.met.D.SectorDevice.lawful in
     let found = c.in_ok-directory.ensures in
-    let begins = place_begins state lawful c.in_ok-begin.ensures.done found.reads (bytes_of c.args.path.now c.type_inv.path) found.found in
+    let begins = place_begins lawful c.in_ok-begin.ensures.done found.reads (bytes_of c.args.path.now c.type_inv.path) found.found in
     let rule = c.in_ok-holder.ensures in
     let store = c.check_new_entry.new.files in
     let draft = c.draft_entry-drafted.ensures in

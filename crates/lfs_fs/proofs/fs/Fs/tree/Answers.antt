@@ -6,13 +6,12 @@ use Rattle.lfs_fs.proofs.fs.Fs.tree.Goals as goal
 pub returns-in_err-begin : goal.returns-in_err-begin
 returns-in_err-begin g c =
     let p = err_from_is_err_and c.from_residual.result c.from_residual.ensures.1 in rw (p.1, p.2)
-    (halted_serves g.D.SectorDevice.state c.args.self.now c.begin.new.self ListTree c.in_err-begin.field-0.0
+    (halted_serves g.D.SectorDevice.state ListTree
     (g.met.D.SectorDevice.lawful (seen c.args.self.now).log.device) c.in_err-begin.ensures.same c.in_err-begin.ensures.halted
     c.in_err-begin.ensures.fault)
 
 pub loop-number-init : goal.loop-number-init
-loop-number-init g c = tree_none g.D.SectorDevice.state c.args.self.now c.begin.new.self c.in_ok-begin.ensures.done
-    c.new-rows.result.items c.new-rows.ensures.items
+loop-number-init g c = tree_none g.D.SectorDevice.state c.in_ok-begin.ensures.done c.new-rows.ensures.items
 
 pub loop-number-preserved : goal.loop-number-preserved
 loop-number-preserved g c =

@@ -6,7 +6,7 @@ use Rattle.lfs_fs.proofs.fs.Fs.write_file.Goals as goal
 
 pub draft_bytes-drafted-requires-clause-alone : goal.draft_bytes-drafted-requires-clause-alone
 draft_bytes-drafted-requires-clause-alone g c =
-    lone_write g.D.SectorDevice.state c.args.self.now.store c.args.bytes.now c.requires.ready.empty c.requires.most
+    lone_write g.D.SectorDevice.state c.args.self.now.store c.requires.ready.empty c.requires.most
 
 pub finish-requires-clause-room : goal.finish-requires-clause-room
 finish-requires-clause-room g c =
@@ -15,8 +15,8 @@ finish-requires-clause-room g c =
 pub returns : goal.returns
 returns g c handle opens few =
     let draft = c.draft_bytes-drafted in
-    write_ends g.D.SectorDevice.state g.met.D.SectorDevice.lawful (seen c.args.self.now) c.args.self.now
-    (here_begun g.D.SectorDevice.state g.met.D.SectorDevice.lawful c.args.self.now c.requires.ready c.requires.counted)
-    draft.new.files draft.ensures.only.redrafts handle c.args.number.value opens c.finish.new.self c.finish.ensures.rest draft.result
+    write_ends g.met.D.SectorDevice.lawful
+    (here_begun g.D.SectorDevice.state g.met.D.SectorDevice.lawful c.requires.ready c.requires.counted)
+    draft.new.files draft.ensures.only.redrafts handle opens c.finish.new.self c.finish.ensures.rest draft.result
     c.finish.result c.finish.ensures.ends draft.ensures.counted draft.ensures.failed draft.ensures.only.halted draft.ensures.only.other
-    c.args.at c.args.bytes.now c.requires.bytes few c.requires.end (bytes_of c.args.bytes.now (λ i. search rules)) draft.ensures.done
+     c.requires.bytes few c.requires.end (bytes_of c.args.bytes.now (λ i. search rules)) draft.ensures.done

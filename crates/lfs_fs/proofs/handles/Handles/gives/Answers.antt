@@ -5,8 +5,7 @@ use Rattle.lfs_fs.proofs.handles.Handles.gives.Goals as goal
 
 pub returns-then-is_file-clause-open : goal.returns-then-is_file-clause-open
 returns-then-is_file-clause-open c is =
-    let read = place_read c.self.inside.files.items c.deref.result.now c.loop-handle.handle 64 c.index-deref-handle.result c.deref.ensures.0
-    c.self.invariant c.loop-handle-test.true c.index-deref-handle.is in
+    let read = place_read c.loop-handle.handle c.deref.ensures.0 c.self.invariant c.loop-handle-test.true c.index-deref-handle.is in
     rw (← c.self.view_is) (is_open c.self.inside.files.items c.args.file.value c.loop-handle.handle
     (subst (λ (place : Option FileNumber). HasNumber place c.args.file.value) read (c.is_file.ensures.yes c.if-is_file.true)))
 

@@ -5,8 +5,7 @@ use Rattle.lfs_fs.proofs.handles.Handles.is_shared.Goals as goal
 
 pub returns-then-is_file-clause-shared : goal.returns-then-is_file-clause-shared
 returns-then-is_file-clause-shared c is =
-    let read = place_read c.self.inside.files.items c.deref.result.now c.loop-other.other 64 c.index-deref-other.result c.deref.ensures.0
-    c.self.invariant c.loop-other-test.true c.index-deref-other.is in
+    let read = place_read c.loop-other.other c.deref.ensures.0 c.self.invariant c.loop-other-test.true c.index-deref-other.is in
     rw (← c.self.view_is) (other_open c.args.handle c.self.inside.files.items c.args.file.value c.loop-other.other c.if-other-handle.true
     (subst (λ (place : Option FileNumber). HasNumber place c.args.file.value) read (c.is_file.ensures.yes c.if-is_file.true)))
 

@@ -5,9 +5,8 @@ use Rattle.lfs_fs.proofs.handles.Handles.least_free.Goals as goal
 pub returns-then-is_none-clause-first : goal.returns-then-is_none-clause-first
 returns-then-is_none-clause-first c =
     let none : c.index-deref-handle.result ≡ None = grind (arith, c.is_none.ensures, c.if-is_none.true) in
-    let read = place_read c.self.inside.files.items c.deref.result.now c.loop-handle.handle 64 c.index-deref-handle.result c.deref.ensures.0
-    c.self.invariant c.loop-handle-test.true c.index-deref-handle.is in
-    rw (← c.self.view_is) (least_is c.loop-handle.handle c.self.inside.files.items c.loop-handle.invariant (sym read ∙ none))
+    let read = place_read c.loop-handle.handle c.deref.ensures.0 c.self.invariant c.loop-handle-test.true c.index-deref-handle.is in
+    rw (← c.self.view_is) (least_is {h = c.loop-handle.handle} c.self.inside.files.items c.loop-handle.invariant (sym read ∙ none))
 
 pub returns-clause-full : goal.returns-clause-full
 returns-clause-full c =

@@ -10,8 +10,7 @@ returns-clause-found c =
     let facts = c.binary_search_by_key.ensures in
     let answer = facts.position (λ (place : Place). record { 0 = place.key.code })
     (answers_always _ _ _ (λ f a r g called. search rules)) in
-    let searched = searched_in _ c.self.inside.falling.items c.args.self.now c.self.view_is c.deref.result.now c.deref.ensures.value
-    c.number.result c.args.key.code c.number.ensures c.binary_search_by_key.result facts.bound answer in
+    let searched = searched_in _ c.self.view_is c.deref.ensures.value c.number.ensures c.binary_search_by_key.result facts.bound answer in
     searched.found
 
 pub returns-clause-missing : goal.returns-clause-missing
@@ -19,6 +18,5 @@ returns-clause-missing c =
     let facts = c.binary_search_by_key.ensures in
     let answer = facts.position (λ (place : Place). record { 0 = place.key.code })
     (answers_always _ _ _ (λ f a r g called. search rules)) in
-    let searched = searched_in _ c.self.inside.falling.items c.args.self.now c.self.view_is c.deref.result.now c.deref.ensures.value
-    c.number.result c.args.key.code c.number.ensures c.binary_search_by_key.result facts.bound answer in
+    let searched = searched_in _ c.self.view_is c.deref.ensures.value c.number.ensures c.binary_search_by_key.result facts.bound answer in
     searched.missing

@@ -5,10 +5,10 @@ use Rattle.lfs_inodes.proofs.Held.{low_at, found_at}
 use Rattle.lfs_inodes.proofs.table.DirtyTable.block.Goals as goal
 
 pub returns-in_default-clause-block : goal.returns-in_default-clause-block
-returns-in_default-clause-block c = find_gap c.args.self.now.blocks c.args.key.code c.in_default.field-0 c.in_default.ensures.missing
+returns-in_default-clause-block c = find_gap c.in_default.ensures.missing
 
 pub returns-in_default-clause-entry : goal.returns-in_default-clause-entry
-returns-in_default-clause-entry c = entry_found c.args.self.now.blocks c.args.key.code c.args.key.formed ∙ returns-in_default-clause-block c
+returns-in_default-clause-entry c = entry_found c.args.self.now.blocks c.args.key.formed ∙ returns-in_default-clause-block c
 
 pub index-requires : goal.index-requires
 index-requires c =
@@ -27,4 +27,4 @@ returns-clause-block c =
     (get_or_default c.self.inside.arena.items c.get.result.spot [] c.index.result.now l ∙ sym c.index.ensures)
 
 pub returns-clause-entry : goal.returns-clause-entry
-returns-clause-entry c = entry_found c.args.self.now.blocks c.args.key.code c.args.key.formed ∙ returns-clause-block c
+returns-clause-entry c = entry_found c.args.self.now.blocks c.args.key.formed ∙ returns-clause-block c

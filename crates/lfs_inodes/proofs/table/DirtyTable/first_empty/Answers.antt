@@ -5,8 +5,7 @@ use Rattle.lfs_inodes.proofs.table.DirtyTable.first_empty.Goals as goal
 pub loop-at-preserved : goal.loop-at-preserved
 loop-at-preserved c j lt =
     let off = c.if-is_empty.false in
-    more_lead c.args.self.now c.loop-at.at c.loop-at.invariant
-    (leads_at c.args.self.now c.loop-at.at c.key_at-key.result.code c.key_at-key.result.formed c.key_at-key.ensures
+    more_lead c.args.self.now c.loop-at.at c.loop-at.invariant (leads_at c.args.self.now c.key_at-key.result.formed c.key_at-key.ensures
     (c.is_empty.ensures.no (λ on. absurd cc))) j (omega (arith, lt))
 
 pub returns-clause-none : goal.returns-clause-none

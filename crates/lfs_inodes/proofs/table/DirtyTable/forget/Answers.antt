@@ -8,8 +8,7 @@ pub loop-at-preserved-then-file : goal.loop-at-preserved-then-file
 loop-at-preserved-then-file c =
     let n = c.args.file in
     let some = c.loop-at-test.true in
-    leaves_out (λ (x : Entry). file_of x ≡ Some n) (λ (x : Entry). file_of x ≡ Some n → ⊥) (λ x on off. off on) c.args.self.now
-    c.loop-at.self c.remove_at.new.self c.loop-at.at (c.loop-at.at - 1) (omega (arith, some)) c.loop-at.invariant
+    leaves_out (λ x on off. off on) (omega (arith, some)) c.loop-at.invariant
     (file_named _ n (ap (λ (m : ℕ). m / 32768 % 4096) c.key_at.ensures.number ∙ sym c.file.ensures.file ∙ c.if-file.true))
     c.remove_at.ensures.removed c.remove_at.ensures.changed c.remove_at.ensures.codes
 
@@ -18,8 +17,7 @@ returns c =
     let n = c.args.file in
     record {
       leaves = record {
-        none = leaves_ends (λ (x : Entry). file_of x ≡ Some n) (λ (x : Entry). file_of x ≡ Some n → ⊥) c.args.self.now c.loop-at.self
-            c.loop-at.at c.loop-at-test.false c.loop-at.invariant;
+        none = leaves_ends c.loop-at-test.false c.loop-at.invariant;
         kept = c.loop-at.invariant.kept;
       };
       few = c.loop-at.invariant.few;

@@ -10,9 +10,8 @@ loop-at-preserved-then-is_past c =
     let n = c.args.file in
     let first = c.args.first in
     let some = c.loop-at-test.true in
-    leaves_out (λ (x : Entry). is_past n first x ≡ true) (λ (x : Entry). is_past n first x ≡ false)
-    (λ x on off. let bad : true ≡ false = sym on ∙ off in absurd cc) c.args.self.now c.loop-at.self c.remove_at.new.self c.loop-at.at
-    (c.loop-at.at - 1) (omega (arith, some)) c.loop-at.invariant
+    leaves_out
+    (λ x on off. let bad : true ≡ false = sym on ∙ off in absurd cc) (omega (arith, some)) c.loop-at.invariant
     (ap (λ (m : ℕ). is_past n first (entry_at m)) c.key_at.ensures.number ∙ sym c.if-is_past.ensures) c.remove_at.ensures.removed
     c.remove_at.ensures.changed c.remove_at.ensures.codes
 
@@ -23,8 +22,7 @@ returns c =
     record {
       leaves = record {
         none =
-            leaves_ends (λ (x : Entry). is_past n first x ≡ true) (λ (x : Entry). is_past n first x ≡ false) c.args.self.now c.loop-at.self
-            c.loop-at.at c.loop-at-test.false c.loop-at.invariant;
+            leaves_ends c.loop-at-test.false c.loop-at.invariant;
         kept = c.loop-at.invariant.kept;
       };
       few = c.loop-at.invariant.few;

@@ -13,18 +13,17 @@ pub returns : goal.returns
 returns c =
     let found : (bytes : List ℕ) (t : TableValue) → blocks_of t (entry_of c.args.key) ≡ Some bytes
     → find nat_cmp c.args.key.code t.blocks ≡ Some bytes =
-    λ bytes t is. sym (entry_found t.blocks c.args.key.code c.args.key.formed) ∙ is in
+    λ bytes t is. sym (entry_found t.blocks c.args.key.formed) ∙ is in
     record {
       moves = search rules;
       length = λ bytes there.
           elim c.match-parent.branch [
-            | in-Some w ↦ one_less c.match-parent.self.blocks c.remove.new.self.blocks c.args.key.code _ bytes
-                (found bytes c.match-parent.self
+            | in-Some w ↦ one_less c.match-parent.self.blocks c.remove.new.self.blocks c.args.key.code (found bytes c.match-parent.self
                 (ap (λ (t : TableValue). blocks_of t (entry_of c.args.key)) w.self-is
                 ∙ w.patch.ensures.changed.others (entry_of c.args.key)
-                (differ c.args.key.code w.in-Some.above.code c.args.key.formed w.in-Some.above.formed w.in-Some.ensures.some.1)
+                (differ c.args.key.formed w.in-Some.above.formed w.in-Some.ensures.some.1)
                 ∙ there)) c.remove.ensures.length (ap (λ (t : TableValue). length t.blocks) w.self-is ∙ w.patch.ensures.length)
-            | in_default w ↦ one_less c.match-parent.self.blocks c.remove.new.self.blocks c.args.key.code _ bytes
+            | in_default w ↦ one_less c.match-parent.self.blocks c.remove.new.self.blocks c.args.key.code
                 (found bytes c.match-parent.self (ap (λ (t : TableValue). blocks_of t (entry_of c.args.key)) w.self-is ∙ there))
                 c.remove.ensures.length
                 (ap (λ (t : TableValue). length t.blocks) w.self-is)
@@ -35,7 +34,7 @@ returns c =
                 (found bytes c.match-parent.self
                 (ap (λ (t : TableValue). blocks_of t (entry_of c.args.key)) w.self-is
                 ∙ w.patch.ensures.changed.others (entry_of c.args.key)
-                (differ c.args.key.code w.in-Some.above.code c.args.key.formed w.in-Some.above.formed w.in-Some.ensures.some.1)
+                (differ c.args.key.formed w.in-Some.above.formed w.in-Some.ensures.some.1)
                 ∙ there)) kind ∙ ap data_count w.self-is ∙ w.patch.ensures.data_blocks
             | in_default w ↦ c.remove.ensures.data_blocks bytes
                 (found bytes c.match-parent.self (ap (λ (t : TableValue). blocks_of t (entry_of c.args.key)) w.self-is ∙ there)) kind

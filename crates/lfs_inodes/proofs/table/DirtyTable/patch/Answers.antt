@@ -15,12 +15,12 @@ returns-in_default c =
     let t = c.args.self.now in
     let same : t ≡ record t { blocks = altered (patched c.args.place c.args.number) c.args.key.code t.blocks } =
     ap (λ (o : Option (List ℕ)). record t { blocks = altered_as o (patched c.args.place c.args.number) c.args.key.code t.blocks })
-    (sym (find_gap t.blocks c.args.key.code c.in_default.field-0 c.in_default.ensures.missing)) in
+    (sym (find_gap c.in_default.ensures.missing)) in
     record {
       patched = same;
       changed = subst (λ (u : TableValue). ChangesTo (blocks_of t) (blocks_of u) (entry_of c.args.key)
           (option_map (patched c.args.place c.args.number) (blocks_of t (entry_of c.args.key)))) (sym same)
-          (changed_altered t.blocks c.args.key.code c.args.key.formed (patched c.args.place c.args.number));
+          (changed_altered t.blocks c.args.key.formed (patched c.args.place c.args.number));
       length = refl;
       data_blocks = refl;
     }
@@ -54,15 +54,14 @@ returns c =
     c.self.view_is in
     let is = altered_value c.self.inside.places.items c.self.inside.arena.items c.self.inside.spare.items _ _ _ c.self.invariant.0 t
     c.self.view_is c.args.key.code c.in-Ok.at c.in-Ok.ensures.found c.get-spot.result c.get-spot.ensures
-    (patched c.args.place c.args.number) c.point.new.block
-    (c.point.ensures.patched ∙ ap (patched c.args.place c.args.number)
+    (patched c.args.place c.args.number) (c.point.ensures.patched ∙ ap (patched c.args.place c.args.number)
     (c.index_mut.ensures.value ∙ sym (get_or_default c.self.inside.arena.items c.get-spot.result.spot [] c.index_mut.result.now l))) in
     record {
       patched = is;
       changed = subst (λ (u : TableValue). ChangesTo (blocks_of t) (blocks_of u) (entry_of c.args.key)
           (option_map (patched c.args.place c.args.number) (blocks_of t (entry_of c.args.key)))) (sym is)
-          (changed_altered t.blocks c.args.key.code c.args.key.formed (patched c.args.place c.args.number));
+          (changed_altered t.blocks c.args.key.formed (patched c.args.place c.args.number));
       length = ap (λ (u : TableValue). length u.blocks) is
           ∙ count_altered t.blocks c.args.key.code (patched c.args.place c.args.number) sorted;
-      data_blocks = data_patched t _ sorted c.args.key.code c.in-Ok.at (patched c.args.place c.args.number) c.in-Ok.ensures.found is;
+      data_blocks = data_patched t sorted (patched c.args.place c.args.number) c.in-Ok.ensures.found is;
     }

@@ -38,8 +38,7 @@ returns-in-Ok-clause-put c =
 pub returns-in-Ok-clause-changed : goal.returns-in-Ok-clause-changed
 returns-in-Ok-clause-changed c =
     subst (λ (t : TableValue). ChangesTo (blocks_of c.args.self.now) (blocks_of t) (entry_of c.args.key) (Some c.args.bytes.now))
-    (sym (returns-in-Ok-clause-put c))
-    (changed_put c.args.self.now.blocks c.args.key.code c.args.key.formed c.args.bytes.now)
+    (sym (returns-in-Ok-clause-put c)) (changed_put c.args.self.now.blocks c.args.key.formed c.args.bytes.now)
 
 pub returns-in-Ok-clause-length : goal.returns-in-Ok-clause-length
 returns-in-Ok-clause-length c =
@@ -50,14 +49,14 @@ returns-in-Ok-clause-length c =
 pub store-spot-requires : goal.store-spot-requires
 store-spot-requires c = record {
   low = λ s some.
-      let l = spare_below c.self.inside.places.items c.self.inside.arena.items c.self.inside.spare.items _ _ _ c.self.invariant.0 s some in
+      let l = spare_below c.self.invariant.0 s some in
       let o = c.self.inside.arena.ok in
       omega (arith, l, o.0);
   room = λ none.
       let o = c.self.inside.arena.ok in
       let e = c.self.inside.spare.ok in
       let l = arena_left c.self.inside.places.items c.self.inside.arena.items c.self.inside.spare.items _ _ _ c.self.invariant.0
-      c.args.self.now c.self.view_is c.args.key.code c.in-Err.at c.in-Err.ensures.missing c.requires (omega (arith, none, e.0)) in
+      c.args.self.now c.self.view_is c.in-Err.ensures.missing c.requires (omega (arith, none, e.0)) in
       omega (arith, l, o.0);
   small =
       let o = c.self.inside.arena.ok in
@@ -69,9 +68,9 @@ store-spot-requires c = record {
 pub insert-requires : goal.insert-requires
 insert-requires c = record {
   inside = place_within c.self.inside.places.items c.self.inside.arena.items c.self.inside.spare.items _ _ _ c.self.invariant.0
-      c.args.self.now c.self.view_is c.args.key.code c.in-Err.at c.in-Err.ensures.missing;
+      c.args.self.now c.self.view_is c.in-Err.ensures.missing;
   room = places_left c.self.inside.places.items c.self.inside.arena.items c.self.inside.spare.items _ _ _ c.self.invariant.0
-      c.args.self.now c.self.view_is c.args.key.code c.in-Err.at c.in-Err.ensures.missing c.requires;
+      c.args.self.now c.self.view_is c.in-Err.ensures.missing c.requires;
 }
 
 pub invariant_of-self-in-Err : goal.invariant_of-self-in-Err
@@ -83,16 +82,15 @@ invariant_of-self-in-Err c =
             for_places = c.insert.new.self.capacity;
             for_arena = vec_capacity c.store-spot.new.arena;
             for_spare = vec_capacity c.store-spot.new.spare;
-          })) (sym items)
-          (wider _ _ _ _ _ _ _ (held_put c.self.inside.places.items c.self.inside.arena.items c.self.inside.spare.items _ _ _
-          c.self.invariant.0 c.args.self.now c.self.view_is c.args.key.code c.in-Err.at c.in-Err.ensures.missing place refl
+          })) (sym items) (wider _ (held_put c.self.inside.places.items c.self.inside.arena.items c.self.inside.spare.items _ _ _
+          c.self.invariant.0 c.args.self.now c.self.view_is c.in-Err.ensures.missing place refl
           c.store-spot.new.arena.items c.store-spot.new.spare.items c.args.bytes.now c.store-spot.ensures.stored c.requires)
           c.insert.ensures.capacity c.store-spot.ensures.blocks c.store-spot.ensures.spots),
       λ h.
           let off = neither c.self.inside.loose c.leads_nowhere-empty.result h in
           subst (λ (ps : List Place). IsTight (blocks_in (entries_in ps c.store-spot.new.arena.items))) (sym items)
           (tight_more c.self.inside.places.items c.self.inside.arena.items c.self.inside.spare.items _ _ _ c.self.invariant.0
-          c.args.self.now c.self.view_is c.args.key.code c.in-Err.at c.in-Err.ensures.missing place refl c.store-spot.new.arena.items
+          c.args.self.now c.self.view_is c.in-Err.ensures.missing place refl c.store-spot.new.arena.items
           c.store-spot.new.spare.items c.args.bytes.now c.store-spot.ensures.stored
           (c.leads_nowhere-empty.ensures (λ on. let bad : true ≡ false = sym on ∙ off.1 in absurd cc)) (c.self.invariant.1 off.0)),
     )
@@ -104,14 +102,13 @@ returns-in-Err-clause-put c =
     ap (λ (ps : List Place). value_of (record { limit = c.self.inside.limit; room = c.self.inside.room }) ps c.store-spot.new.arena.items)
     items
     ∙ inserted_value c.self.inside.places.items c.self.inside.arena.items c.self.inside.spare.items _ _ _ c.self.invariant.0 c.args.self.now
-    c.self.view_is c.args.key.code c.in-Err.at c.in-Err.ensures.missing place refl c.store-spot.new.arena.items
+    c.self.view_is c.in-Err.ensures.missing place refl c.store-spot.new.arena.items
     c.store-spot.new.spare.items c.args.bytes.now c.store-spot.ensures.stored
 
 pub returns-in-Err-clause-changed : goal.returns-in-Err-clause-changed
 returns-in-Err-clause-changed c =
     subst (λ (t : TableValue). ChangesTo (blocks_of c.args.self.now) (blocks_of t) (entry_of c.args.key) (Some c.args.bytes.now))
-    (sym (returns-in-Err-clause-put c))
-    (changed_put c.args.self.now.blocks c.args.key.code c.args.key.formed c.args.bytes.now)
+    (sym (returns-in-Err-clause-put c)) (changed_put c.args.self.now.blocks c.args.key.formed c.args.bytes.now)
 
 pub returns-in-Err-clause-length : goal.returns-in-Err-clause-length
 returns-in-Err-clause-length c =

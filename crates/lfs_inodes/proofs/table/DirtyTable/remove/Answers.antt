@@ -13,19 +13,17 @@ use Rattle.lfs_inodes.proofs.table.DirtyTable.remove.Goals as goal
 pub returns-in_default-clause-removed : goal.returns-in_default-clause-removed
 returns-in_default-clause-removed c =
     let t = c.args.self.now in
-    ap (λ es. record t { blocks = es }) (sym (without_gap t.blocks c.args.key.code c.in_default.field-0 c.in_default.ensures.missing))
+    ap (λ es. record t { blocks = es }) (sym (without_gap c.in_default.ensures.missing))
 
 pub returns-in_default-clause-changed : goal.returns-in_default-clause-changed
 returns-in_default-clause-changed c =
     let t = c.args.self.now in
-    changed_none t.blocks c.args.key.code c.args.key.formed
-    (find_gap t.blocks c.args.key.code c.in_default.field-0 c.in_default.ensures.missing)
+    changed_none t.blocks c.args.key.formed (find_gap c.in_default.ensures.missing)
 
 pub returns-in_default-clause-length : goal.returns-in_default-clause-length
 returns-in_default-clause-length c =
     let t = c.args.self.now in
-    ap (λ (o : Option (List ℕ)). cond (is_some o) 1 0 + length t.blocks)
-    (find_gap t.blocks c.args.key.code c.in_default.field-0 c.in_default.ensures.missing) ∙ omega arith
+    ap (λ (o : Option (List ℕ)). cond (is_some o) 1 0 + length t.blocks) (find_gap c.in_default.ensures.missing) ∙ omega arith
 
 pub returns-clause-removed : goal.returns-clause-removed
 returns-clause-removed c =
@@ -46,7 +44,7 @@ returns-clause-length c =
 
 pub returns-in_default-clause-data_blocks : goal.returns-in_default-clause-data_blocks
 returns-in_default-clause-data_blocks c bytes there kind =
-    let none = find_gap c.args.self.now.blocks c.args.key.code c.in_default.field-0 c.in_default.ensures.missing in
+    let none = find_gap c.in_default.ensures.missing in
     absurd (cc)
 
 pub returns-clause-data_blocks : goal.returns-clause-data_blocks

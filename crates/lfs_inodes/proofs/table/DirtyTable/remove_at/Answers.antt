@@ -17,7 +17,7 @@ invariant_of-self c =
     let at : HasNumberAt c.args.self.now.blocks (number_at c.args.self.now.blocks c.args.at) c.args.at =
     record { within = c.requires; number = refl } in
     let formed : IsCode (number_at c.args.self.now.blocks c.args.at) =
-    codes_value _ c.self.inside.places.items c.self.inside.arena.items c.args.self.now c.self.view_is c.args.at c.requires in
+    codes_value _ c.self.inside.places.items c.self.inside.arena.items c.self.view_is c.args.at c.requires in
     let items : c.push.new.self.items ≡ c.self.inside.spare.items ++ c.remove-place.result.spot ∷ [] =
     rw c.unwrap.ensures at c.push.ensures.items in (
       subst (λ (ps : List Place). IsTableOf ps c.self.inside.arena.items c.push.new.self.items c.self.inside.limit c.self.inside.room
@@ -26,7 +26,7 @@ invariant_of-self c =
             for_arena = vec_capacity c.self.inside.arena;
             for_spare = vec_capacity c.push.new.self;
           })) (sym c.remove-place.ensures.items)
-          (wider _ _ _ _ _ _ _ (held_left c.self.inside.places.items c.self.inside.arena.items c.self.inside.spare.items _ _ _
+          (wider _ (held_left c.self.inside.places.items c.self.inside.arena.items c.self.inside.spare.items _ _ _
           c.self.invariant.0 c.args.self.now c.self.view_is _ c.args.at at c.remove-place.result c.remove-place.ensures.value
           c.push.new.self.items items) c.remove-place.ensures.capacity (omega arith) c.push.ensures.capacity),
       λ h. subst (λ (ps : List Place). IsTightUnless c.self.inside.loose ps c.self.inside.arena.items) (sym c.remove-place.ensures.items)
@@ -36,7 +36,7 @@ invariant_of-self c =
     )
 
 pub returns-clause-others : goal.returns-clause-others
-returns-clause-others c = sym (without_at c.args.self.now.blocks
+returns-clause-others c = sym (without_at {es = c.args.self.now.blocks}
     (sorted_value c.self.inside.places.items c.self.inside.arena.items c.self.inside.spare.items _ _ _ c.self.invariant.0 c.args.self.now
     c.self.view_is)
     (number_at c.args.self.now.blocks c.args.at) c.args.at (record { within = c.requires; number = refl }))
@@ -54,15 +54,15 @@ returns-clause-removed c =
 pub returns-clause-changed : goal.returns-clause-changed
 returns-clause-changed c =
     let formed : IsCode (number_at c.args.self.now.blocks c.args.at) =
-    codes_value _ c.self.inside.places.items c.self.inside.arena.items c.args.self.now c.self.view_is c.args.at c.requires in
+    codes_value _ c.self.inside.places.items c.self.inside.arena.items c.self.view_is c.args.at c.requires in
     subst (λ (t : TableValue).
     ChangesTo (blocks_of c.args.self.now) (blocks_of t) (entry_at (number_at c.args.self.now.blocks c.args.at)) None)
     (sym (returns-clause-removed c ∙ ap (λ (es : Blocks). record c.args.self.now { blocks = es }) (returns-clause-others c)))
-    (changed_without c.args.self.now.blocks (number_at c.args.self.now.blocks c.args.at) formed)
+    (changed_without c.args.self.now.blocks formed)
 
 pub returns-clause-codes : goal.returns-clause-codes
 returns-clause-codes c = codes_value (record { limit = c.self.inside.limit; room = c.self.inside.room }) c.remove-place.new.self.items
-    c.self.inside.arena.items _ refl
+    c.self.inside.arena.items refl
 
 pub returns-clause-length : goal.returns-clause-length
 returns-clause-length c =
@@ -74,7 +74,7 @@ returns-clause-length c =
 
 pub returns-clause-data_blocks : goal.returns-clause-data_blocks
 returns-clause-data_blocks c kind =
-    data_removed c.args.self.now _ (sorted_value c.self.inside.places.items c.self.inside.arena.items c.self.inside.spare.items _ _ _
+    data_removed c.args.self.now (sorted_value c.self.inside.places.items c.self.inside.arena.items c.self.inside.spare.items _ _ _
     c.self.invariant.0 c.args.self.now c.self.view_is)
     (number_at c.args.self.now.blocks c.args.at) c.args.at (record { within = c.requires; number = refl })
     (returns-clause-removed c ∙ ap (λ (es : Blocks). record c.args.self.now { blocks = es }) (returns-clause-others c)) kind

@@ -6,19 +6,19 @@ use Rattle.lfs_model.proofs.CheckpointPlaces.{reads_from, reads_to, version_smal
 use Rattle.lfs_model.proofs.Decoding.{checkpoint_is, checkpoint_some}
 use Rattle.lfs_layout.proofs.checkpoint.Checkpoint.decode.Goals as goal
 
-text_is : (bytes : List ℕ) → bytes ≡ codes "SLFSCKP1" → bytes ≡ checkpoint_text
+text_is : {bytes : List ℕ} → bytes ≡ codes "SLFSCKP1" → bytes ≡ checkpoint_text
 unfolding checkpoint_text
-text_is bytes e = e
+text_is e = e
 
 pub returns-then-not-is_text_at-clause-none : goal.returns-then-not-is_text_at-clause-none
 unfolding checkpoint_text
 returns-then-not-is_text_at-clause-none c v fits is =
-    let yes = c.is_text_at.ensures.1 (reads_from c.args.sector.now v fits is).text in
+    let yes = c.is_text_at.ensures.1 (reads_from v fits is).text in
     cc
 
 pub returns-then-number-eq0-clause-none : goal.returns-then-number-eq0-clause-none
 returns-then-number-eq0-clause-none c v fits is =
-    let r = reads_from c.args.sector.now v fits is in
+    let r = reads_from v fits is in
     let n = c.number64_at-number.result in
     let e : n ≡ v.number =
     le64_inj n v.number c.number64_at-number.type_inv fits.number_fits (c.number64_at-number.ensures.spelled ∙ r.number) in
@@ -26,38 +26,38 @@ returns-then-number-eq0-clause-none c v fits is =
 
 pub returns-then-not-is_segment_count-clause-none : goal.returns-then-not-is_segment_count-clause-none
 returns-then-not-is_segment_count-clause-none c v fits is =
-    let r = reads_from c.args.sector.now v fits is in
+    let r = reads_from v fits is in
     let n = c.number32_at-segments.result in
     let most = fits.segments.most in
     let e : n ≡ v.segments =
-    le32_inj n v.segments c.number32_at-segments.type_inv (omega arith) (c.number32_at-segments.ensures.spelled ∙ r.segments) in
+    le32_inj n c.number32_at-segments.type_inv (omega arith) (c.number32_at-segments.ensures.spelled ∙ r.segments) in
     let yes = c.is_segment_count.ensures.1 (rw e fits.segments) in
     cc
 
 pub returns-then-not-is_version-clause-none : goal.returns-then-not-is_version-clause-none
 returns-then-not-is_version-clause-none c v fits is =
-    let r = reads_from c.args.sector.now v fits is in
+    let r = reads_from v fits is in
     let n = c.number32_at-version.result in
-    let e : n ≡ v.version = le32_inj n v.version c.number32_at-version.type_inv (version_small v.version fits.version)
+    let e : n ≡ v.version = le32_inj n c.number32_at-version.type_inv (version_small v.version fits.version)
     (c.number32_at-version.ensures.spelled ∙ r.version) in
     let yes = c.is_version.ensures.1 (rw e fits.version) in
     cc
 
 pub returns-then-not-is_zero_at-clause-none : goal.returns-then-not-is_zero_at-clause-none
 returns-then-not-is_zero_at-clause-none c v fits is =
-    let yes = c.is_zero_at.ensures.1 (reads_from c.args.sector.now v fits is).gap in
+    let yes = c.is_zero_at.ensures.1 (reads_from v fits is).gap in
     cc
 
 pub returns-then-not-is_zero_at-2-clause-none : goal.returns-then-not-is_zero_at-2-clause-none
 returns-then-not-is_zero_at-2-clause-none c v fits is =
-    let yes = c.is_zero_at-2.ensures.1 (reads_from c.args.sector.now v fits is).rest in
+    let yes = c.is_zero_at-2.ensures.1 (reads_from v fits is).rest in
     cc
 
 pub returns-clause-found : goal.returns-clause-found
 returns-clause-found c =
     let n = c.number64_at-number.result in
     let not_zero : n ≡ 0 → ⊥ = c.if-number-eq0.false in
-    let text : part 0 8 c.args.sector.now ≡ checkpoint_text = text_is _ (c.is_text_at.ensures.0 c.if-not-is_text_at.false) in (
+    let text : part 0 8 c.args.sector.now ≡ checkpoint_text = text_is (c.is_text_at.ensures.0 c.if-not-is_text_at.false) in (
       record {
         number = omega arith;
         number_fits = c.number64_at-number.type_inv;

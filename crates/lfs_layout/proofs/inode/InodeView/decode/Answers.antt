@@ -11,16 +11,16 @@ use Rattle.lfs_model.proofs.Decoding.{inode_is, inode_some}
 use Rattle.lfs_layout.proofs.inode.InodeView.decode.Goals as goal
 
 pub returns-in_default-clause-none : goal.returns-in_default-clause-none
-returns-in_default-clause-none c v fits is = c.in_default.ensures.none v.kind (reads_from c.args.sector.now v fits is).kind
+returns-in_default-clause-none c v fits is = c.in_default.ensures.none v.kind (reads_from v fits is).kind
 
 pub returns-then-not-is_zero_at-clause-none : goal.returns-then-not-is_zero_at-clause-none
 returns-then-not-is_zero_at-clause-none c v fits is =
-    let yes = c.is_zero_at.ensures.1 (reads_from c.args.sector.now v fits is).gap in
+    let yes = c.is_zero_at.ensures.1 (reads_from v fits is).gap in
     cc
 
 pub returns-then-not-is_form-clause-none : goal.returns-then-not-is_form-clause-none
 returns-then-not-is_form-clause-none c v fits is =
-    let r = reads_from c.args.sector.now v fits is in
+    let r = reads_from v fits is in
     let k : c.in-Some.kind ≡ v.kind = same_kind c.in-Some.kind v.kind (sym c.in-Some.ensures.found ∙ r.kind) in
     let f : get_or c.args.sector.now 1 0 ≡ v.form = form_at c.args.sector.now v.form (omega arith) r.form in
     let yes = c.is_form.ensures.1 (rw (k, f) fits.form) in
@@ -29,8 +29,8 @@ returns-then-not-is_form-clause-none c v fits is =
 pub returns-then-not-is_within-clause-none : goal.returns-then-not-is_within-clause-none
 returns-then-not-is_within-clause-none c v fits is =
     let n = c.number32_at-number.result in
-    let r = reads_from c.args.sector.now v fits is in
-    let e : n ≡ v.number = le32_inj n v.number c.number32_at-number.type_inv (omega (arith, fits.number.1))
+    let r = reads_from v fits is in
+    let e : n ≡ v.number = le32_inj n c.number32_at-number.type_inv (omega (arith, fits.number.1))
     (c.number32_at-number.ensures.spelled ∙ r.number) in
     let yes = c.is_within.ensures.1 (rw e fits.number) in
     cc
@@ -38,30 +38,30 @@ returns-then-not-is_within-clause-none c v fits is =
 pub returns-then-not-is_within-2-clause-none : goal.returns-then-not-is_within-2-clause-none
 returns-then-not-is_within-2-clause-none c v fits is =
     let n = c.number32_at-links.result in
-    let r = reads_from c.args.sector.now v fits is in
+    let r = reads_from v fits is in
     let e : n ≡ v.links =
-    le32_inj n v.links c.number32_at-links.type_inv (omega (arith, fits.links.1)) (c.number32_at-links.ensures.spelled ∙ r.links) in
+    le32_inj n c.number32_at-links.type_inv (omega (arith, fits.links.1)) (c.number32_at-links.ensures.spelled ∙ r.links) in
     let yes = c.is_within-2.ensures.1 (rw e fits.links) in
     cc
 
 pub returns-then-not-is_size-clause-none : goal.returns-then-not-is_size-clause-none
 returns-then-not-is_size-clause-none c v fits is =
     let n = c.number32_at-size.result in
-    let r = reads_from c.args.sector.now v fits is in
+    let r = reads_from v fits is in
     let k : c.in-Some.kind ≡ v.kind = same_kind c.in-Some.kind v.kind (sym c.in-Some.ensures.found ∙ r.kind) in
-    let e : n ≡ v.size = le32_inj n v.size c.number32_at-size.type_inv (size_fits v fits) (c.number32_at-size.ensures.spelled ∙ r.size) in
+    let e : n ≡ v.size = le32_inj n c.number32_at-size.type_inv (size_fits v fits) (c.number32_at-size.ensures.spelled ∙ r.size) in
     let f : get_or c.args.sector.now 1 0 ≡ v.form = form_at c.args.sector.now v.form (omega arith) r.form in
     let yes = c.is_size.ensures.1 (rw (f, k, e) fits.size) in
     cc
 
 pub returns-then-not-is_zero_at-2-clause-none : goal.returns-then-not-is_zero_at-2-clause-none
 returns-then-not-is_zero_at-2-clause-none c v fits is =
-    let yes = c.is_zero_at-2.ensures.1 (reads_from c.args.sector.now v fits is).gap2 in
+    let yes = c.is_zero_at-2.ensures.1 (reads_from v fits is).gap2 in
     cc
 
 pub returns-then-not-is_zero_at-3-clause-none : goal.returns-then-not-is_zero_at-3-clause-none
 returns-then-not-is_zero_at-3-clause-none c v fits is =
-    let yes = c.is_zero_at-3.ensures.1 (reads_from c.args.sector.now v fits is).rest in
+    let yes = c.is_zero_at-3.ensures.1 (reads_from v fits is).rest in
     cc
 
 pub returns-clause-found : goal.returns-clause-found

@@ -16,26 +16,26 @@ room (suc form) = omega arith
 pub returns-then-not-is_within-clause-none : goal.returns-then-not-is_within-clause-none
 returns-then-not-is_within-clause-none c v fits is =
     let b = c.args.slot.now in
-    let r = reads_from c.args.form b v is in
+    let r = reads_from c.args.form v is in
     let e : read32 0 b ≡ v.number = read32_is 0 b v.number (omega (arith, fits.number.1)) r.number in
     let yes = c.is_within.ensures.1 (rw (c.number_of-number.ensures, e) fits.number) in
     cc
 
 pub returns-then-len-slot-clause-none : goal.returns-then-len-slot-clause-none
 returns-then-len-slot-clause-none c v fits is =
-    let same = length_at c.args.form c.args.slot.now v c.requires (reads_from c.args.form c.args.slot.now v is) in
+    let same = length_at c.args.form c.args.slot.now v c.requires (reads_from c.args.form v is) in
     omega (arith, same, fits.name.short)
 
 pub returns-then-not-is_name-clause-none : goal.returns-then-not-is_name-clause-none
 returns-then-not-is_name-clause-none c v fits is =
-    let e = name_at c.args.form c.args.slot.now v c.requires (reads_from c.args.form c.args.slot.now v is) in
+    let e = name_at c.args.form c.args.slot.now v c.requires (reads_from c.args.form v is) in
     let yes = c.is_name.ensures.1 (rw (c.name_of.ensures, e) fits.name) in
     let e : false ≡ true = sym c.if-not-is_name.true ∙ yes in
     absurd (cc)
 
 pub returns-then-not-is_zero_after-clause-none : goal.returns-then-not-is_zero_after-clause-none
 returns-then-not-is_zero_after-clause-none c v fits is =
-    let zeros = zeros_past c.args.form c.args.slot.now v c.requires fits.name.short (reads_from c.args.form c.args.slot.now v is) in
+    let zeros = zeros_past c.args.form c.args.slot.now v c.requires fits.name.short (reads_from c.args.form v is) in
     let yes = c.is_zero_after.ensures.1 (λ i from to. zeros i from (omega (arith, c.requires))) in
     cc
 
@@ -70,4 +70,4 @@ returns-then-not-is_zero_after-clause-exact c =
     slot_is c.args.form c.args.slot.now None tt (λ v fits is. returns-then-not-is_zero_after-clause-none c v fits is)
 
 pub returns-clause-exact : goal.returns-clause-exact
-returns-clause-exact c = let found = returns-clause-found c in sym (slot_some c.args.form c.args.slot.now _ found.0 found.1)
+returns-clause-exact c = let found = returns-clause-found c in sym (slot_some c.args.form c.args.slot.now found.0 found.1)

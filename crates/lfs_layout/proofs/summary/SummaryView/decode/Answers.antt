@@ -11,28 +11,28 @@ use Rattle.lfs_layout.proofs.summary.SummaryView.decode.Goals as goal
 
 pub returns-then-count-eq0-clause-none : goal.returns-then-count-eq0-clause-none
 returns-then-count-eq0-clause-none c bs fits is =
-    let n = count_of c.args.sector.now bs fits (reads_from c.args.sector.now bs is) in
+    let n = count_of bs fits (reads_from bs is) in
     let some = fits.some in
     let read = c.number16_at-count.ensures.read in
     omega (arith, n, some, read)
 
 pub returns-then-count-gt-CHUNK_BLOCKS-clause-none : goal.returns-then-count-gt-CHUNK_BLOCKS-clause-none
 returns-then-count-gt-CHUNK_BLOCKS-clause-none c bs fits is =
-    let n = count_of c.args.sector.now bs fits (reads_from c.args.sector.now bs is) in
+    let n = count_of bs fits (reads_from bs is) in
     let room = fits.room in
     let read = c.number16_at-count.ensures.read in
     omega (arith, n, room, read)
 
 pub returns-then-not-is_zero_at-clause-none : goal.returns-then-not-is_zero_at-clause-none
 returns-then-not-is_zero_at-clause-none c bs fits is =
-    let yes = c.is_zero_at.ensures.1 (reads_from c.args.sector.now bs is).gap in
+    let yes = c.is_zero_at.ensures.1 (reads_from bs is).gap in
     cc
 
 pub returns-then-not-is_block_at-clause-none : goal.returns-then-not-is_block_at-clause-none
 returns-then-not-is_block_at-clause-none c bs fits is =
     let s = c.args.sector.now in
-    let r = reads_from s bs is in
-    let n = count_of s bs fits r in
+    let r = reads_from bs is in
+    let n = count_of bs fits r in
     let read = c.number16_at-count.ensures.read in
     let yes = c.is_block_at.ensures.1 (block_in s bs c.told-sector fits r c.loop-i.i (omega (arith, n, read))) in
     cc
@@ -40,8 +40,8 @@ returns-then-not-is_block_at-clause-none c bs fits is =
 pub returns-then-not-is_zero_at-2-clause-none : goal.returns-then-not-is_zero_at-2-clause-none
 returns-then-not-is_zero_at-2-clause-none c bs fits is =
     let s = c.args.sector.now in
-    let r = reads_from s bs is in
-    let n : c.number16_at-count.result ≡ length bs = c.number16_at-count.ensures.read ∙ count_of s bs fits r in
+    let r = reads_from bs is in
+    let n : c.number16_at-count.result ≡ length bs = c.number16_at-count.ensures.read ∙ count_of bs fits r in
     let P : ℕ → Type 0 = λ m. part (8 + 8 * m) (8 * (63 - m)) s ≡ zeros (8 * (63 - m)) in
     let yes = c.is_zero_at-2.ensures.1 (subst P (sym n) r.rest) in
     cc

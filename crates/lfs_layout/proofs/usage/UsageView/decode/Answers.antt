@@ -9,7 +9,7 @@ pub returns-then-not-is_use-clause-none : goal.returns-then-not-is_use-clause-no
 returns-then-not-is_use-clause-none c us fits is =
     let i = c.loop-i.i in
     let lt : i < 64 = omega arith in
-    let e = use_of c.args.sector.now c.args.count us fits is i lt in
+    let e = use_of c.args.count us fits is i lt in
     let yes = c.is_use.ensures.1 (rw (c.entry_at-entry.ensures, ← e) (fits.each i lt)) in
     cc
 
@@ -17,7 +17,7 @@ pub returns-then-not-is_unused-clause-none : goal.returns-then-not-is_unused-cla
 returns-then-not-is_unused-clause-none c us fits is =
     let i = c.loop-i.i in
     let lt : i < 64 = omega arith in
-    let e = use_of c.args.sector.now c.args.count us fits is i lt in
+    let e = use_of c.args.count us fits is i lt in
     let yes = c.is_unused.ensures.1 (rw (c.entry_at-entry.ensures, ← e) (fits.past i (omega arith) lt)) in
     cc
 

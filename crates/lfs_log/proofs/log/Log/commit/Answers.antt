@@ -51,5 +51,5 @@ returns-in-Err-clause-halted g c is ne =
       relocated = None;
     } in
     subst (λ (h : LogState g.row.D.Denot). Halts g.D.SectorDevice.state h (seen after)) c.self.view_is
-    (halts g.D.SectorDevice.state before after c.self.inside.memory (Holds g.D.SectorDevice.state (seen before))
+    (halts g.D.SectorDevice.state before after (Holds g.D.SectorDevice.state (seen before))
     (λ k m0 m is. (is, is.log)) c.in-Err.ensures.stopped refl refl refl)

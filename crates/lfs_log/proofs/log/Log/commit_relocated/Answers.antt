@@ -27,22 +27,21 @@ returns-in_default-clause-halted g c is ne =
     let there : relocated_by c.self.inside.relocated c.self.inside.pass ≡ Some c.self.inside.pass =
     ap (λ (r : Bool). relocated_by r c.self.inside.pass) on in
     subst (λ (h : LogState g.row.D.Denot). HaltsRelocated g.D.SectorDevice.state h (seen after)) c.self.view_is
-    (halts g.D.SectorDevice.state before after c.self.inside.pass (HoldsRelocated g.D.SectorDevice.state (seen before))
+    (halts g.D.SectorDevice.state before after (HoldsRelocated g.D.SectorDevice.state (seen before))
     (λ k m0 m is. (is.holds, is.relocated c.self.inside.pass there)) c.in_default.ensures.stopped refl refl refl)
 
 pub returns-in_default-clause-told : goal.returns-in_default-clause-told
 returns-in_default-clause-told g c =
     subst (λ (h : LogState g.row.D.Denot). length (g.D.SectorDevice.state c.save.new.device).told
     ≤ length (g.D.SectorDevice.state h.device).told + pass_orders h.segments) c.self.view_is
-    (few_orders c.self.inside.memory c.self.inside.pass _ _ (c.self.invariant.3 (search rules))
+    (few_orders _ _ (c.self.invariant.3 (search rules))
     (c.self.invariant.0 c.if-self.false).prepared.segments c.in_default.ensures.stopped.told)
 
 pub returns-clause-told : goal.returns-clause-told
 returns-clause-told g c =
     subst (λ (h : LogState g.row.D.Denot). length (g.D.SectorDevice.state c.save.new.device).told
     ≤ length (g.D.SectorDevice.state h.device).told + pass_orders h.segments) c.self.view_is
-    (few_orders c.self.inside.memory c.self.inside.pass _ _ (c.self.invariant.3 (search rules))
-    (c.self.invariant.0 c.if-self.false).prepared.segments c.in-Ok.ensures.done.told)
+    (few_orders _ _ (c.self.invariant.3 (search rules)) (c.self.invariant.0 c.if-self.false).prepared.segments c.in-Ok.ensures.done.told)
 
 pub returns-clause-done : goal.returns-clause-done
 returns-clause-done g c vs emptied =
@@ -72,11 +71,10 @@ returns-clause-done g c vs emptied =
     } in
     let are : AreEmptied c.self.inside.pass.usage vs =
     let told : Emptied (seen before) vs = subst (λ (h : LogState g.row.D.Denot). Emptied h vs) (sym c.self.view_is) emptied in
-    same_some (λ (v : LogMemory). AreEmptied v.usage vs) (seen before).relocated told.0 c.self.inside.pass told.1 there told.2 in
+    same_some (λ (v : LogMemory). AreEmptied v.usage vs) told.1 there told.2 in
     subst (λ (h : LogState g.row.D.Denot). CleansOf g.D.SectorDevice.state (HoldsRelocated g.D.SectorDevice.state h) h
     (seen (after c.take_tables.new.memory)) vs) c.self.view_is
     (subst (λ (v : LogMemory). CleansOf g.D.SectorDevice.state (HoldsRelocated g.D.SectorDevice.state (seen before)) (seen before)
-    (seen (after v)) vs) (sym c.take_tables.ensures.memory)
-    (relocated_done g.D.SectorDevice.state before c.self.inside.pass there (c.self.invariant.3 on)
-    ready.prepared.segments c.save.new.device c.save.new.memory c.self.inside.memory.dirty c.self.inside.memory.chunk
+    (seen (after v)) vs) (sym c.take_tables.ensures.memory) (relocated_done g.D.SectorDevice.state before there (c.self.invariant.3 on)
+    ready.prepared.segments c.save.new.device c.self.inside.memory.dirty c.self.inside.memory.chunk
     (c.self.invariant.3 on).nothing ready.running.closed c.if-self.false c.in-Ok.ensures.done vs are))

@@ -48,12 +48,12 @@ returns-clause-answer g c =
 
 pub invariant_of-self : goal.invariant_of-self
 invariant_of-self g c =
-    kept_still (g.D.SectorDevice.state c.self.inside.device) (g.D.SectorDevice.state c.locate_leaf.new.device) c.self.inside.memory
+    kept_still c.self.inside.memory
     c.self.inside.pass c.self.inside.upgraded c.self.inside.saved c.self.inside.halted c.self.inside.relocated c.self.inside.pointers
     c.locate_leaf.ensures.looks.looks c.self.invariant
 
 pub invariant_of-self-2 : goal.invariant_of-self-2
 invariant_of-self-2 g c =
-    kept_still (g.D.SectorDevice.state c.self.inside.device) (g.D.SectorDevice.state c.locate_leaf.new.device) c.self.inside.memory
+    kept_still c.self.inside.memory
     c.self.inside.pass c.self.inside.upgraded c.self.inside.saved c.self.inside.halted c.self.inside.relocated c.self.inside.pointers
     c.locate_leaf.ensures.looks.looks c.self.invariant

@@ -5,8 +5,7 @@ use Rattle.lfs_log.proofs.log.Log.open_with.Goals as goal
 
 pub with_tables-requires-clause-found : goal.with_tables-requires-clause-found
 with_tables-requires-clause-found g c =
-    tables_behind g.D.SectorDevice.state c.in-Ok.device c.verify.new.device c.in-Ok-verify.ensures.looks c.in-Ok-verify.tables
-    c.in-Ok-verify.ensures.found
+    tables_behind g.D.SectorDevice.state c.in-Ok.device c.verify.new.device c.in-Ok-verify.ensures.looks c.in-Ok-verify.ensures.found
 
 pub with_tables-requires-clause-durable : goal.with_tables-requires-clause-durable
 with_tables-requires-clause-durable g c =
@@ -16,13 +15,11 @@ pub returns-in-Err-verify : goal.returns-in-Err-verify
 returns-in-Err-verify g c =
     subst (λ (d : g.row.D.Denot). OpensLog g.D.SectorDevice.state d (mount_fails c.in-Err-verify.fault c.into_inner.result)) c.in-Ok.ensures
     (subst (λ (d : g.row.D.Denot). OpensLog g.D.SectorDevice.state c.in-Ok.device (mount_fails c.in-Err-verify.fault d))
-    (sym c.into_inner.ensures)
-    (opens_none g.D.SectorDevice.state c.in-Ok.device c.verify.new.device c.in-Err-verify.ensures.looks c.in-Err-verify.fault
+    (sym c.into_inner.ensures) (opens_none {state = g.D.SectorDevice.state} c.in-Ok.device c.verify.new.device c.in-Err-verify.ensures.looks
     c.in-Err-verify.ensures.cause c.in-Err-verify.ensures.reason))
 
 pub returns-in-Ok-with_tables : goal.returns-in-Ok-with_tables
 returns-in-Ok-with_tables g c =
     subst (λ (d : g.row.D.Denot). OpensLog g.D.SectorDevice.state d (mount_gives c.in-Ok-with_tables.log)) c.in-Ok.ensures
-    (opens_some g.D.SectorDevice.state c.in-Ok.device c.verify.new.device c.in-Ok-verify.ensures.looks c.in-Ok-with_tables.log
-    c.in-Ok-with_tables.ensures.same c.in-Ok-with_tables.ensures.opened c.in-Ok-verify.tables c.in-Ok-verify.ensures.found
-    c.in-Ok-verify.ensures.durable)
+    (opens_some c.in-Ok.device c.verify.new.device c.in-Ok-verify.ensures.looks
+    c.in-Ok-with_tables.ensures.same c.in-Ok-with_tables.ensures.opened c.in-Ok-verify.ensures.found c.in-Ok-verify.ensures.durable)

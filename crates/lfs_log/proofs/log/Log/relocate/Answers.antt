@@ -41,7 +41,7 @@ returns-clause-done g c =
     } in
     let after : Held g.row.D.Denot = record before { device = c.relocate.new.device; relocated = Some c.relocate.new.pass } in
     subst (λ (h : LogState g.row.D.Denot). IsRelocated g.D.SectorDevice.state h (seen after) c.args.victims.now) c.self.view_is
-    (relocates g.D.SectorDevice.state before c.relocate.new.device c.relocate.new.pass c.args.victims.now
+    (relocates g.D.SectorDevice.state before c.relocate.new.device
     c.in-Ok.ensures.done c.if-self.false (search (rules, arith)) c.in-Ok.ensures.reads.no_failure)
 
 pub returns-then-self-2-clause-crowds : goal.returns-then-self-2-clause-crowds
@@ -68,7 +68,7 @@ returns-then-self-2-clause-lacks g c is may low =
       totals = c.self.inside.totals;
       relocated = relocated_by c.self.inside.relocated c.self.inside.pass;
     } in
-    let begun : MayClean c.self.inside.memory c.args.victims.now = may_begin before c.args.victims.now
+    let begun : MayClean c.self.inside.memory c.args.victims.now = may_begin before
     (subst (λ (h : LogState g.row.D.Denot). MayPass h c.args.victims.now) (sym c.self.view_is) may) in
     let under : c.self.inside.number < 2 ^ 64 - 1 =
     subst (λ (h : LogState g.row.D.Denot). h.number < 2 ^ 64 - 1) (sym c.self.view_is) low in
@@ -103,29 +103,24 @@ returns-in-Err-Full-clause-lacks g c is may low =
     subst (Overfills (g.D.SectorDevice.state c.self.inside.device) (g.D.SectorDevice.state c.relocate.new.device) c.self.inside.memory
     c.args.victims.now) c.most_of-most.ensures (c.in-Err-Full.ensures.full (search rules)) in
     subst (λ (h : LogState g.row.D.Denot). ArePacked g.D.SectorDevice.state h (seen after) c.args.victims.now) c.self.view_is
-    (are_packed g.D.SectorDevice.state before after c.args.victims.now
+    (are_packed g.D.SectorDevice.state before after
     (subst (λ (h : LogState g.row.D.Denot). MayPass h c.args.victims.now) (sym c.self.view_is) may)
     (c.self.invariant.0 c.if-self.false).running.closed over)
 
 pub invariant_of-self : goal.invariant_of-self
 invariant_of-self g c =
-    pass_still (g.D.SectorDevice.state c.self.inside.device) (g.D.SectorDevice.state c.relocate.new.device) c.self.inside.memory
-    c.self.inside.pass c.relocate.new.pass c.self.inside.upgraded c.self.inside.saved c.self.inside.halted c.self.inside.relocated false
+    pass_still c.self.inside.upgraded c.self.inside.saved c.self.inside.halted c.self.inside.relocated false
     c.self.inside.pointers c.relocate.ensures.reads.looks c.relocate.ensures.keeps (λ on. absurd (cc)) c.self.invariant
 
 pub invariant_of-self-in-Err-Device : goal.invariant_of-self-in-Err-Device
 invariant_of-self-in-Err-Device g c =
-    pass_still (g.D.SectorDevice.state c.self.inside.device) (g.D.SectorDevice.state c.relocate.new.device) c.self.inside.memory
-    c.self.inside.pass c.relocate.new.pass c.self.inside.upgraded c.self.inside.saved c.self.inside.halted c.self.inside.relocated false
+    pass_still c.self.inside.upgraded c.self.inside.saved c.self.inside.halted c.self.inside.relocated false
     c.self.inside.pointers c.relocate.ensures.reads.looks c.relocate.ensures.keeps (λ on. absurd (cc)) c.self.invariant
 
 pub invariant_of-self-2 : goal.invariant_of-self-2
 invariant_of-self-2 g c =
     let few : length c.relocate.new.pass.dirty.blocks ≤ most_brought (length c.args.victims.now) = let f = c.in-Ok.ensures.few in
     let most = c.most_of-most.ensures in omega (arith, f, most) in
-    pass_still (g.D.SectorDevice.state c.self.inside.device) (g.D.SectorDevice.state c.relocate.new.device) c.self.inside.memory
-    c.self.inside.pass c.relocate.new.pass c.self.inside.upgraded c.self.inside.saved c.self.inside.halted c.self.inside.relocated true
+    pass_still c.self.inside.upgraded c.self.inside.saved c.self.inside.halted c.self.inside.relocated true
     c.self.inside.pointers c.relocate.ensures.reads.looks c.relocate.ensures.keeps
-    (λ on. ready_to_save (g.D.SectorDevice.state c.self.inside.device) (g.D.SectorDevice.state c.relocate.new.device) c.self.inside.memory
-    c.relocate.new.pass c.args.victims.now (c.if-not-may_clean.ensures.yes (search rules)) c.requires c.in-Ok.ensures.done few)
-    c.self.invariant
+    (λ on. ready_to_save (c.if-not-may_clean.ensures.yes (search rules)) c.requires c.in-Ok.ensures.done few) c.self.invariant

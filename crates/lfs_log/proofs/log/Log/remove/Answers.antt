@@ -24,8 +24,7 @@ returns-in_default-clause-kept g c =
       relocated = None;
     } in
     subst (λ (h : LogState g.row.D.Denot). IsKept g.D.SectorDevice.state h (seen after)) c.self.view_is
-    (is_kept g.D.SectorDevice.state before after c.in_default.ensures.kept.0 refl refl c.in_default.ensures.kept.2 refl refl refl
-    c.in_default.ensures.kept.1)
+    (is_kept g.D.SectorDevice.state before after refl refl c.in_default.ensures.kept.2 refl refl refl c.in_default.ensures.kept.1)
 
 pub returns-in_default-clause-failed : goal.returns-in_default-clause-failed
 returns-in_default-clause-failed g c =
@@ -69,6 +68,5 @@ returns-clause-done g c =
       relocated = None;
     } in
     subst (λ (h : LogState g.row.D.Denot). IsRemoved g.D.SectorDevice.state h (seen after) c.args.number) c.self.view_is
-    (is_removed g.D.SectorDevice.state before after c.in-Ok.ensures.done.0 refl refl c.in-Ok.ensures.done.2 refl refl c.args.number
-    c.requires
+    (is_removed g.D.SectorDevice.state before after refl refl c.in-Ok.ensures.done.2 refl refl c.requires
     (ap (λ (hidden : Bool). c.self.inside.saved && hidden) c.is_hidden-nameless.ensures) c.in-Ok.ensures.done.1)

@@ -29,7 +29,7 @@ returns-in-Ok-clause-done g c =
     } in
     let go = c.in-Ok.ensures.done in
     subst (λ (h : LogState g.row.D.Denot). IsStaged g.D.SectorDevice.state h (seen after) c.args.changes.now) c.self.view_is
-    (is_staged g.D.SectorDevice.state before after go.0 refl refl go.2 c.args.changes.now c.version_after-self-inside.ensures
+    (is_staged g.D.SectorDevice.state before after refl refl go.2 c.args.changes.now c.version_after-self-inside.ensures
     c.is_raised_after-self-inside.ensures refl go.1)
 
 pub returns-in-Err-clause-refused : goal.returns-in-Err-clause-refused
@@ -53,7 +53,7 @@ returns-in-Err-clause-refused g c =
     } in
     let go = c.in-Err.ensures.refused in
     subst (λ (h : LogState g.row.D.Denot). IsRefused g.D.SectorDevice.state h (seen after) c.args.changes.now) c.self.view_is
-    (is_refused g.D.SectorDevice.state before after go.0 refl refl go.2 c.args.changes.now refl refl refl go.1)
+    (is_refused g.D.SectorDevice.state before after refl refl go.2 c.args.changes.now refl refl refl go.1)
 
 pub returns-in-Err-clause-failed : goal.returns-in-Err-clause-failed
 returns-in-Err-clause-failed g c is =

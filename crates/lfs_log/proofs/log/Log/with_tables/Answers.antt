@@ -31,18 +31,18 @@ returns-in-Ok-open_memory-clause-opened g c =
     let nothing : AreAllSaved (seen after) =
     record { blocks = ap length is.dirty; version = refl; sectors = subst AreUntaken (sym told.usage) c.requires.loaded.usage.untaken } in
     let fresh : d.keeps_model → AreUntaken opened.memory.usage =
-    untaken d d lawful lawful c.requires.durable (looks_none d lawful) c.args.tables c.requires.loaded c.requires.found opened.memory
+    untaken d d lawful lawful c.requires.durable (looks_none lawful) c.args.tables c.requires.loaded c.requires.found opened.memory
     is.chunk is.dirty told.usage told.map in
     let enough : d.keeps_model → length opened.memory.usage.segments ≤ 8 * clean_in opened.memory.usage.segments =
-    many d d lawful lawful c.requires.durable (looks_none d lawful) c.args.tables c.requires.loaded c.requires.found opened.memory
+    many d d lawful lawful c.requires.durable (looks_none lawful) c.args.tables c.requires.loaded c.requires.found opened.memory
     is.chunk is.dirty told.usage told.map in
     record {
       holds = mounts g.D.SectorDevice.state c.args.device after lawful
           (subst (λ (v : ℕ). Opens d d opened.memory v opened.number) (sym c.new-version.ensures)
-          (subst (Opens d d opened.memory c.args.tables.version) (sym told.number) (opens d d lawful lawful c.requires.durable (looks_none d
+          (subst (Opens d d opened.memory c.args.tables.version) (sym told.number) (opens d d lawful lawful c.requires.durable (looks_none
           lawful) c.args.tables c.requires.loaded c.requires.found opened.memory is.chunk is.dirty told.usage told.map))) refl
           nothing fresh enough;
-      counts = counts_opened d d lawful lawful c.requires.durable (looks_none d lawful) c.args.tables c.requires.loaded c.requires.found
+      counts = counts_opened d d lawful lawful c.requires.durable (looks_none lawful) c.args.tables c.requires.loaded c.requires.found
           opened.memory is.chunk is.dirty told.usage told.map opened.totals told.data_blocks told.meta_blocks;
       saved = refl;
       empty = nothing;
@@ -56,7 +56,7 @@ invariant_of-result g c =
     let opened = c.in-Ok-open_memory.opened in
     let told = c.in-Ok-open_memory.ensures in
     let is = told.opened d.size c.requires.loaded in (
-      (λ on. ready d opened.memory opened.pass is told.pass),
+      (λ on. ready d is told.pass),
       tt,
       (λ all. record {
         blocks = is.dirty;

@@ -26,7 +26,7 @@ returns-in-Ok-clause-done g c =
     let after = with_two c.write_chunks.new.device c.write_chunks.new.memory in
     let told = c.in-Ok.ensures in
     subst (λ (h : LogState g.row.D.Denot). WritesEarly g.D.SectorDevice.state h (seen after)) c.self.view_is
-    (writes_early g.D.SectorDevice.state before after told.done refl refl refl refl c.if-self.false
+    (writes_early g.D.SectorDevice.state after told.done refl refl refl refl c.if-self.false
     (⊎_elim (λ (same : (c.write_chunks.new.device ≡ c.self.inside.device) × (c.write_chunks.new.memory ≡ c.self.inside.memory)).
     inl (ap₂ with_two same.0 same.1))
     (λ (kept : reserve_of (length c.write_chunks.new.memory.usage.segments) ≤ clean_in c.write_chunks.new.memory.usage.segments). inr kept)

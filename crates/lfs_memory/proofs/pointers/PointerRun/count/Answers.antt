@@ -14,8 +14,7 @@ loop-index-preserved c =
     let is = c.from-count.ensures in
     record {
       few = omega (arith, few, one, is);
-      value = blocks_more (pointer_in c.args.self.now) c.args.from c.loop-index.index c.loop-index.count
-          (omega (arith, few)) c.loop-index.invariant.value
+      value = blocks_more (pointer_in c.args.self.now) c.args.from c.loop-index.index (omega (arith, few)) c.loop-index.invariant.value
           ∙ ap (λ (p : ℕ). c.loop-index.count + bool_byte (not (p == 0))) (sym c.pointer.ensures)
           ∙ ap (λ (k : ℕ). c.loop-index.count + k) (sym is);
     }

@@ -10,6 +10,5 @@ pub returns-in-Some : goal.returns-in-Some
 returns-in-Some c =
     ap (λ e. reached c.args.self.now (reached_of e)
     (λ d. links_to c.args.segments c.args.self.now c.args.paths.0.now c.args.paths.1.now d (reached_of c.args.second))) c.in-Ok.is
-    ∙ link_refused c.args.segments c.args.self.now c.args.paths.1.now c.args.paths.0.now c.in-Ok.n
-    (reached_of c.args.second) c.self.inside.tree c.in_ok-last.last.path.now
-    (Refuse (refusal_of c.in-Some.refusal)) (ap (λ s. s.tree) c.self.view_is) c.in_ok-last.ensures c.in-Some.ensures
+    ∙ link_refused c.args.segments c.args.self.now c.args.paths.1.now c.in-Ok.n (reached_of c.args.second)
+    (ap (λ s. s.tree) c.self.view_is) c.in_ok-last.ensures c.in-Some.ensures

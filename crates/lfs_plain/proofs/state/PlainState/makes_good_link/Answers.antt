@@ -9,6 +9,5 @@ use Rattle.lfs_plain.proofs.state.PlainState.makes_good_link.Goals as goal
 pub returns-in-Some : goal.returns-in-Some
 returns-in-Some c =
     ap (λ e. reached c.args.self.now (reached_of e) (makes_link c.args.segments c.args.self.now c.args.text.now c.args.path.now)) c.in-Ok.is
-    ∙ symlink_refused c.args.segments c.args.self.now c.args.text.now c.args.path.now c.in-Ok.n c.self.inside.tree
-    c.in_ok-last.last.path.now (Refuse (refusal_of c.in-Some.refusal))
+    ∙ symlink_refused c.args.segments c.args.self.now c.args.text.now c.in-Ok.n
     (ap (λ s. s.tree) c.self.view_is) c.in_ok-last.ensures c.in-Some.ensures

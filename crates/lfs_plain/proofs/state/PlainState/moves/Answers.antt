@@ -13,8 +13,7 @@ pub returns : goal.returns
 returns c =
     let from = c.args.from.now in
     let to = c.args.to.now in
-    let same = moved_is c.args.segments c.args.self.now from.last.path.now to.last.path.now from.d to.d (the_view c.self.inside)
-    (handles_of c.as_slice.result.now) c.in_ok-tree.tree c.self.view_is
+    let same = moved_is c.args.segments c.args.self.now from.last.path.now to.last.path.now from.d to.d c.self.view_is
     (ap (λ (hs : List Handle). handles_of hs) c.as_slice.ensures.value) c.in_ok-tree.ensures in
     subst (λ (o : Answer × State). MatchResult c.takes.result (λ a. o ≡ (answer_of a, c.takes.new.self))
     (λ x. c.takes.new.self ≡ c.args.self.now)) (sym same) c.takes.ensures

@@ -11,8 +11,7 @@ pub returns-in-None : goal.returns-in-None
 returns-in-None c =
     let s = c.args.self.now in
     let call = call_of c.args.call.now in
-    let first = ends_at s.tree c.self.inside.tree (step.path_of call) (path_of c.first_path.result) None
-    (ap (λ s. s.tree) c.self.view_is) c.first_path.ensures
+    let first = ends_at (ap (λ s. s.tree) c.self.view_is) c.first_path.ensures
     (c.in_ok-end.ensures ∙ ap (λ (o : Option (Result ℕ Refusal)). option_map reached_of o) c.in-None.is) in
     (first_nowhere c.args.segments s call first, refl)
 
@@ -20,22 +19,18 @@ pub returns-in-None-2 : goal.returns-in-None-2
 returns-in-None-2 c =
     let s = c.args.self.now in
     let call = call_of c.args.call.now in
-    let first = ends_at s.tree c.self.inside.tree (step.path_of call) (path_of c.first_path.result) (Some (reached_of c.in-Some.end))
-    (ap (λ s. s.tree) c.self.view_is) c.first_path.ensures
+    let first = ends_at (ap (λ s. s.tree) c.self.view_is) c.first_path.ensures
     (c.in_ok-end.ensures ∙ ap (λ (o : Option (Result ℕ Refusal)). option_map reached_of o) c.in-Some.is) in
-    let second = ends_at s.tree c.self.inside.tree (step.second_path_of call) (path_of c.second_path.result) None
-    (ap (λ s. s.tree) c.self.view_is) c.second_path.ensures
+    let second = ends_at (ap (λ s. s.tree) c.self.view_is) c.second_path.ensures
     (c.in_ok-end-2.ensures ∙ ap (λ (o : Option (Result ℕ Refusal)). option_map reached_of o) c.in-None-2.is) in
-    (second_nowhere c.args.segments s call (reached_of c.in-Some.end) first second, refl)
+    (second_nowhere c.args.segments s call first second, refl)
 
 pub returns : goal.returns
 returns c =
     let s = c.args.self.now in
     let call = call_of c.args.call.now in
-    let first = ends_at s.tree c.self.inside.tree (step.path_of call) (path_of c.first_path.result) (Some (reached_of c.in-Some.end))
-    (ap (λ s. s.tree) c.self.view_is) c.first_path.ensures
+    let first = ends_at (ap (λ s. s.tree) c.self.view_is) c.first_path.ensures
     (c.in_ok-end.ensures ∙ ap (λ (o : Option (Result ℕ Refusal)). option_map reached_of o) c.in-Some.is) in
-    let second = ends_at s.tree c.self.inside.tree (step.second_path_of call) (path_of c.second_path.result)
-    (Some (reached_of c.in-Some-2.end)) (ap (λ s. s.tree) c.self.view_is) c.second_path.ensures
+    let second = ends_at (ap (λ s. s.tree) c.self.view_is) c.second_path.ensures
     (c.in_ok-end-2.ensures ∙ ap (λ (o : Option (Result ℕ Refusal)). option_map reached_of o) c.in-Some-2.is) in
-    steps_by c.args.segments s call (reached_of c.in-Some.end) (reached_of c.in-Some-2.end) first second ∙ ap Some c.in_ok-answer.ensures
+    steps_by c.args.segments s call first second ∙ ap Some c.in_ok-answer.ensures

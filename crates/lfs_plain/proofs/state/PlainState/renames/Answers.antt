@@ -16,8 +16,7 @@ returns-in-Some c =
     let to = c.args.paths.1.now in
     ap (λ e. reached s (reached_of e) (λ da. reached s (reached_of c.args.second) (renames c.args.segments s from to da))) c.in-Ok.is
     ∙ ap (λ e. reached s (reached_of e) (renames c.args.segments s from to c.in-Ok.n)) c.in-Ok-second.is
-    ∙ rename_refused c.args.segments s from to c.in-Ok.n c.in-Ok-second.n c.self.inside.tree c.in_ok-of.field-0.path.now
-    c.in_ok-of-2.field-0.path.now (Refuse (refusal_of c.in-Some.refusal))
+    ∙ rename_refused c.args.segments s from to c.in-Ok.n c.in-Ok-second.n
     (ap (λ s. s.tree) c.self.view_is) c.in_ok-of.ensures c.in_ok-of-2.ensures c.in-Some.ensures
 
 pub returns : goal.returns
@@ -28,8 +27,7 @@ returns c =
     let same =
     ap (λ e. reached s (reached_of e) (λ da. reached s (reached_of c.args.second) (renames c.args.segments s from to da))) c.in-Ok.is
     ∙ ap (λ e. reached s (reached_of e) (renames c.args.segments s from to c.in-Ok.n)) c.in-Ok-second.is
-    ∙ rename_passes c.args.segments s from to c.in-Ok.n c.in-Ok-second.n c.self.inside.tree c.in_ok-of.field-0.path.now
-    c.in_ok-of-2.field-0.path.now
+    ∙ rename_passes c.args.segments s from to c.in-Ok.n c.in-Ok-second.n
     (ap (λ s. s.tree) c.self.view_is) c.in_ok-of.ensures c.in_ok-of-2.ensures c.in-None.ensures in
     subst (λ (o : Answer × State). MatchResult c.renames_names.result (λ a. o ≡ (answer_of a, c.renames_names.new.self))
     (λ x. c.renames_names.new.self ≡ s)) (sym same) c.renames_names.ensures

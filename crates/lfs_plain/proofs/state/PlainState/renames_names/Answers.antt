@@ -11,15 +11,14 @@ pub returns-in-Some : goal.returns-in-Some
 returns-in-Some c =
     let from = c.args.from.now in
     let to = c.args.to.now in
-    renamed_refused c.args.segments c.args.self.now from.last.path.now to.last.path.now from.d to.d c.self.inside.tree
-    (Refuse (refusal_of c.in-Some.refusal)) (ap (λ s. s.tree) c.self.view_is)
+    renamed_refused c.args.segments c.args.self.now from.last.path.now to.last.path.now from.d to.d (ap (λ s. s.tree) c.self.view_is)
     (sym c.is_same.ensures ∙ c.if-is_same.false) c.in-Some.ensures
 
 pub returns-in-None : goal.returns-in-None
 returns-in-None c =
     let from = c.args.from.now in
     let to = c.args.to.now in
-    let same = renamed_passes c.args.segments c.args.self.now from.last.path.now to.last.path.now from.d to.d c.self.inside.tree
+    let same = renamed_passes c.args.segments c.args.self.now from.last.path.now to.last.path.now from.d to.d
     (ap (λ s. s.tree) c.self.view_is)
     (sym c.is_same.ensures ∙ c.if-is_same.false) c.in-None.ensures in
     subst (λ (o : Answer × State). MatchResult c.moves.result (λ a. o ≡ (answer_of a, c.moves.new.self))

@@ -8,7 +8,6 @@ use Rattle.lfs_plain.proofs.state.PlainState.takes_away.Goals as goal
 pub returns : goal.returns
 returns c =
     let piece = c.as_slice.result.now in
-    took_away c.args.self.now (the_view c.self.inside) c.args.last.now.path.now c.args.d c.target-n.result piece
-    (handles_of c.as_slice-2.result.now) c.in_ok-less.less c.in_ok-self-inside.field-0
+    took_away c.args.last.now.path.now c.args.d
     c.self.view_is c.target-n.ensures (c.as_slice.ensures.value ∙ c.args.last.now.named) c.in_ok-less.ensures
     (ap (λ (hs : List Handle). handles_of hs) c.as_slice-2.ensures.value) c.in_ok-self-inside.ensures

@@ -12,14 +12,11 @@ use Rattle.lfs_plain.proofs.state.PlainState.unlinks.Goals as goal
 pub returns-in-Some : goal.returns-in-Some
 returns-in-Some c =
     ap (λ e. reached c.args.self.now (reached_of e) (unlinks c.args.self.now c.args.path.now)) c.in-Ok.is
-    ∙ unlink_refused c.args.self.now c.args.path.now c.in-Ok.n c.self.inside.tree c.in_ok-last.last.path.now
-    (Refuse (refusal_of c.in-Some.refusal))
-    (ap (λ s. s.tree) c.self.view_is) c.in_ok-last.ensures c.in-Some.ensures
+    ∙ unlink_refused c.args.self.now c.in-Ok.n (ap (λ s. s.tree) c.self.view_is) c.in_ok-last.ensures c.in-Some.ensures
 
 pub returns : goal.returns
 returns c =
     let same = ap (λ e. reached c.args.self.now (reached_of e) (unlinks c.args.self.now c.args.path.now)) c.in-Ok.is
-    ∙ unlink_passes c.args.self.now c.args.path.now c.in-Ok.n c.self.inside.tree c.in_ok-last.last.path.now
-    (ap (λ s. s.tree) c.self.view_is) c.in_ok-last.ensures c.in-None.ensures in
+    ∙ unlink_passes c.args.self.now c.in-Ok.n (ap (λ s. s.tree) c.self.view_is) c.in_ok-last.ensures c.in-None.ensures in
     subst (λ (o : Answer × State). MatchResult c.takes_away.result (λ a. o ≡ (answer_of a, c.takes_away.new.self))
     (λ x. c.takes_away.new.self ≡ c.args.self.now)) (sym same) c.takes_away.ensures

@@ -14,7 +14,6 @@ returns-then-is_there c =
     let handles = handles_of c.args.handles.now in
     IfOk-weaker c.let_go.result (λ r. r ≡ let_go c.in_ok-moved.moved handles c.target.result)
     (λ r. r ≡ rename_tree t handles from.last.path.now to.last.path.now from.d to.d) (λ r is.
-    tree_there t handles from.last.path.now to.last.path.now c.as_slice.result.now c.as_slice-2.result.now from.d to.d c.target-n.result
-    c.target.result c.in_ok-less.less c.in_ok-moved.moved r
+    tree_there t handles from.last.path.now to.last.path.now from.d to.d c.in_ok-moved.moved
     (sym c.is_there.ensures ∙ c.if-is_there.true) c.target-n.ensures c.target.ensures (c.as_slice.ensures.value ∙ from.last.named)
     (c.as_slice-2.ensures.value ∙ to.last.named) c.in_ok-less.ensures c.in_ok-moved.ensures is) c.let_go.ensures

@@ -13,4 +13,4 @@ returns-clause-waits c =
     let count = s.counted in
     let same : length (carried_of s) + (c.args.number - s.carried) ≡ c.args.number = omega (arith, old, young, count) in
     subst (λ (n : ℕ). HasNumber (told_of s) n c.index.result.now) same
-    (numbered s.queue.items (c.args.number - s.carried) c.index.result.now (carried_of s) lt c.index.ensures)
+    (numbered s.queue.items (c.args.number - s.carried) (carried_of s) lt c.index.ensures)

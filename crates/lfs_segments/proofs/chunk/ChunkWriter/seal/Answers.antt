@@ -7,12 +7,12 @@ use Rattle.lfs_segments.proofs.chunk.ChunkWriter.seal.Goals as goal
 pub returns-in_err-write-clause-entries : goal.returns-in_err-write-clause-entries
 returns-in_err-write-clause-entries g c =
     let chunk : IsChunk c.args.self.now.names = search rules in
-    chunk_entries c.args.self.now.names chunk c.requires.some
+    chunk_entries chunk c.requires.some
 
 pub returns-clause-entries : goal.returns-clause-entries
 returns-clause-entries g c =
     let chunk : IsChunk c.args.self.now.names = search rules in
-    chunk_entries c.args.self.now.names chunk c.requires.some
+    chunk_entries chunk c.requires.some
 
 pub returns-clause-once : goal.returns-clause-once
 returns-clause-once g c = sealed_step _ _ _ c.requires.opened c.requires.some (search rules) (search rules)

@@ -6,5 +6,5 @@ use Rattle.lfs_segments.proofs.spelled.SpelledBlocks.new.Goals as goal
 
 pub returns : goal.returns
 unfolding zeros
-returns c n = spelled_new (zeros 512) refl c.in_ok-blocks.blocks.items n (c.in_ok-blocks.ensures.items_if_clones_equal
-    (λ y is. copied _ (λ a b same. same) (replicate 512 0) y 512 (length-replicate {A = ℕ} 512 0) is))
+returns c n = spelled_new (zeros 512) refl n (c.in_ok-blocks.ensures.items_if_clones_equal
+    (λ y is. copied _ (λ a b same. same) (replicate 512 0) y (length-replicate {A = ℕ} 512 0) is))

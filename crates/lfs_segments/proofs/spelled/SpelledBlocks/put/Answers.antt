@@ -17,5 +17,5 @@ returns c segments lt so =
     ∙ ap (λ (was : List ℕ). slice_set (usage_of was) place c.saved.result)
     (c.index_mut-block.ensures.value ∙ get_or_default blocks at _ [] there)
     ∙ ap (λ (entry : SegmentUse). slice_set (usage_of (get_or blocks at [])) place entry) c.saved.ensures in
-    spelled_anew blocks _ segments c.args.segment c.args.state c.set_usage_entry.new.block c.requires.low lt so refl
+    spelled_anew blocks _ c.args.segment c.args.state c.set_usage_entry.new.block c.requires.low lt so refl
     c.set_usage_entry.ensures.length entries

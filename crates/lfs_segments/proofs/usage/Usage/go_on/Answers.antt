@@ -11,5 +11,4 @@ returns c =
     let held : c.continued-state.result.held ≡ held_of c.args.self.now c.args.segment = search rules in
     let age : c.continued-state.result.age ≡ c.args.age = search rules in
     let kept : c.continued-state.result.kept ≡ kept_of c.args.self.now c.args.segment = search rules in
-    goes_on_of c.args.self.now c.change.new.self c.args.segment c.args.age c.continued-state.result fits c.requires.inside
-    c.requires.some c.requires.room used live held age kept c.change.ensures.set
+    goes_on_of fits c.requires.inside c.requires.some c.requires.room used live held age kept c.change.ensures.set

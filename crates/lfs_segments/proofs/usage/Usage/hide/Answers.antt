@@ -11,5 +11,4 @@ returns c =
     let held : c.hidden-state.result.held ≡ held_of c.args.self.now c.args.segment + c.args.count = search rules in
     let age : c.hidden-state.result.age ≡ age_of c.args.self.now c.args.segment = search rules in
     let kept : c.hidden-state.result.kept ≡ kept_of c.args.self.now c.args.segment = search rules in
-    hides_of c.args.self.now c.change.new.self c.args.segment c.args.count c.hidden-state.result fits c.requires.inside used live held
-    age kept c.change.ensures.set
+    hides_of c.hidden-state.result fits c.requires.inside used live held age kept c.change.ensures.set

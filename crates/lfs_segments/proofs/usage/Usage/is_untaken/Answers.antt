@@ -9,4 +9,4 @@ returns-clause-yes c = λ h.
     let none = eqb-true c.self.inside.taken 0 h in
     let fits : FitsTable c.args.self.now = search rules in
     let total : c.self.inside.taken ≡ taken_in c.args.self.now.segments = search rules in
-    untaken_of c.args.self.now fits (sym total ∙ none)
+    untaken_of fits (sym total ∙ none)

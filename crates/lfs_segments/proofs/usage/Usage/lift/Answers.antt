@@ -11,5 +11,4 @@ returns c =
     let held : cond (not c.args.lives) 1 0 + c.lifted-state.result.held ≡ held_of c.args.self.now c.args.segment = search rules in
     let age : c.lifted-state.result.age ≡ age_of c.args.self.now c.args.segment = search rules in
     let kept : c.lifted-state.result.kept ≡ kept_of c.args.self.now c.args.segment = search rules in
-    lifts_of c.args.self.now c.change.new.self c.args.segment c.lifted-state.result c.args.lives fits c.requires.inside used live held
-    age kept c.change.ensures.set
+    lifts_of c.lifted-state.result fits c.requires.inside used live held age kept c.change.ensures.set

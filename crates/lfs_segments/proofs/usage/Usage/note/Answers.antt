@@ -11,5 +11,4 @@ returns c =
     let held : c.noted-state.result.held ≡ cond (not c.args.lives) 1 0 + held_of c.args.self.now c.args.segment = search rules in
     let age : c.noted-state.result.age ≡ age_of c.args.self.now c.args.segment = search rules in
     let kept : c.noted-state.result.kept ≡ kept_of c.args.self.now c.args.segment = search rules in
-    notes_of c.args.self.now c.change.new.self c.args.segment c.noted-state.result c.args.lives fits c.requires.inside c.requires.begun
-    used live held age kept c.change.ensures.set
+    notes_of fits c.requires.inside c.requires.begun used live held age kept c.change.ensures.set

@@ -10,7 +10,6 @@ invariant_of-self c =
       c.self.invariant.0,
       c.self.invariant.1,
       subst (λ (t : UsageTable). ListsUnsettled list.result t.segments) (sym c.self.view_is)
-          (lists_released list.result c.args.self.now c.release_numbers.new.self list.ensures.count list.ensures.size
-          c.release_numbers.ensures),
+          (lists_released list.result list.ensures.count list.ensures.size c.release_numbers.ensures),
       c.self.invariant.3,
     )

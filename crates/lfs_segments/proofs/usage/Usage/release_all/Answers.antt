@@ -10,7 +10,7 @@ loop-segment-preserved c =
     let put = ap (λ (t : UsageTable). t.segments) c.put.ensures.put in
     let segments : c.put.new.self.segments ≡ slice_set c.loop-segment.self.segments c.loop-segment.segment
     (released (get_or c.loop-segment.self.segments c.loop-segment.segment no_segment)) = search rules in (
-      release_goes_on c.args.self.now c.loop-segment.self c.put.new.self c.loop-segment.segment c.loop-segment.invariant.0 inside segments
+      release_goes_on c.put.new.self c.loop-segment.invariant.0 inside segments
           (ap (λ (t : UsageTable). t.blocks) c.put.ensures.put) (ap (λ (t : UsageTable). t.last) c.put.ensures.put),
       c.loop-segment.invariant.1,
     )

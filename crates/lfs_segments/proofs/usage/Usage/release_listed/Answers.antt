@@ -24,7 +24,7 @@ loop-at-preserved c =
     let put = ap (λ (t : UsageTable). t.segments) c.put.ensures.put in
     let segments : c.put.new.self.segments ≡ slice_set c.loop-at.self.segments c.get-segment.result
     (released (get_or c.loop-at.self.segments c.get-segment.result no_segment)) = search rules in (
-      listed_goes_on c.args.self.now c.loop-at.self c.put.new.self c.args.list.now c.loop-at.at c.get-segment.result so is inside segments
+      listed_goes_on c.put.new.self so is inside segments
           (ap (λ (t : UsageTable). t.blocks) c.put.ensures.put) (ap (λ (t : UsageTable). t.last) c.put.ensures.put),
       c.loop-at.invariant.1,
     )
@@ -32,4 +32,4 @@ loop-at-preserved c =
 pub returns : goal.returns
 returns c =
     let past : c.args.list.now.count ≤ c.loop-at.at = search (rules, arith) in
-    listed_ends c.args.self.now c.loop-at.self c.args.list.now c.loop-at.at c.loop-at.invariant.0 past c.requires.listed c.requires.all
+    listed_ends c.loop-at.invariant.0 past c.requires.listed c.requires.all

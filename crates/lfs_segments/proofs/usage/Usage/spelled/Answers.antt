@@ -10,4 +10,4 @@ returns c =
     let blocks = c.self.inside.spelled.blocks.items in
     let so = subst (λ (t : UsageTable). AreSpelled blocks t.segments) c.self.view_is c.self.invariant.3 in
     subst (λ (bytes : List ℕ). SpellsBlock c.args.self.now c.args.index bytes) (sym c.get.ensures)
-    (spells_block c.args.self.now blocks c.args.index so c.requires)
+    (spells_block c.args.self.now c.args.index so c.requires)

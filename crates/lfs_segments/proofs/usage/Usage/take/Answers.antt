@@ -7,6 +7,6 @@ pub returns : goal.returns
 returns c =
     let put = c.put.ensures.put in
     let last = c.set_last.ensures in
-    takes_of c.args.self.now c.set_last.new.self c.args.segment c.args.age c.put.ensures.table c.requires.inside c.requires.clean
+    takes_of c.put.ensures.table c.requires.inside c.requires.clean
     (ap (λ (t : UsageTable). t.segments) last ∙ ap (λ (t : UsageTable). t.segments) put)
     (ap (λ (t : UsageTable). t.blocks) last ∙ ap (λ (t : UsageTable). t.blocks) put) (ap (λ (t : UsageTable). t.last) last)

@@ -12,5 +12,4 @@ returns c =
     search rules in
     let age : c.taken_away-state.result.age ≡ age_of c.args.self.now c.args.segment = search rules in
     let kept : c.taken_away-state.result.kept ≡ kept_of c.args.self.now c.args.segment = search rules in
-    takes_away_of c.args.self.now c.change.new.self c.args.segment c.args.count c.taken_away-state.result c.args.lives fits
-    c.requires.inside used live held age kept c.change.ensures.set
+    takes_away_of fits c.requires.inside used live held age kept c.change.ensures.set

@@ -10,6 +10,6 @@ returns-in_default-clause-none c = says_no_block c.args.self.now.changes c.args.
 
 pub returns-clause-some : goal.returns-clause-some
 returns-clause-some c =
-    says_block c.args.self.now.changes c.args.number.value c.args.index c.in-Some.place c.index.result.now
+    says_block c.args.self.now.changes
     (subst (λ (es : List BlockEdit). LastBlock es c.args.number.value c.args.index c.in-Some.place) c.deref.ensures.value c.in-Some.ensures)
     c.index.ensures

@@ -10,6 +10,6 @@ returns-in_default c = says_no_header c.args.self.now.changes c.args.number.valu
 
 pub returns : goal.returns
 returns c =
-    says_header c.args.self.now.changes c.args.number.value c.in-Some.place c.index.result.now
+    says_header c.args.self.now.changes
     (subst (λ (es : List HeaderEdit). LastHeader es c.args.number.value c.in-Some.place) c.deref.ensures.value c.in-Some.ensures)
     c.index.ensures

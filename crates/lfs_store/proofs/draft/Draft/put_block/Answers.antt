@@ -14,7 +14,7 @@ returns-in_default-clause-done c =
 
 pub returns-clause-done : goal.returns-clause-done
 returns-clause-done c =
-    block_replaced c.args.self.now.changes _ c.args.number.value c.args.index c.in-Some.place _
+    block_replaced _ _
     (subst (λ (es : List BlockEdit). LastBlock es c.args.number.value c.args.index c.in-Some.place) c.deref.ensures.value c.in-Some.ensures)
     (refl, refl) refl refl refl
 
@@ -26,5 +26,5 @@ returns-in_default-clause-placed c =
 
 pub returns-clause-placed : goal.returns-clause-placed
 returns-clause-placed c =
-    placed_again c.args.self.now.changes _ c.args.number.value c.args.index c.in-Some.place
+    placed_again c.args.self.now.changes _
     (subst (λ (es : List BlockEdit). LastBlock es c.args.number.value c.args.index c.in-Some.place) c.deref.ensures.value c.in-Some.ensures)

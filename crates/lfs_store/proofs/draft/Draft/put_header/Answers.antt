@@ -13,6 +13,6 @@ returns-in_default-clause-done c =
 
 pub returns-clause-done : goal.returns-clause-done
 returns-clause-done c =
-    header_replaced c.args.self.now.changes _ c.args.number.value c.in-Some.place _
+    header_replaced _ _
     (subst (λ (es : List HeaderEdit). LastHeader es c.args.number.value c.in-Some.place) c.deref.ensures.value c.in-Some.ensures) refl refl
     refl refl

@@ -4,7 +4,7 @@ use Rattle.lfs_store.proofs.store.Store.clean_once.Goals as goal
 
 pub returns-clause-cleans : goal.returns-clause-cleans
 returns-clause-cleans g c =
-    cleaned g.D.SectorDevice.state c.args.self.now c.clean_once.new.log c.clean_once.result c.clean_once.ensures.totals
+    cleaned g.D.SectorDevice.state c.clean_once.ensures.totals
     (ok_then c.clean_once.result _ _ (λ cleans. cleans.makes) c.clean_once.ensures.done)
     c.clean_once.ensures.full c.clean_once.ensures.device c.clean_once.ensures.halted c.clean_once.ensures.still c.clean_once.ensures.quiet
 

@@ -6,9 +6,7 @@ use Rattle.lfs_store.proofs.store.Store.clear_tail.Goals as goal
 
 pub returns-clause-done : goal.returns-clause-done
 returns-clause-done g c =
-    clears_tail g.D.SectorDevice.state c.args.self.now.log c.block.new.self.log c.args.self.now.draft.changes c.put_block.new.self.changes
-    c.args.number.value c.args.len
-    c.block.new.out c.cut_tail.new.block c.in-Ok.field-0 c.block.array_long c.cut_tail.array_long c.in-Ok.ensures.zeros
+    clears_tail g.D.SectorDevice.state c.in-Ok.field-0 c.block.array_long c.cut_tail.array_long c.in-Ok.ensures.zeros
     c.in-Ok.ensures.answer c.cut_tail.ensures
     (subst (λ (d : Draft). PutsBlock d.changes c.put_block.new.self.changes c.args.number.value (c.args.len / 512) c.cut_tail.new.block)
     c.block.ensures.reads.draft c.in-Ok-put_block.ensures.done)

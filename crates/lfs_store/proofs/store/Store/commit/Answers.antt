@@ -7,11 +7,11 @@ use Rattle.lfs_store.proofs.Endings.{committed_halted, committed_saved, same_exi
 use Rattle.lfs_store.proofs.store.Store.commit.Goals as goal
 
 pub returns-then-is_halted : goal.returns-then-is_halted
-returns-then-is_halted g c = committed_halted g.D.SectorDevice.state c.args.self.now (sym c.is_halted.ensures ∙ c.if-is_halted.true)
+returns-then-is_halted g c = committed_halted g.D.SectorDevice.state (sym c.is_halted.ensures ∙ c.if-is_halted.true)
 
 pub returns-then-is_saved : goal.returns-then-is_saved
 returns-then-is_saved g c =
-    committed_saved g.D.SectorDevice.state c.args.self.now (g.met.D.SectorDevice.lawful c.args.self.now.log.device)
+    committed_saved g.D.SectorDevice.state (g.met.D.SectorDevice.lawful c.args.self.now.log.device)
     (sym c.is_halted.ensures ∙ c.if-is_halted.false) (sym c.is_saved.ensures.value ∙ c.if-is_saved.true)
 
 pub returns-in_err-commit : goal.returns-in_err-commit
@@ -27,8 +27,7 @@ returns-in_err-commit g c =
       saved = tt;
       saves = tt;
       same =
-          still_unsaved g.row.D.Denot c.args.self.now.log c.commit.new.self _ c.in_err-commit.field-0.0 unsaved c.in_err-commit.ensures.full
-          c.in_err-commit.ensures.other
+          still_unsaved g.row.D.Denot _ c.in_err-commit.field-0.0 unsaved c.in_err-commit.ensures.full c.in_err-commit.ensures.other
           (λ e. (c.in_err-commit.ensures.halted e (λ (t : c.args.self.now.log.halted ≡ true). absurd (cc))).unsaved);
       full = c.in_err-commit.ensures.full;
       unsaved = λ e. unsaved;
@@ -46,9 +45,8 @@ returns g c =
     let unsaved : c.args.self.now.log.saved ≡ false = sym c.is_saved.ensures.value ∙ c.if-is_saved.false in
     record {
       keeps = record { draft = refl; totals = c.in_ok-commit.ensures.totals; drafted = refl };
-      done = commits_log g.D.SectorDevice.state c.args.self.now.log c.commit.new.self running unsaved c.in_ok-commit.ensures.done;
-      ready = readies_saves g.D.SectorDevice.state c.args.self.now.log c.commit.new.self unsaved
-          c.in_ok-commit.ensures.done c.in_ok-commit.ensures.totals;
+      done = commits_log g.D.SectorDevice.state running unsaved c.in_ok-commit.ensures.done;
+      ready = readies_saves g.D.SectorDevice.state unsaved c.in_ok-commit.ensures.done c.in_ok-commit.ensures.totals;
       saved = c.in_ok-commit.ensures.done.saved;
       saves = λ was. c.in_ok-commit.ensures.done;
       same = tt;

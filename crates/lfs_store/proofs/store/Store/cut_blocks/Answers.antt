@@ -9,8 +9,7 @@ use Rattle.lfs_store.proofs.store.Store.cut_blocks.Goals as goal
 
 pub returns-then-len-eq0-clause-done : goal.returns-then-len-eq0-clause-done
 returns-then-len-eq0-clause-done g c =
-    cuts_even g.D.SectorDevice.state c.args.self.now.log c.lose_blocks.new.self.log c.lose_blocks.new.self.draft.changes c.args.number.value
-    c.args.len (search rules) c.lose_blocks.ensures.draft
+    cuts_even g.D.SectorDevice.state (search rules) c.lose_blocks.ensures.draft
 
 pub returns-clause-failed : goal.returns-clause-failed
 returns-clause-failed g c =
@@ -19,11 +18,9 @@ returns-clause-failed g c =
 
 pub returns-then-len-eq0-clause-redrafts : goal.returns-then-len-eq0-clause-redrafts
 returns-then-len-eq0-clause-redrafts g c =
-    drafts_uncounted g.D.SectorDevice.state c.args.self.now c.lose_blocks.new.self c.lose_blocks.ensures.keeps
+    drafts_uncounted g.D.SectorDevice.state c.lose_blocks.ensures.keeps
 
 pub returns-clause-redrafts : goal.returns-clause-redrafts
 returns-clause-redrafts g c =
-    uncounted_then g.D.SectorDevice.state c.args.self.now c.lose_blocks.new.self c.cut_last.new.self
-    (g.met.D.SectorDevice.lawful c.args.self.now.log.device)
-    (drafts_uncounted g.D.SectorDevice.state c.args.self.now c.lose_blocks.new.self c.lose_blocks.ensures.keeps)
-    c.cut_last.ensures.redrafts
+    uncounted_then g.D.SectorDevice.state (g.met.D.SectorDevice.lawful c.args.self.now.log.device)
+    (drafts_uncounted g.D.SectorDevice.state c.lose_blocks.ensures.keeps) c.cut_last.ensures.redrafts

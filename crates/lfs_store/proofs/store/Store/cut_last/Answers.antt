@@ -8,15 +8,12 @@ use Rattle.lfs_store.proofs.store.Store.cut_last.Goals as goal
 pub returns-then-not-stored-clause-done : goal.returns-then-not-stored-clause-done
 returns-then-not-stored-clause-done g c =
     subst (λ (d : Draft). CutsDraft g.D.SectorDevice.state c.args.self.now.log c.block.new.self.log d.changes c.args.number.value
-    c.args.len) (sym c.block.ensures.reads.draft)
-    (cuts_none g.D.SectorDevice.state c.args.self.now.log c.block.new.self.log c.args.self.now.draft.changes c.args.number.value c.args.len
+    c.args.len) (sym c.block.ensures.reads.draft) (cuts_none g.D.SectorDevice.state c.args.self.now.log c.block.new.self.log
     c.block.new.out c.in-Ok.stored (search rules) c.requires.inside c.requires.lost c.in-Ok.ensures.answer)
 
 pub returns-clause-done : goal.returns-clause-done
 returns-clause-done g c =
-    cuts_inside g.D.SectorDevice.state c.args.self.now.log c.block.new.self.log c.args.self.now.draft.changes c.put_block.new.self.changes
-    c.args.number.value c.args.len
-    c.block.new.out c.cut_tail.new.block c.in-Ok.stored c.requires.inside c.requires.lost c.block.array_long c.cut_tail.array_long
+    cuts_inside g.D.SectorDevice.state c.in-Ok.stored c.requires.inside c.requires.lost c.block.array_long c.cut_tail.array_long
     c.in-Ok.ensures.zeros c.in-Ok.ensures.answer c.cut_tail.ensures
     (subst (λ (d : Draft). PutsBlock d.changes c.put_block.new.self.changes c.args.number.value (c.args.len / 512) c.cut_tail.new.block)
     c.block.ensures.reads.draft c.in-Ok-put_block.ensures.done)

@@ -9,8 +9,7 @@ returns-then-header-len-clause-done g c =
     let state = g.D.SectorDevice.state in
     ok_then c.resize.result _ _
     (sets_longer state c.args.self.now c.resize.new.self c.args.number.value c.args.header c.args.len c.requires.empty (search rules)
-    (drafts_uncounted state c.args.self.now c.resize.new.self c.resize.ensures.keeps).reads)
-    c.resize.ensures.done
+    (drafts_uncounted state c.resize.ensures.keeps).reads) c.resize.ensures.done
 
 pub returns-clause-done : goal.returns-clause-done
 returns-clause-done g c =
@@ -21,9 +20,8 @@ returns-clause-done g c =
 
 pub returns-then-header-len-clause-redrafts : goal.returns-then-header-len-clause-redrafts
 returns-then-header-len-clause-redrafts g c =
-    drafts_uncounted g.D.SectorDevice.state c.args.self.now c.resize.new.self c.resize.ensures.keeps
+    drafts_uncounted g.D.SectorDevice.state c.resize.ensures.keeps
 
 pub returns-clause-redrafts : goal.returns-clause-redrafts
 returns-clause-redrafts g c =
-    uncounted_drafts g.D.SectorDevice.state c.args.self.now c.cut_blocks.new.self c.resize-2.new.self c.cut_blocks.ensures.redrafts
-    c.resize-2.ensures.keeps
+    uncounted_drafts g.D.SectorDevice.state c.cut_blocks.ensures.redrafts c.resize-2.ensures.keeps

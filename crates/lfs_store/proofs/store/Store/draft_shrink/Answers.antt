@@ -20,5 +20,4 @@ returns-clause-only g c =
 
 pub returns-clause-redrafts : goal.returns-clause-redrafts
 returns-clause-redrafts g c =
-    uncounted_drafts g.D.SectorDevice.state c.args.self.now c.clear_tail.new.self c.resize.new.self c.clear_tail.ensures.redrafts
-    c.resize.ensures.keeps
+    uncounted_drafts g.D.SectorDevice.state c.clear_tail.ensures.redrafts c.resize.ensures.keeps

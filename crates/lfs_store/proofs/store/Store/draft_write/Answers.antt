@@ -21,13 +21,11 @@ loop-index-init g c = (
 pub returns-in_err-write_block-clause-failed : goal.returns-in_err-write_block-clause-failed
 returns-in_err-write_block-clause-failed g c =
     fails_so c.from_residual.result c.in_err-write_block.field-0.0 c.from_residual.ensures
-    (λ other. fault_more g.D.SectorDevice.state c.args.self.now.log c.loop-index.self.log c.write_block.new.self.log
+    (λ other. fault_more g.D.SectorDevice.state c.write_block.new.self.log
     c.loop-index.invariant.0.redrafts.reads (c.in_err-write_block.ensures.failed other))
 
 pub loop-index-preserved : goal.loop-index-preserved
-loop-index-preserved g c = (
-  written_more g.D.SectorDevice.state c.args.self.now c.loop-index.self c.write_block.new.self c.args.number.value c.args.at
-      c.args.bytes.now c.loop-index.index (g.met.D.SectorDevice.lawful c.args.self.now.log.device) (search rules)
+loop-index-preserved g c = ( written_more g.D.SectorDevice.state (g.met.D.SectorDevice.lawful c.args.self.now.log.device) (search rules)
       c.loop-index.invariant.0 c.write_block.ensures.redrafts c.in_ok-write_block.ensures.done,
   λ none. run_goes_on c.loop-index.self.draft.changes c.write_block.new.self.draft.changes c.args.number.value
       (c.args.at / 512) c.loop-index.index (c.loop-index.invariant.1 none) c.in_ok-write_block.ensures.placed,
@@ -36,27 +34,25 @@ loop-index-preserved g c = (
 pub returns-clause-done : goal.returns-clause-done
 returns-clause-done g c =
     ok_then c.resize.result _ _
-    (λ puts. written g.D.SectorDevice.state c.args.self.now c.loop-index.self c.resize.new.self c.args.number.value c.args.header c.args.at
-    c.args.bytes.now c.loop-index.index c.resize.ensures.keeps.log c.requires.bytes (search rules) (search rules) c.loop-index.invariant.0
+    (λ puts. written g.D.SectorDevice.state c.resize.new.self c.args.header
+     c.resize.ensures.keeps.log c.requires.bytes (search rules) (search rules) c.loop-index.invariant.0
     (subst (λ (size : ℕ). PutsHeader c.loop-index.self.draft.changes c.resize.new.self.draft.changes c.args.number.value
     (resized c.args.header size)) (search rules) puts)) c.resize.ensures.done
 
 pub returns-in_err-write_block-clause-redrafts : goal.returns-in_err-write_block-clause-redrafts
 returns-in_err-write_block-clause-redrafts g c =
-    uncounted_then g.D.SectorDevice.state c.args.self.now c.loop-index.self c.write_block.new.self
+    uncounted_then g.D.SectorDevice.state
     (g.met.D.SectorDevice.lawful c.args.self.now.log.device) c.loop-index.invariant.0.redrafts c.write_block.ensures.redrafts
 
 pub returns-clause-redrafts : goal.returns-clause-redrafts
 returns-clause-redrafts g c =
-    uncounted_drafts g.D.SectorDevice.state c.args.self.now c.loop-index.self c.resize.new.self c.loop-index.invariant.0.redrafts
-    c.resize.ensures.keeps
+    uncounted_drafts g.D.SectorDevice.state c.loop-index.invariant.0.redrafts c.resize.ensures.keeps
 
 pub returns-clause-room : goal.returns-clause-room
 returns-clause-room g c =
     let end : c.loop-index.index ≡ div_ceil (c.args.at + length c.args.bytes.now) 512 = search rules in
     ok_then c.resize.result _ _
-    (λ puts none few. written_room c.args.self.now.draft.changes c.loop-index.self.draft.changes c.resize.new.self.draft.changes
-    c.args.number.value (c.args.at / 512) c.loop-index.index _ none
+    (λ puts none few. written_room c.args.self.now.draft.changes (c.args.at / 512) c.loop-index.index none
     c.loop-index.invariant.0.headers (c.loop-index.invariant.1 none.blocks)
     (subst (λ (i : ℕ). i ≤ c.args.at / 512 + 129) (sym end) (blocks_few c.args.at (length c.args.bytes.now) few)) puts)
     c.resize.ensures.done

@@ -10,13 +10,11 @@ use Rattle.lfs_store.proofs.store.Store.find_room.Goals as goal
 
 pub returns-then-has_room-clause-makes : goal.returns-then-has_room-clause-makes
 returns-then-has_room-clause-makes g c =
-    made_none g.D.SectorDevice.state c.args.self.now (g.met.D.SectorDevice.lawful c.args.self.now.log.device) c.requires
+    made_none g.D.SectorDevice.state (g.met.D.SectorDevice.lawful c.args.self.now.log.device) c.requires
 
 pub returns-then-has_room-clause-ready : goal.returns-then-has_room-clause-ready
 returns-then-has_room-clause-ready g c =
-    readies_none g.D.SectorDevice.state c.args.self.now.log
-    (g.met.D.SectorDevice.lawful c.args.self.now.log.device)
-    c.requires
+    readies_none g.D.SectorDevice.state (g.met.D.SectorDevice.lawful c.args.self.now.log.device) c.requires
 
 pub returns-in_err-write_early-clause-makes : goal.returns-in_err-write_early-clause-makes
 returns-in_err-write_early-clause-makes g c =
@@ -27,24 +25,22 @@ returns-in_err-write_early-clause-makes g c =
       done = tt;
       full = λ e. absurd (c.in_err-write_early.ensures.full e);
       device = λ e. absurd (c.in_err-write_early.ensures.other e);
-      halted = λ e ne. halts_first g.D.SectorDevice.state c.args.self.now.log c.write_early.new.self.log
+      halted = λ e ne. halts_first g.D.SectorDevice.state {a = c.args.self.now.log} {b = c.write_early.new.self.log}
           (c.in_err-write_early.ensures.halted e);
     })
 
 pub returns-then-has_room-2-clause-makes : goal.returns-then-has_room-2-clause-makes
 returns-then-has_room-2-clause-makes g c =
-    made_ready g.D.SectorDevice.state c.args.self.now c.write_early.new.self c.write_early.ensures.keeps c.in_ok-write_early.ensures.done
+    made_ready g.D.SectorDevice.state c.write_early.ensures.keeps c.in_ok-write_early.ensures.done
 
 pub returns-clause-makes : goal.returns-clause-makes
 returns-clause-makes g c =
-    made_then g.D.SectorDevice.state c.args.self.now c.write_early.new.self c.commit.new.self c.commit.result
-    c.write_early.ensures.keeps c.in_ok-write_early.ensures.done
-    (made_committed g.D.SectorDevice.state c.write_early.new.self c.commit.new.self c.commit.result
+    made_then g.D.SectorDevice.state c.write_early.ensures.keeps c.in_ok-write_early.ensures.done
+    (made_committed g.D.SectorDevice.state c.commit.result
     (g.met.D.SectorDevice.lawful c.write_early.new.self.log.device) c.in_ok-write_early.ensures.early.running c.commit.ensures)
 
 pub returns-clause-ready : goal.returns-clause-ready
 returns-clause-ready g c =
     ok_then c.commit.result _ _
     (λ ready.
-    readies_then g.D.SectorDevice.state c.args.self.now.log c.write_early.new.self.log c.commit.new.self.log
-    c.in_ok-write_early.ensures.done ready) c.commit.ensures.ready
+    readies_then g.D.SectorDevice.state c.in_ok-write_early.ensures.done ready) c.commit.ensures.ready

@@ -13,7 +13,7 @@ returns-in-Ok-clause-makes g c =
       done = where_ok c.check_segments.result _ room.done;
       full = λ e. record {
         makes = room.done;
-        never = cannot_lack g.D.SectorDevice.state c.args.self.now.log c.clean.new.self.log
+        never = cannot_lack g.D.SectorDevice.state
             (g.met.D.SectorDevice.lawful c.clean.new.self.log.device) room.done c.in-Ok.ensures.enough (c.check_segments.ensures.lacks e);
       };
       device = λ e. absurd (c.check_segments.ensures.device e);

@@ -4,4 +4,4 @@ use Rattle.lfs_store.proofs.store.Store.lose_blocks.Goals as goal
 
 pub returns-clause-draft : goal.returns-clause-draft
 returns-clause-draft g c =
-    drafts_cut c.args.self.now.draft.changes _ c.args.number.value c.args.len _ c.requires.empty refl refl refl refl (search rules)
+    drafts_cut _ c.requires.empty refl refl refl refl (search rules)

@@ -23,17 +23,14 @@ pub returns-in_err-data_blocks-clause-failed : goal.returns-in_err-data_blocks-c
 returns-in_err-data_blocks-clause-failed g c =
     same_exit c.from_residual.result c.in_err-data_blocks.field-0.0
     (λ (r : Result Measure LogFault). OnErr r (IsReadFault g.D.SectorDevice.state c.args.self.now.log c.count_stored.new.log))
-    c.from_residual.ensures
-    (fault_more g.D.SectorDevice.state c.args.self.now.log c.header.new.self.log c.count_stored.new.log
+    c.from_residual.ensures (fault_more g.D.SectorDevice.state c.count_stored.new.log
     c.header.ensures.reads.log c.in_err-data_blocks.ensures.reads.failed)
 
 pub returns-in_err-pointers-clause-failed : goal.returns-in_err-pointers-clause-failed
 returns-in_err-pointers-clause-failed g c =
     same_exit c.from_residual-in_err-pointers.result c.in_err-pointers.field-0.0
     (λ (r : Result Measure LogFault). OnErr r (IsReadFault g.D.SectorDevice.state c.args.self.now.log c.count_pointers.new.log))
-    c.from_residual-in_err-pointers.ensures
-    (fault_more g.D.SectorDevice.state c.args.self.now.log c.count_stored.new.log c.count_pointers.new.log
-    (reads_more g.D.SectorDevice.state c.args.self.now.log c.header.new.self.log c.count_stored.new.log
+    c.from_residual-in_err-pointers.ensures (fault_more g.D.SectorDevice.state c.count_pointers.new.log (reads_more g.D.SectorDevice.state
     (g.met.D.SectorDevice.lawful c.args.self.now.log.device) c.header.ensures.reads.log c.count_stored.ensures.reads.reads)
     c.in_err-pointers.ensures.reads.failed)
 
@@ -57,9 +54,7 @@ returns-clause-answer g c =
     CountsPointers state c.count_stored.new.log c.count_pointers.new.log d.changes c.args.number.value
     c.in-Ok-Some.header.size c.args.from c.args.to c.in_ok-pointers.pointers)
     c.header.ensures.reads.draft c.in_ok-pointers.ensures.answer in
-    measured state c.args.self.now.draft.changes c.args.number.value c.args.self.now.log c.header.new.self.log
-    c.count_stored.new.log
-    c.count_pointers.new.log c.in-Ok-Some.header c.div_ceil.result c.args.from c.args.to
+    measured state c.args.self.now.draft.changes c.args.number.value c.in-Ok-Some.header c.div_ceil.result c.args.from c.args.to
     c.in_ok-data_blocks.data_blocks c.in_ok-pointers.pointers c.header.ensures.reads.log c.count_stored.ensures.reads.reads
     c.count_pointers.ensures.reads.reads covers
     c.requires.order answer counted below

@@ -20,8 +20,7 @@ returns-in_err-find_room-clause-makes g c =
 
 pub returns-clause-makes : goal.returns-clause-makes
 returns-clause-makes g c =
-    made_then g.D.SectorDevice.state c.args.self.now c.find_room.new.self c.find_segments.new.self c.find_segments.result
-    c.find_room.ensures.makes.keeps c.in_ok-find_room.ensures.ready c.find_segments.ensures.makes
+    made_then g.D.SectorDevice.state c.find_room.ensures.makes.keeps c.in_ok-find_room.ensures.ready c.find_segments.ensures.makes
 
 pub returns-clause-room : goal.returns-clause-room
 returns-clause-room g c =
@@ -44,6 +43,6 @@ returns-clause-quiet g c fits clean =
 
 pub returns-clause-told : goal.returns-clause-told
 returns-clause-told g c =
-    told_cleaned g.D.SectorDevice.state c.args.self.now.log c.find_room.new.self.log c.find_segments.new.self.log
+    told_cleaned g.D.SectorDevice.state c.find_segments.new.self.log
     c.in_ok-find_room.ensures.once (c.if-may_commit.ensures.no (search rules))
     c.find_room.ensures.told c.find_segments.ensures.told c.find_segments.ensures.passes c.in_ok-find_room.ensures.ready.room.keeps.segments

@@ -4,7 +4,7 @@ use Rattle.lfs_store.proofs.store.Store.reform.Goals as goal
 
 pub returns-clause-done : goal.returns-clause-done
 returns-clause-done g c =
-    reforms g.D.SectorDevice.state c.args.self.now c.put_header.new.self c.args.self.now.drafted c.args.number.value c.args.header
+    reforms g.D.SectorDevice.state c.args.self.now c.put_header.new.self c.args.self.now.drafted c.args.header
     c.args.form c.args.size c.in-Ok.ensures.done
 
 pub returns-clause-counted : goal.returns-clause-counted

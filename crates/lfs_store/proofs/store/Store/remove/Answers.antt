@@ -8,14 +8,12 @@ use Rattle.lfs_store.proofs.store.Store.remove.Goals as goal
 
 pub returns-in_err-before-clause-redrafts : goal.returns-in_err-before-clause-redrafts
 returns-in_err-before-clause-redrafts g c =
-    reads_redrafts g.D.SectorDevice.state c.args.self.now c.measure.new.self c.measure.ensures.reads
+    reads_redrafts g.D.SectorDevice.state c.measure.ensures.reads
 
 pub returns-clause-redrafts : goal.returns-clause-redrafts
 returns-clause-redrafts g c =
-    counted_redrafts g.D.SectorDevice.state c.args.self.now c.measure.new.self c.lose_file.new.self c.recount.new.self
-    (g.met.D.SectorDevice.lawful c.args.self.now.log.device) c.measure.ensures.reads
-    (drafts_uncounted g.D.SectorDevice.state c.measure.new.self c.lose_file.new.self c.lose_file.ensures.keeps)
-    c.recount.ensures.counts
+    counted_redrafts g.D.SectorDevice.state (g.met.D.SectorDevice.lawful c.args.self.now.log.device) c.measure.ensures.reads
+    (drafts_uncounted g.D.SectorDevice.state c.lose_file.ensures.keeps) c.recount.ensures.counts
 
 pub returns-in_err-before-clause-failed : goal.returns-in_err-before-clause-failed
 returns-in_err-before-clause-failed g c =
@@ -24,24 +22,18 @@ returns-in_err-before-clause-failed g c =
 pub returns-clause-failed : goal.returns-clause-failed
 returns-clause-failed g c =
     let state = g.D.SectorDevice.state in
-    err_then c.recount.result _ _ (counted_fault state c.args.self.now c.measure.new.self c.lose_file.new.self c.recount.new.self
-    (g.met.D.SectorDevice.lawful c.args.self.now.log.device) c.measure.ensures.reads
-    (drafts_uncounted state c.measure.new.self c.lose_file.new.self c.lose_file.ensures.keeps))
+    err_then c.recount.result _ _ (counted_fault state c.recount.new.self
+    (g.met.D.SectorDevice.lawful c.args.self.now.log.device) c.measure.ensures.reads (drafts_uncounted state c.lose_file.ensures.keeps))
     c.recount.ensures.failed
 
 pub returns-clause-done : goal.returns-clause-done
 returns-clause-done g c =
-    where_ok c.recount.result _
-    (removes_between g.D.SectorDevice.state c.args.self.now c.measure.new.self c.lose_file.new.self c.recount.new.self
-    c.measure.ensures.reads c.recount.ensures.counts c.args.number.value c.lose_file.ensures.done)
+    where_ok c.recount.result _ (removes_between c.measure.ensures.reads c.recount.ensures.counts c.lose_file.ensures.done)
 
 pub returns-clause-counted : goal.returns-clause-counted
 returns-clause-counted g c =
     let state = g.D.SectorDevice.state in
     ok_then c.recount.result _ _
-    (λ again. counts_between state c.args.self.now c.measure.new.self c.lose_file.new.self c.recount.new.self
-    c.measure.ensures.reads c.recount.ensures.counts c.args.number.value 0 16624 c.in_ok-before.before c.args.number.some
-    c.args.number.few (omega arith) (omega arith) c.in_ok-before.ensures.answer
-    (drafts_uncounted state c.measure.new.self c.lose_file.new.self c.lose_file.ensures.keeps) again
-    (λ m m' keeps has. removed_file _ m m' c.args.number.value (c.lose_file.ensures.done.has m m' has)))
-    c.recount.ensures.done
+    (λ again. counts_between c.measure.ensures.reads c.recount.ensures.counts c.args.number.some
+    c.args.number.few (omega arith) (omega arith) c.in_ok-before.ensures.answer (drafts_uncounted state c.lose_file.ensures.keeps) again
+    (λ m m' keeps has. removed_file m (c.lose_file.ensures.done.has m m' has))) c.recount.ensures.done

@@ -22,7 +22,7 @@ returns-then-links-eq0-clause-counted g c =
 
 pub returns-clause-done : goal.returns-clause-done
 returns-clause-done g c =
-    relinks g.D.SectorDevice.state c.args.self.now c.put_header.new.self c.args.self.now.drafted c.args.number.value c.args.header
+    relinks g.D.SectorDevice.state c.args.self.now c.put_header.new.self c.args.self.now.drafted c.args.header
     c.args.links (omega (arith, c.if-links-eq0.false)) c.in-Ok.ensures.done
 
 pub returns-clause-counted : goal.returns-clause-counted

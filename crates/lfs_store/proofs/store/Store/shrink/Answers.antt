@@ -7,11 +7,11 @@ use Rattle.lfs_store.proofs.store.Store.shrink.Goals as goal
 
 pub returns-in-Err-clause-redrafts : goal.returns-in-Err-clause-redrafts
 returns-in-Err-clause-redrafts g c =
-    reads_redrafts g.D.SectorDevice.state c.args.self.now c.measure.new.self c.measure.ensures.reads
+    reads_redrafts g.D.SectorDevice.state c.measure.ensures.reads
 
 pub returns-in_err-draft_shrink-clause-redrafts : goal.returns-in_err-draft_shrink-clause-redrafts
 returns-in_err-draft_shrink-clause-redrafts g c =
-    measured_redrafts g.D.SectorDevice.state c.args.self.now c.measure.new.self c.draft_shrink.new.self
+    measured_redrafts g.D.SectorDevice.state
     (g.met.D.SectorDevice.lawful c.args.self.now.log.device) c.measure.ensures.reads c.draft_shrink.ensures.redrafts
 
 pub returns-in-Err-clause-failed : goal.returns-in-Err-clause-failed
@@ -21,37 +21,35 @@ returns-in-Err-clause-failed g c other =
 pub returns-in_err-draft_shrink-clause-failed : goal.returns-in_err-draft_shrink-clause-failed
 returns-in_err-draft_shrink-clause-failed g c =
     fails_so c.from_residual.result c.in_err-draft_shrink.field-0.0 c.from_residual.ensures
-    (λ other. measured_fault g.D.SectorDevice.state c.args.self.now c.measure.new.self c.draft_shrink.new.self c.measure.ensures.reads
+    (λ other. measured_fault g.D.SectorDevice.state c.draft_shrink.new.self c.measure.ensures.reads
     (c.in_err-draft_shrink.ensures.failed other))
 
 pub returns-in-Err-recount-clause-redrafts : goal.returns-in-Err-recount-clause-redrafts
 returns-in-Err-recount-clause-redrafts g c =
-    counted_redrafts g.D.SectorDevice.state c.args.self.now c.measure.new.self c.draft_shrink.new.self c.recount.new.self
+    counted_redrafts g.D.SectorDevice.state
     (g.met.D.SectorDevice.lawful c.args.self.now.log.device) c.measure.ensures.reads c.draft_shrink.ensures.redrafts
     c.recount.ensures.counts
 
 pub returns-in-Ok-recount-clause-redrafts : goal.returns-in-Ok-recount-clause-redrafts
 returns-in-Ok-recount-clause-redrafts g c =
-    counted_redrafts g.D.SectorDevice.state c.args.self.now c.measure.new.self c.draft_shrink.new.self c.recount.new.self
+    counted_redrafts g.D.SectorDevice.state
     (g.met.D.SectorDevice.lawful c.args.self.now.log.device) c.measure.ensures.reads c.draft_shrink.ensures.redrafts
     c.recount.ensures.counts
 
 pub returns-in-Err-recount-clause-failed : goal.returns-in-Err-recount-clause-failed
 returns-in-Err-recount-clause-failed g c other =
-    counted_fault g.D.SectorDevice.state c.args.self.now c.measure.new.self c.draft_shrink.new.self c.recount.new.self
+    counted_fault g.D.SectorDevice.state c.recount.new.self
     (g.met.D.SectorDevice.lawful c.args.self.now.log.device) c.measure.ensures.reads c.draft_shrink.ensures.redrafts
     c.in-Err-recount.ensures.failed
 
 pub returns-in-Ok-recount-clause-done : goal.returns-in-Ok-recount-clause-done
 returns-in-Ok-recount-clause-done g c =
-    shrinks_between g.D.SectorDevice.state c.args.self.now c.measure.new.self c.draft_shrink.new.self c.recount.new.self
-    c.measure.ensures.reads c.recount.ensures.counts c.args.number.value c.args.header c.args.len c.in_ok-draft_shrink.ensures.done
+    shrinks_between c.measure.ensures.reads c.recount.ensures.counts c.in_ok-draft_shrink.ensures.done
 
 pub returns-in-Ok-recount-clause-counted : goal.returns-in-Ok-recount-clause-counted
 returns-in-Ok-recount-clause-counted g c =
     let less = c.requires.less in
     let most = c.requires.most in
-    counts_between g.D.SectorDevice.state c.args.self.now c.measure.new.self c.draft_shrink.new.self c.recount.new.self
-    c.measure.ensures.reads c.recount.ensures.counts c.args.number.value (c.args.len / 512) (c.args.len / 512 + 1) c.in-Ok.measure
+    counts_between c.measure.ensures.reads c.recount.ensures.counts
     c.args.number.some c.args.number.few (omega arith) (omega (arith, less, most)) c.in-Ok.ensures.answer
     c.draft_shrink.ensures.redrafts c.in-Ok-recount.ensures.done (λ m m' keeps has. c.in_ok-draft_shrink.ensures.only m m' has)

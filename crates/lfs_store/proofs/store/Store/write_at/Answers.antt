@@ -9,11 +9,11 @@ use Rattle.lfs_store.proofs.store.Store.write_at.Goals as goal
 
 pub returns-in-Err-clause-redrafts : goal.returns-in-Err-clause-redrafts
 returns-in-Err-clause-redrafts g c =
-    reads_redrafts g.D.SectorDevice.state c.args.self.now c.measure.new.self c.measure.ensures.reads
+    reads_redrafts g.D.SectorDevice.state c.measure.ensures.reads
 
 pub returns-in_err-draft_write-clause-redrafts : goal.returns-in_err-draft_write-clause-redrafts
 returns-in_err-draft_write-clause-redrafts g c =
-    measured_redrafts g.D.SectorDevice.state c.args.self.now c.measure.new.self c.draft_write.new.self
+    measured_redrafts g.D.SectorDevice.state
     (g.met.D.SectorDevice.lawful c.args.self.now.log.device) c.measure.ensures.reads c.draft_write.ensures.redrafts
 
 pub returns-in-Err-clause-failed : goal.returns-in-Err-clause-failed
@@ -23,42 +23,38 @@ returns-in-Err-clause-failed g c other =
 pub returns-in_err-draft_write-clause-failed : goal.returns-in_err-draft_write-clause-failed
 returns-in_err-draft_write-clause-failed g c =
     fails_so c.from_residual.result c.in_err-draft_write.field-0.0 c.from_residual.ensures
-    (λ other. measured_fault g.D.SectorDevice.state c.args.self.now c.measure.new.self c.draft_write.new.self c.measure.ensures.reads
+    (λ other. measured_fault g.D.SectorDevice.state c.draft_write.new.self c.measure.ensures.reads
     (c.in_err-draft_write.ensures.failed other))
 
 pub returns-in-Err-recount-clause-redrafts : goal.returns-in-Err-recount-clause-redrafts
 returns-in-Err-recount-clause-redrafts g c =
-    counted_redrafts g.D.SectorDevice.state c.args.self.now c.measure.new.self c.draft_write.new.self c.recount.new.self
+    counted_redrafts g.D.SectorDevice.state
     (g.met.D.SectorDevice.lawful c.args.self.now.log.device) c.measure.ensures.reads c.draft_write.ensures.redrafts c.recount.ensures.counts
 
 pub returns-in-Ok-recount-clause-redrafts : goal.returns-in-Ok-recount-clause-redrafts
 returns-in-Ok-recount-clause-redrafts g c =
-    counted_redrafts g.D.SectorDevice.state c.args.self.now c.measure.new.self c.draft_write.new.self c.recount.new.self
+    counted_redrafts g.D.SectorDevice.state
     (g.met.D.SectorDevice.lawful c.args.self.now.log.device) c.measure.ensures.reads c.draft_write.ensures.redrafts c.recount.ensures.counts
 
 pub returns-in-Err-recount-clause-failed : goal.returns-in-Err-recount-clause-failed
 returns-in-Err-recount-clause-failed g c other =
-    counted_fault g.D.SectorDevice.state c.args.self.now c.measure.new.self c.draft_write.new.self c.recount.new.self
+    counted_fault g.D.SectorDevice.state c.recount.new.self
     (g.met.D.SectorDevice.lawful c.args.self.now.log.device) c.measure.ensures.reads c.draft_write.ensures.redrafts
     c.in-Err-recount.ensures.failed
 
 pub returns-in-Ok-recount-clause-done : goal.returns-in-Ok-recount-clause-done
 returns-in-Ok-recount-clause-done g c =
-    writes_between g.D.SectorDevice.state c.args.self.now c.measure.new.self c.draft_write.new.self c.recount.new.self
-    c.measure.ensures.reads c.recount.ensures.counts c.args.number.value c.args.header c.args.at c.args.bytes.now
-    c.in_ok-draft_write.ensures.done
+    writes_between c.measure.ensures.reads c.recount.ensures.counts c.in_ok-draft_write.ensures.done
 
 pub returns-in-Ok-recount-clause-counted : goal.returns-in-Ok-recount-clause-counted
 returns-in-Ok-recount-clause-counted g c =
     let long = c.requires.bytes in
     let low = c.requires.end in
     let end = c.div_ceil-to.ensures in
-    counts_between g.D.SectorDevice.state c.args.self.now c.measure.new.self c.draft_write.new.self c.recount.new.self
-    c.measure.ensures.reads c.recount.ensures.counts c.args.number.value (c.args.at / 512) c.div_ceil-to.result c.in-Ok.measure
+    counts_between c.measure.ensures.reads c.recount.ensures.counts
     c.args.number.some c.args.number.few (omega (arith, end, long)) (omega (arith, end, low)) c.in-Ok.ensures.answer
     c.draft_write.ensures.redrafts c.in-Ok-recount.ensures.done
-    (λ m m' keeps has. written_file _ m m' c.args.number.value c.args.header _ c.args.at c.args.bytes.now c.div_ceil-to.result end
-    (c.in_ok-draft_write.ensures.done.file m m' keeps has))
+    (λ m m' keeps has. written_file m end (c.in_ok-draft_write.ensures.done.file m m' keeps has))
 
 pub returns-in-Ok-recount-clause-room : goal.returns-in-Ok-recount-clause-room
 returns-in-Ok-recount-clause-room g c none few =
@@ -67,5 +63,4 @@ returns-in-Ok-recount-clause-room g c none few =
 
 pub returns-in-Ok-recount-clause-asked : goal.returns-in-Ok-recount-clause-asked
 returns-in-Ok-recount-clause-asked g c =
-    asked_between g.D.SectorDevice.state c.args.self.now c.measure.new.self c.draft_write.new.self c.recount.new.self
-    c.measure.ensures.reads c.recount.ensures.counts c.args.bytes.now 274 c.in_ok-draft_write.ensures.asked
+    asked_between c.measure.ensures.reads c.recount.ensures.counts 274 c.in_ok-draft_write.ensures.asked

@@ -4,10 +4,7 @@ use Rattle.lfs_store.proofs.store.Store.write_block.Goals as goal
 
 pub returns-clause-done : goal.returns-clause-done
 returns-clause-done g c =
-    block_written g.D.SectorDevice.state c.args.self.now.log c.block_beneath.new.log c.args.self.now.draft.changes
-    c.put_block.new.self.changes c.args.number.value c.args.index c.args.at c.args.bytes.now
-    c.block_beneath.new.out c.overlay.new.block c.overlay.array_long c.in-Ok.ensures.done c.overlay.ensures
-    c.in-Ok-put_block.ensures.done
+    block_written g.D.SectorDevice.state c.overlay.array_long c.in-Ok.ensures.done c.overlay.ensures c.in-Ok-put_block.ensures.done
 
 pub returns-in-Err-clause-redrafts : goal.returns-in-Err-clause-redrafts
 returns-in-Err-clause-redrafts g c =
