@@ -1,5 +1,5 @@
 -- What a stop leaves while an empty volume is made, and what stands then.
-use Rattle.std.proofs.Common.{◌<◌, ◌≡◌, ◌⊎◌, inl, inr, ℕ, ◌+◌, ◌*◌, ◌%◌, ◌≤◌, List, [], length, Option, Some, None, refl, sym, ◌∙◌, ap}
+use Rattle.std.proofs.Common.{◌<◌, ◌≡◌, ◌⊎◌, inl, inr, ℕ, ◌+◌, ◌*◌, ◌%◌, ◌≤◌, List, [], length, Some, None, refl, sym, ◌∙◌, ap}
 use Rattle.std.proofs.Common.{subst, arith, length-set, get_or-set_other, get_or-set_same}
 use Rattle.lfs_model.specs.Checkpoint.{CheckpointValue, IsSegmentCount, IsVersion, checkpoint_sector, checkpoint_in, usage_blocks}
 use Rattle.lfs_model.specs.Content.{Content, newest, newer, slot, with_parity, bytes_of}
@@ -25,11 +25,11 @@ none_empty = refl
 -- slots that hold no checkpoint
 no_newest : (c : Content) → checkpoint_in (bytes_of (cell_at c 0)) ≡ None → checkpoint_in (bytes_of (cell_at c 1)) ≡ None → newest c ≡ None
 no_newest c first second =
-    ap (λ (o : Option CheckpointValue). newer (with_parity 0 o) (slot c 1)) first
-    ∙ ap (λ (o : Option CheckpointValue). newer None (with_parity 1 o)) second
+    ap (λ o. newer (with_parity 0 o) (slot c 1)) first
+    ∙ ap (λ o. newer None (with_parity 1 o)) second
 
 holds_none : (c : Content) (p : ℕ) → cell_at c p ≡ Some (blank 512) → checkpoint_in (bytes_of (cell_at c p)) ≡ None
-holds_none c p is = ap (λ (x : Cell). checkpoint_in (bytes_of x)) is ∙ none_blank
+holds_none c p is = ap (λ x. checkpoint_in (bytes_of x)) is ∙ none_blank
 
 pub clear_none : {c : Content} → AreClear c → newest c ≡ None
 clear_none {c} clear = no_newest c (holds_none c 0 clear.first) (holds_none c 1 clear.second)
@@ -42,7 +42,7 @@ chunk_clear N clear chunk =
 module _ (version N : ℕ) (known : IsVersion version) (count : IsSegmentCount N) (c0 c1 : Content) (long : 2 + 64 * N ≤ length c0)
     (clear : AreClear c0) (chunk : HasChunk version N (usage_blocks N) c0 c1) where
   room : 2 + 64 * N ≤ length c1
-  room = let same = chunk.others.size in omega (arith, long, same)
+  room = omega arith
 
   abbrev bytes : List ℕ
   bytes = checkpoint_sector (first_checkpoint version N)
@@ -52,69 +52,69 @@ module _ (version N : ℕ) (known : IsVersion version) (count : IsSegmentCount N
   whole {c2} is = record {
     known = known;
     count = count;
-    size = let same : length c2 ≡ length c1 = ap length is ∙ length-set c1 1 (Some bytes) in omega (arith, room, same);
-    empty_slot = other 0 (λ e. omega (arith, e)) ∙ (chunk_clear N clear chunk).first;
-    checkpoint = ap (λ (x : Content). cell_at x 1) is ∙ get_or-set_same c1 1 (Some bytes) None (omega (arith, room));
-    summary = other 2 (λ e. omega (arith, e)) ∙ chunk.summary;
-    inode = other 3 (λ e. omega (arith, e)) ∙ chunk.inode;
-    pointers = other 4 (λ e. omega (arith, e)) ∙ chunk.pointers;
-    uses = λ j lt. other (5 + j) (λ e. omega (arith, e)) ∙ chunk.uses j lt;
+    size = let same : length c2 ≡ length c1 = ap length is ∙ length-set c1 1 (Some bytes) in omega (arith, room);
+    empty_slot = other 0 (λ e. omega arith) ∙ (chunk_clear N clear chunk).first;
+    checkpoint = ap (λ x. cell_at x 1) is ∙ get_or-set_same c1 1 (Some bytes) None (omega (arith, room));
+    summary = other 2 (λ e. omega arith) ∙ chunk.summary;
+    inode = other 3 (λ e. omega arith) ∙ chunk.inode;
+    pointers = other 4 (λ e. omega arith) ∙ chunk.pointers;
+    uses = λ j lt. other (5 + j) (λ e. omega arith) ∙ chunk.uses j lt;
   }
     where
       other : (k : ℕ) → (k ≡ 1 → ⊥) → cell_at c2 k ≡ cell_at c1 k
-      other k ne = ap (λ (x : Content). cell_at x k) is ∙ get_or-set_other c1 1 k (Some bytes) None ne
+      other k ne = ap (λ x. cell_at x k) is ∙ get_or-set_other c1 1 k (Some bytes) None ne
 
   -- the checkpoint's write leaves none or that one
   pub torn : (c2 : Content) → MayWrite 1 bytes c1 c2 → (newest c2 ≡ None) ⊎ IsNew version N c2
   torn c2 (left_old is) = inl (clear_none (subst AreClear (sym is) (chunk_clear N clear chunk)))
   torn c2 (left_new is) = inr (whole is)
-  torn c2 (left_bad is) = inl (no_newest c2 (holds_none c2 0 first) (ap (λ (x : Cell). checkpoint_in (bytes_of x)) second ∙ none_empty))
+  torn c2 (left_bad is) = inl (no_newest c2 (holds_none c2 0 first) (ap (λ x. checkpoint_in (bytes_of x)) second ∙ none_empty))
     where
       first : cell_at c2 0 ≡ Some (blank 512)
-      first = ap (λ (x : Content). cell_at x 0) is ∙ get_or-set_other c1 1 0 None None (λ e. omega (arith, e))
+      first = ap (λ x. cell_at x 0) is ∙ get_or-set_other c1 1 0 None None (λ e. omega arith)
           ∙ (chunk_clear N clear chunk).first
 
       second : cell_at c2 1 ≡ None
-      second = ap (λ (x : Content). cell_at x 1) is ∙ get_or-set_same c1 1 None None (omega (arith, room))
+      second = ap (λ x. cell_at x 1) is ∙ get_or-set_same c1 1 None None (omega (arith, room))
 
 -- ---- at any moment
 
 -- the device before, and with clear slots
-module _ (version N : ℕ) (a b : DeviceState) (cleared : LeavesOnly a b (ComesFrom a MayClearSlots)) where
+module _ (version N : ℕ) {a b : DeviceState} (cleared : LeavesOnly a b (ComesFrom a MayClearSlots)) where
   abbrev P : Content → Type 0
   P = MayStand version N a
 
   pub moments_cleared : LeavesOnly a b P
-  moments_cleared = weaker (ComesFrom a MayClearSlots) P (λ x from. inl from) cleared
+  moments_cleared = weaker _ _ (λ x from. inl from) cleared
 
   -- with the chunk
-  module _ (clear : AreClear b.content) (only : Only b.content b) (c : DeviceState)
+  module _ (clear : AreClear b.content) (only : Only b.content b) {c : DeviceState}
       (chunked : AllLeft b AreClear → LeavesOnly b c AreClear) where
     all_clear : AllLeft b AreClear
     all_clear x left = subst AreClear (sym (only x left)) clear
 
     pub moments_chunked : LeavesOnly a c P
-    moments_chunked = joined P AreClear P moments_cleared (chunked all_clear) (λ x has. has) (λ x has. inr (inl (clear_none has)))
+    moments_chunked = joined _ _ _ moments_cleared (chunked all_clear) (λ x has. has) (λ x has. inr (inl (clear_none has)))
 
     -- synced
-    module _ (s : DeviceState) (still : AllLeft b AreClear → AllLeft c AreClear) (same : IsUntouched c s) (carries : Carries c s)
+    module _ {s : DeviceState} (still : AllLeft b AreClear → AllLeft c AreClear) (same : IsUntouched c s) (carries : Carries c s)
         (time : Elapses c s) where
       pub moments_synced : LeavesOnly a s P
       moments_synced =
-          goes_on P moments_chunked carries time (λ x left. inr (inl (clear_none (still all_clear x (same.crash x left)))))
+          goes_on _ moments_chunked carries time (λ x left. inr (inl (clear_none (still all_clear x (same.crash x left)))))
 
       -- with the checkpoint, whose write comes from what has the chunk
-      pub moments_written : (r : DeviceState) (k : CheckpointValue) → k ≡ first_checkpoint version N → IsVersion version → IsSegmentCount N
+      pub moments_written : {r : DeviceState} {k : CheckpointValue} → k ≡ first_checkpoint version N → IsVersion version → IsSegmentCount N
           → 2 + 64 * N ≤ length b.content
           → HasChunk version N (usage_blocks N) b.content c.content → Only s.content s
           → LeavesOnly s r (ComesFrom s (MayWrite (k.number % 2) (checkpoint_sector k))) → LeavesOnly a r P
-      moments_written r k is known count long chunk alone written =
-          joined P (ComesFrom s (MayWrite (k.number % 2) (checkpoint_sector k))) P moments_synced written (λ x has. has) (λ x from.
+      moments_written is known count long chunk alone written =
+          joined _ _ _ moments_synced written (λ x has. has) (λ x from.
           let content : from.0 ≡ c.content = alone from.0 from.1 ∙ same.content in
           let first : MayWrite 1 (checkpoint_sector (first_checkpoint version N)) from.0 x =
-          subst (λ (m : CheckpointValue). MayWrite (m.number % 2) (checkpoint_sector m) from.0 x) is from.2 in
+          subst (λ m. MayWrite (m.number % 2) (checkpoint_sector m) from.0 x) is from.2 in
           inr (torn version N known count b.content c.content long clear chunk x
-          (subst (λ (d : Content). MayWrite 1 (checkpoint_sector (first_checkpoint version N)) d x) content first)))
+          (subst (λ d. MayWrite 1 (checkpoint_sector (first_checkpoint version N)) d x) content first)))
 
 -- ---- the sectors that are written
 
@@ -127,41 +127,40 @@ left_now old Q lawful leaves x left = leaves.each x (lawful.counts_now old.momen
 
 same_then : (n : ℕ) {c d : Content} (e : Content) → SameOutside 0 n c d → SameOutside 0 n d e → SameOutside 0 n c e
 same_then n e one two =
-    record { size = two.size ∙ one.size; before = λ k lt. absurd (omega (arith, lt)); after = λ k le. two.after k le ∙ one.after k le }
+    record { size = two.size ∙ one.size; before = λ k lt. absurd (omega arith); after = λ k le. two.after k le ∙ one.after k le }
 
-touches_then : (n : ℕ) (a b c : DeviceState) → IsLawful b → Touches n a b → Touches n b c → Touches n a c
-touches_then n a b c lawful one two =
-    joined (ComesFrom a (SameOutside 0 n)) (ComesFrom b (SameOutside 0 n)) (ComesFrom a (SameOutside 0 n)) one two (λ x has. has)
+touches_then : (n : ℕ) {a b c : DeviceState} → IsLawful b → Touches n a b → Touches n b c → Touches n a c
+touches_then n {a} lawful one two =
+    joined _ _ _ one two (λ x has. has)
     (λ x from.
-    let was = left_now a (ComesFrom a (SameOutside 0 n)) lawful one from.0 from.1 in
+    let was = left_now a _ lawful one from.0 from.1 in
     (was.0, was.1, same_then n x was.2 from.2))
 
-touches_write : (n : ℕ) (a b c : DeviceState) (s : ℕ) (bytes : List ℕ) → s < n → IsLawful b → Touches n a b → CrashWrites s bytes b c
+touches_write : (n : ℕ) {a b c : DeviceState} (s : ℕ) (bytes : List ℕ) → s < n → IsLawful b → Touches n a b → CrashWrites s bytes b c
     → Carries b c → Elapses b c → Touches n a c
-touches_write n a b c s bytes low lawful one crash carries time =
-    goes_on (ComesFrom a (SameOutside 0 n)) one carries time (λ x left.
+touches_write n {a} s bytes low lawful one crash carries time =
+    goes_on _ one carries time (λ x left.
     let from = crash x left in
-    let was = left_now a (ComesFrom a (SameOutside 0 n)) lawful one from.0 from.1 in
-    (was.0, was.1, write_outside 0 n s bytes (omega arith) (omega (arith, low)) was.0 from.0 x was.2 from.2))
+    let was = left_now a _ lawful one from.0 from.1 in
+    (was.0, was.1, write_outside 0 n s bytes (omega arith) (omega arith) was.0 from.0 x was.2 from.2))
 
-touches_still : (n : ℕ) (a b c : DeviceState) → IsLawful b → Touches n a b → IsUntouched b c → Carries b c → Elapses b c → Touches n a c
-touches_still n a b c lawful one same carries time =
-    goes_on (ComesFrom a (SameOutside 0 n)) one carries time
-    (λ x left. left_now a (ComesFrom a (SameOutside 0 n)) lawful one x (same.crash x left))
+touches_still : (n : ℕ) {a b c : DeviceState} → IsLawful b → Touches n a b → IsUntouched b c → Carries b c → Elapses b c → Touches n a c
+touches_still n {a} lawful one same carries time =
+    goes_on _ one carries time
+    (λ x left. left_now a _ lawful one x (same.crash x left))
 
-touches_slots : (n : ℕ) (a b : DeviceState) → 2 ≤ n → LeavesOnly a b (ComesFrom a MayClearSlots) → Touches n a b
-touches_slots n a b le leaves =
-    weaker (ComesFrom a MayClearSlots) (ComesFrom a (SameOutside 0 n)) (λ x from. (from.0, from.1, wider from.2.others)) leaves
+touches_slots : (n : ℕ) {a b : DeviceState} → 2 ≤ n → LeavesOnly a b (ComesFrom a MayClearSlots) → Touches n a b
+touches_slots n le leaves =
+    weaker _ _ (λ x from. (from.0, from.1, wider from.2.others)) leaves
   where
     wider : {d x : Content} → SameOutside 0 2 d x → SameOutside 0 n d x
-    wider same =
-        record { size = same.size; before = λ k lt. absurd (omega (arith, lt)); after = λ k past. same.after k (omega (arith, le, past)) }
+    wider same = record { size = same.size; before = λ k lt. absurd (omega arith); after = λ k past. same.after k (omega arith) }
 
-touches_slot : (n : ℕ) (a b : DeviceState) (s : ℕ) (bytes : List ℕ) → s < n → LeavesOnly a b (ComesFrom a (MayWrite s bytes))
+touches_slot : (n : ℕ) {a b : DeviceState} (s : ℕ) (bytes : List ℕ) → s < n → LeavesOnly a b (ComesFrom a (MayWrite s bytes))
     → Touches n a b
-touches_slot n a b s bytes low leaves =
-    weaker (ComesFrom a (MayWrite s bytes)) (ComesFrom a (SameOutside 0 n)) (λ x from.
-    (from.0, from.1, write_outside 0 n s bytes (omega arith) (omega (arith, low)) from.0 from.0 x (same_outside_none 0 n from.0) from.2))
+touches_slot n s bytes low leaves =
+    weaker _ _ (λ x from.
+    (from.0, from.1, write_outside 0 n s bytes (omega arith) (omega arith) from.0 from.0 x (same_outside_none 0 n from.0) from.2))
     leaves
 
 -- ---- the steps
@@ -176,12 +175,12 @@ writes_none N {d} lawful = record {
 }
 
 -- and one block more
-pub writes_write : (N : ℕ) {a b c : DeviceState} (s : ℕ) (bytes : List ℕ) → 2 ≤ s → s < 5 + usage_blocks N → IsLawful b → WritesChunk N a b
+pub writes_write : {N : ℕ} {a b c : DeviceState} {s : ℕ} {bytes : List ℕ} → 2 ≤ s → s < 5 + usage_blocks N → IsLawful b → WritesChunk N a b
     → CrashWrites s bytes b c → Carries b c → Elapses b c → WritesChunk N a c
-writes_write N {a} {b} {c} s bytes past low lawful one crash carries time = record {
+writes_write {N} {a} {b} {c} {s} {bytes} past low lawful one crash carries time = record {
   any_moment = λ clear. (run clear).leaves;
   left = λ clear. (run clear).now;
-  touched = touches_write (5 + usage_blocks N) a b c s bytes low lawful one.touched crash carries time;
+  touched = touches_write (5 + usage_blocks N) s bytes low lawful one.touched crash carries time;
   carries = carries_then one.carries carries;
 }
   where
@@ -190,21 +189,21 @@ writes_write N {a} {b} {c} s bytes past low lawful one crash carries time = reco
         (record { carries = one.carries; leaves = one.any_moment clear; now = one.left clear }) (clear_survives s bytes past) crash carries
         time
 
-pub writes_then : (N : ℕ) (a b c : DeviceState) → IsLawful b → WritesChunk N a b → WritesChunk N b c → WritesChunk N a c
-writes_then N a b c lawful one two = record {
+pub writes_then : {N : ℕ} {a b c : DeviceState} → IsLawful b → WritesChunk N a b → WritesChunk N b c → WritesChunk N a c
+writes_then {N} lawful one two = record {
   any_moment = λ clear.
-      joined AreClear AreClear AreClear (one.any_moment clear) (two.any_moment (one.left clear)) (λ x has. has) (λ x has. has);
+      joined _ _ _ (one.any_moment clear) (two.any_moment (one.left clear)) (λ x has. has) (λ x has. has);
   left = λ clear. two.left (one.left clear);
-  touched = touches_then (5 + usage_blocks N) a b c lawful one.touched two.touched;
+  touched = touches_then (5 + usage_blocks N) lawful one.touched two.touched;
   carries = carries_then one.carries two.carries;
 }
 
 -- the slots are cleared
-pub making_cleared : {version : ℕ} (N : ℕ) (a b : DeviceState) → LeavesOnly a b (ComesFrom a MayClearSlots) → Carries a b
+pub making_cleared : {version N : ℕ} {a b : DeviceState} → LeavesOnly a b (ComesFrom a MayClearSlots) → Carries a b
     → IsMaking version N a b
-making_cleared {version} N a b cleared carries = record {
-  any_moment = λ keeps. moments_cleared version N a b cleared;
-  touched = touches_slots (5 + usage_blocks N) a b (omega arith) cleared;
+making_cleared {version} {N} cleared carries = record {
+  any_moment = λ keeps. moments_cleared version N cleared;
+  touched = touches_slots (5 + usage_blocks N) (omega arith) cleared;
   carries = carries;
 }
 
@@ -216,48 +215,47 @@ module _ {version N : ℕ} {a b c : DeviceState} (lawful : IsLawful b) (cleared 
   making_chunked = record {
     any_moment = λ keeps.
         let kept = writes.carries.kept_before keeps in
-        moments_chunked version N a b cleared (clear kept) (only kept) c writes.any_moment;
-    touched = touches_then (5 + usage_blocks N) a b c lawful (touches_slots (5 + usage_blocks N) a b (omega arith) cleared) writes.touched;
+        moments_chunked version N cleared (clear kept) (only kept) writes.any_moment;
+    touched = touches_then (5 + usage_blocks N) lawful (touches_slots (5 + usage_blocks N) (omega arith) cleared) writes.touched;
     carries = carries_then clears writes.carries;
   }
 
   -- it is synced
-  module _ (s : DeviceState) (lawful_c : IsLawful c) (same : IsUntouched c s) (carries : Carries c s) (time : Elapses c s) where
+  module _ {s : DeviceState} (lawful_c : IsLawful c) (same : IsUntouched c s) (carries : Carries c s) (time : Elapses c s) where
     pub making_synced : IsMaking version N a s
     making_synced = record {
       any_moment = λ keeps.
           let kept = writes.carries.kept_before (carries.kept_before keeps) in
-          moments_synced version N a b cleared (clear kept) (only kept) c writes.any_moment s writes.left same carries time;
-      touched = touches_still (5 + usage_blocks N) a c s lawful_c making_chunked.touched same carries time;
+          moments_synced version N cleared (clear kept) (only kept) writes.any_moment writes.left same carries time;
+      touched = touches_still (5 + usage_blocks N) lawful_c making_chunked.touched same carries time;
       carries = carries_then making_chunked.carries carries;
     }
 
     -- and the checkpoint is written
-    pub making_written : (r : DeviceState) (k : CheckpointValue) → IsLawful s → k ≡ first_checkpoint version N → IsVersion version
+    pub making_written : {r : DeviceState} {k : CheckpointValue} → IsLawful s → k ≡ first_checkpoint version N → IsVersion version
         → IsSegmentCount N → 2 + 64 * N ≤ a.size
         → (c.keeps_model → HasChunk version N (usage_blocks N) b.content c.content) → (s.keeps_model → Only s.content s)
         → LeavesOnly s r (ComesFrom s (MayWrite (k.number % 2) (checkpoint_sector k))) → Carries s r → IsMaking version N a r
-    making_written r k lawful_s is known count room chunk alone written replaces = record {
+    making_written {k} lawful_s is known count room chunk alone written replaces = record {
       any_moment = λ keeps.
           let synced = replaces.kept_before keeps in
           let kept = carries.kept_before synced in
           let was = writes.carries.kept_before kept in
-          let long : 2 + 64 * N ≤ length b.content = omega (arith, room, clears.size, lawful.size) in
-          moments_written version N a b cleared (clear was) (only was) c writes.any_moment s writes.left same carries time r k is known
-          count
-          long (chunk kept) (alone synced) written;
-      touched = touches_then (5 + usage_blocks N) a s r lawful_s making_synced.touched
-          (touches_slot (5 + usage_blocks N) s r (k.number % 2) (checkpoint_sector k) (omega arith) written);
+          let long : 2 + 64 * N ≤ length b.content = omega (arith, room) in
+          moments_written version N cleared (clear was) (only was) writes.any_moment writes.left same carries time is known count long
+          (chunk kept) (alone synced) written;
+      touched = touches_then (5 + usage_blocks N) lawful_s making_synced.touched
+          (touches_slot (5 + usage_blocks N) (k.number % 2) (checkpoint_sector k) (omega arith) written);
       carries = carries_then making_synced.carries replaces;
     }
 
     -- which makes the volume
-    pub volume_made : (r : DeviceState) (k : CheckpointValue) → k ≡ first_checkpoint version N → IsVersion version → IsSegmentCount N
+    pub volume_made : {r : DeviceState} {k : CheckpointValue} → k ≡ first_checkpoint version N → IsVersion version → IsSegmentCount N
         → 2 + 64 * N ≤ a.size → (b.keeps_model → SameOutside 0 2 a.content b.content)
         → (c.keeps_model → HasChunk version N (usage_blocks N) b.content c.content) → Carries s r
         → (r.keeps_model → r.content ≡ put s.content (k.number % 2) (checkpoint_sector k)) → (r.keeps_model → Only r.content r)
         → r.failures ≡ a.failures → HasMade version N a r
-    volume_made r k is known count room slots chunk replaces written alone failures = record {
+    volume_made {r} is known count room slots chunk replaces written alone failures = record {
       no_failure = failures;
       image = image;
       volume = λ keeps. new_volume version N r.content (image keeps);
@@ -273,12 +271,12 @@ module _ {version N : ℕ} {a b c : DeviceState} (lawful : IsLawful b) (cleared 
         was keeps = writes.carries.kept_before (kept keeps)
 
         first : r.keeps_model → r.content ≡ put c.content 1 (checkpoint_sector (first_checkpoint version N))
-        first keeps = written keeps ∙ ap (λ (m : CheckpointValue). put s.content (m.number % 2) (checkpoint_sector m)) is
-            ∙ ap (λ (x : Content). put x 1 (checkpoint_sector (first_checkpoint version N))) same.content
+        first keeps = written keeps ∙ ap (λ m. put s.content (m.number % 2) (checkpoint_sector m)) is
+            ∙ ap (λ x. put x 1 (checkpoint_sector (first_checkpoint version N))) same.content
 
         image : r.keeps_model → IsNew version N r.content
         image keeps =
-            let long : 2 + 64 * N ≤ length b.content = omega (arith, room, clears.size, lawful.size) in
+            let long : 2 + 64 * N ≤ length b.content = omega (arith, room) in
             whole version N known count b.content c.content long (clear (was keeps)) (chunk (kept keeps)) (first keeps)
 
         others : r.keeps_model → SameBehindChunk N a.content r.content
@@ -288,8 +286,8 @@ module _ {version N : ℕ} {a b c : DeviceState} (lawful : IsLawful b) (cleared 
             let x : Cell = Some (checkpoint_sector (first_checkpoint version N)) in
             record {
               size = ap length (first keeps) ∙ length-set c.content 1 x ∙ behind.size ∙ below.size;
-              before = λ at lt. absurd (omega (arith, lt));
-              after = λ at past. ap (λ (d : Content). cell_at d at) (first keeps)
-                  ∙ get_or-set_other c.content 1 at x None (λ e. omega (arith, e, past)) ∙ behind.after at (omega (arith, past))
-                  ∙ below.after at (omega (arith, past));
+              before = λ at lt. absurd (omega arith);
+              after = λ at past. ap (λ d. cell_at d at) (first keeps)
+                  ∙ get_or-set_other c.content 1 at x None (λ e. omega arith) ∙ behind.after at (omega arith)
+                  ∙ below.after at (omega arith);
             }

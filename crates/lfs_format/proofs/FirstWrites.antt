@@ -1,5 +1,5 @@
 -- What the calls that make an empty volume do to its content.
-use Rattle.std.proofs.Common.{◌≡◌, ◌≢◌, ⊎_elim, inl, inr, ℕ, zero, suc, ◌+◌, ◌<◌, ◌≤◌, List, length, Some, None, refl, sym, ◌∙◌, ap, subst}
+use Rattle.std.proofs.Common.{◌≡◌, ◌≢◌, ⊎_elim, ℕ, zero, suc, ◌+◌, ◌<◌, ◌≤◌, List, length, Some, None, refl, sym, ◌∙◌, ap, subst}
 use Rattle.std.proofs.Common.{arith}
 use Rattle.std.proofs.Common.{get_or-set_other, get_or-set_same}
 use Rattle.std.proofs.lemmas.Bool.{cases_eq, cases_lt}
@@ -16,7 +16,7 @@ use Rattle.lfs_model.specs.Checkpoint.{IsVersion}
 
 -- a version of the layout that there is
 pub known_version : (v : ℕ) → 1 ≤ v → v ≤ 2 → IsVersion v
-known_version v low high = ⊎_elim (λ (is : v ≡ 1). inl is) (λ (ne : v ≡ 1 → ⊥). inr (omega (arith, low, high, ne))) (cases_eq v 1)
+known_version v low high = grind arith
 
 -- ---- the slots
 
@@ -28,9 +28,9 @@ slot_set : (d c : Content) (s : ℕ) (x : Cell) → s < 2 → 2 ≤ length c →
 slot_set d c s x low long may outside gives = record {
   others = outside;
   slots = λ p lt. ⊎_elim
-      (λ (is : p ≡ s). subst (MayClear (cell_at d p)) (sym (ap (λ (q : ℕ). cell_at (slice_set c s x) q) is
-      ∙ get_or-set_same c s x None (omega (arith, low, long)))) (gives (cell_at d p)))
-      (λ (other : p ≢ s). subst (MayClear (cell_at d p)) (sym (get_or-set_other c s p x None other)) (may.slots p lt))
+      (λ is. subst (MayClear (cell_at d p)) (sym (ap (λ q. cell_at (slice_set c s x) q) is
+      ∙ get_or-set_same c s x None (omega arith))) (gives (cell_at d p)))
+      (λ other. subst (MayClear (cell_at d p)) (sym (get_or-set_other c s p x None other)) (may.slots p lt))
       (cases_eq p s);
 }
 
@@ -39,10 +39,10 @@ pub slots_written : (s : ℕ) → s < 2 → {d : Content} (c e : Content) → 2 
 slots_written s low {d} c e long may write = go write
   where
     outside : SameOutside 0 2 d e
-    outside = write_outside 0 2 s (blank 512) (omega arith) (omega (arith, low)) d c e may.others write
+    outside = write_outside 0 2 s (blank 512) (omega arith) (omega arith) d c e may.others write
 
     room : 2 ≤ length c
-    room = let same = may.others.size in omega (arith, same, long)
+    room = omega arith
 
     go : MayWrite s (blank 512) c e → MayClearSlots d e
     go (left_old is) = subst (MayClearSlots d) (sym is) may
@@ -68,18 +68,17 @@ slots_write {old} {mid} {new} s low lawful room run crash carries time =
 -- ---- the first chunk
 
 here : (c e : Content) (s : ℕ) (b : List ℕ) → e ≡ put c s b → s < length c → cell_at e s ≡ Some b
-here c e s b is low = ap (λ (x : Content). cell_at x s) is ∙ get_or-set_same c s (Some b) None low
+here c e s b is low = ap (λ x. cell_at x s) is ∙ get_or-set_same c s (Some b) None low
 
 there : (c : Content) {e : Content} (s : ℕ) (b : List ℕ) → e ≡ put c s b → (k : ℕ) → k ≢ s → cell_at e k ≡ cell_at c k
-there c s b is k other = ap (λ (x : Content). cell_at x k) is ∙ get_or-set_other c s k (Some b) None other
+there c s b is k other = ap (λ x. cell_at x k) is ∙ get_or-set_other c s k (Some b) None other
 
 wider : {first n : ℕ} (m : ℕ) {d : Content} (c : Content) → n ≤ m → SameOutside first n d c → SameOutside first m d c
-wider m c le same =
-    record { size = same.size; before = λ k lt. same.before k lt; after = λ k past. same.after k (omega (arith, le, past)) }
+wider m c le same = record { size = same.size; before = λ k lt. same.before k lt; after = λ k past. same.after k (omega arith) }
 
 -- a later usage block is zeros
 later_uses : (N n : ℕ) → 1 ≤ n → blank 512 ≡ usage_sector (first_uses N n)
-later_uses N zero some = absurd (omega (arith, some))
+later_uses N zero some = absurd (omega arith)
 later_uses N (suc n) some = sym (unused_spelled N n)
 
 -- and one usage block more
@@ -88,15 +87,15 @@ pub chunk_more : {version : ℕ} (N : ℕ) {n : ℕ} {c0 : Content} (c e : Conte
 chunk_more N {n} {c0} c e some room so_far is = record {
   others = write_outside 2 (3 + (n + 1)) (5 + n) (blank 512) (omega arith) (omega arith) c0 c e
       (wider (3 + (n + 1)) c (omega arith) so_far.others) (left_new is);
-  summary = there c (5 + n) (blank 512) is 2 (λ w. omega (arith, w)) ∙ so_far.summary;
-  inode = there c (5 + n) (blank 512) is 3 (λ w. omega (arith, w)) ∙ so_far.inode;
-  pointers = there c (5 + n) (blank 512) is 4 (λ w. omega (arith, w)) ∙ so_far.pointers;
+  summary = there c (5 + n) (blank 512) is 2 (λ w. omega arith) ∙ so_far.summary;
+  inode = there c (5 + n) (blank 512) is 3 (λ w. omega arith) ∙ so_far.inode;
+  pointers = there c (5 + n) (blank 512) is 4 (λ w. omega arith) ∙ so_far.pointers;
   uses = λ j lt. ⊎_elim
-      (λ (at : j ≡ n). ap (λ (k : ℕ). cell_at e (5 + k)) at ∙ here c e (5 + n) (blank 512) is
-      (let same = so_far.others.size in omega (arith, room, same)) ∙ ap (λ (b : List ℕ). Some b) (later_uses N n some)
-      ∙ ap (λ (k : ℕ). Some (usage_sector (first_uses N k))) (sym at))
-      (λ (other : j ≢ n). there c (5 + n) (blank 512) is (5 + j) (λ w. other (omega (arith, w)))
-      ∙ so_far.uses j (⊎_elim (λ (low : j < n). low) (λ (high : n ≤ j). absurd (other (omega (arith, lt, high)))) (cases_lt j n)))
+      (λ at. ap (λ k. cell_at e (5 + k)) at ∙ here c e (5 + n) (blank 512) is
+      (omega (arith, room)) ∙ ap (λ b. Some b) (later_uses N n some)
+      ∙ ap (λ k. Some (usage_sector (first_uses N k))) (sym at))
+      (λ other. there c (5 + n) (blank 512) is (5 + j) (λ w. other (omega arith))
+      ∙ so_far.uses j (⊎_elim (λ low. low) (λ high. absurd (other (omega arith))) (cases_lt j n)))
       (cases_eq j n);
 }
 
@@ -106,6 +105,6 @@ clear_survives s b past = record { written = λ c clear. kept c (Some b) clear; 
   where
     kept : (c : Content) (x : Cell) → AreClear c → AreClear (slice_set c s x)
     kept c x clear = record {
-      first = get_or-set_other c s 0 x None (λ e. omega (arith, past, e)) ∙ clear.first;
-      second = get_or-set_other c s 1 x None (λ e. omega (arith, past, e)) ∙ clear.second;
+      first = get_or-set_other c s 0 x None (λ e. omega arith) ∙ clear.first;
+      second = get_or-set_other c s 1 x None (λ e. omega arith) ∙ clear.second;
     }

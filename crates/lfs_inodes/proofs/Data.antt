@@ -1,5 +1,5 @@
 -- Data blocks in memory, counted by the keys' order.
-use Rattle.std.proofs.Common.{◌≡◌, ◌<◌, ◌≤◌, ◌+◌, ◌∙◌, cond, get_or, ℕ, zero, suc, Bool, T, true, false, List, [], ◌∷◌, length, Option}
+use Rattle.std.proofs.Common.{◌≡◌, ◌<◌, ◌≤◌, ◌+◌, ◌∙◌, cond, get_or, ℕ, zero, suc, Bool, T, true, false, List, [], ◌∷◌, length}
 use Rattle.std.proofs.Common.{refl, ap, arith, rules}
 use Rattle.std.specs.Prelude.{sum_by}
 use Rattle.std.specs.Ordering.{nat_cmp}
@@ -17,7 +17,7 @@ abbrev Rising : Blocks → Type 0
 Rising es = (i j : ℕ) → i < j → j < length es → number_at es i < number_at es j
 
 rising_rest : (e : ℕ × List ℕ) (es : Blocks) → Rising (e ∷ es) → Rising es
-rising_rest e es up i j lt room = up (suc i) (suc j) (omega (arith, lt)) (omega (arith, room))
+rising_rest e es up i j lt room = up (suc i) (suc j) (omega arith) (omega arith)
 
 below : (c : ℕ) → is_data_code c ≡ true → c < 134217728
 below c is = search (rules, arith)
@@ -35,21 +35,21 @@ from_above c le = search (rules, arith)
 none_past : (es : Blocks) → ((j : ℕ) → j < length es → 134217728 ≤ number_at es j) → sum_by one es ≡ 0
 none_past [] far = refl
 none_past (e ∷ es) far =
-    let rest = none_past es (λ j lt. far (suc j) (omega (arith, lt))) in
-    let first = ap {B = ℕ} (λ (b : Bool). cond {A = ℕ} b 1 0) (from_above e.0 (far 0 (omega arith))) in
-    omega (arith, rest, first, sum_by-cons one e es)
+    omega (
+      arith,
+      none_past es (λ j lt. far (suc j) (omega arith)),
+      ap (λ b. cond {A = ℕ} b 1 0)
+          (from_above e.0 (far 0 (omega arith))),
+      sum_by-cons one e es,
+    )
 
 -- up to one that is there are as many as keys
 all_before : (es : Blocks) → Rising es → (i : ℕ) → i < length es → number_at es i < 134217728 → i < sum_by one es
 all_before [] up i lt low = absurd (omega (arith, lt))
 all_before (e ∷ es) up zero lt low =
-    let first = ap {B = ℕ} (λ (b : Bool). cond {A = ℕ} b 1 0) (from_below e.0 low) in
+    let first = ap (λ b. cond {A = ℕ} b 1 0) (from_below e.0 low) in
     omega (arith, first, sum_by-cons one e es)
-all_before (e ∷ es) up (suc i) lt low =
-    let rest = all_before es (rising_rest e es up) i (omega (arith, lt)) low in
-    let less = up 0 (suc i) (omega arith) lt in
-    let first = ap {B = ℕ} (λ (b : Bool). cond {A = ℕ} b 1 0) (from_below e.0 (omega (arith, less, low))) in
-    omega (arith, rest, first, sum_by-cons one e es)
+all_before (e ∷ es) up (suc i) lt low = grind (arith, lt, low, sum_by-cons one e es, all_before es (rising_rest e es up) i, up 0 (suc i))
 
 few_before : (es : Blocks) → Rising es → (i : ℕ) → (i < length es → 134217728 ≤ number_at es i) → sum_by one es ≤ i
 few_before [] up i far = omega arith
@@ -60,11 +60,8 @@ few_before (e ∷ es) up zero far =
   where
     from_first : (j : ℕ) → j < length (e ∷ es) → 134217728 ≤ e.0 → 134217728 ≤ number_at (e ∷ es) j
     from_first zero lt le = le
-    from_first (suc j) lt le = let less = up 0 (suc j) (omega arith) lt in omega (arith, less, le)
-few_before (e ∷ es) up (suc i) far =
-    let rest = few_before es (rising_rest e es up) i (λ lt. far (omega (arith, lt))) in
-    let first = at_most (is_data_code e.0) in
-    omega (arith, rest, first, sum_by-cons one e es)
+    from_first (suc j) lt le = grind (arith, le, up 0 (suc j))
+few_before (e ∷ es) up (suc i) far = grind (arith, sum_by-cons one e es, few_before es (rising_rest e es up) i, at_most (is_data_code e.0))
   where
     at_most : (b : Bool) → cond b 1 0 ≤ 1
     at_most true = omega arith
@@ -93,37 +90,33 @@ first_data t sorted {c} at some = by_kind (is_data_code c) refl
     by_kind true is = is
     by_kind false is =
         let number = at.number in
-        let few = lacks_data t sorted 0 (λ lt. ap is_data_code number ∙ is) in
-        absurd (omega (arith, few, some))
+        absurd (omega (arith, lacks_data t sorted 0 (λ lt. ap is_data_code number ∙ is)))
 
 same_number : {es : Blocks} (c i : ℕ) (v : List ℕ) → HasNumberAt es c i → one (get_or es i (0, [])) ≡ one (c, v)
-same_number c i v at = let number = at.number in ap (λ (n : ℕ). cond {A = ℕ} (is_data_code n) 1 0) number
+same_number c i v at = grind arith
 
 put_keeps : {es : Blocks} → T (is_sorted nat_cmp es) → (c i : ℕ) (v : List ℕ) → HasNumberAt es c i
     → sum_by one (put nat_cmp c v es) ≡ sum_by one es
 put_keeps {es} sorted c i v at =
-    let now = ap (sum_by one) (put_at sorted c v i at) in
-    let changed = sum_by-set one es i (c, v) (0, []) at.within in
-    let same = same_number c i v at in
-    omega (arith, now, changed, same)
+    omega (arith, ap (sum_by one) (put_at sorted c v i at), sum_by-set one es i (c, v) (0, []) at.within, same_number c i v at)
 
 pub data_patched : (t : TableValue) {t' : TableValue} → T (is_sorted nat_cmp t.blocks) → {c i : ℕ} (f : List ℕ → List ℕ)
     → HasNumberAt t.blocks c i
     → t' ≡ record t { blocks = altered f c t.blocks } → data_count t' ≡ data_count t
 unfolding data_count
 data_patched t sorted {c} {i} f at is =
-    ap (λ (u : TableValue). sum_by one u.blocks) is
-    ∙ ap (λ (o : Option (List ℕ)). sum_by one (altered_as o f c t.blocks)) (find_at sorted c i at)
+    ap (λ u. sum_by one u.blocks) is
+    ∙ ap (λ o. sum_by one (altered_as o f c t.blocks)) (find_at sorted c i at)
     ∙ put_keeps sorted c i (f (get_or t.blocks i (0, [])).1) at
 
 pub data_removed : (t : TableValue) {t' : TableValue} → T (is_sorted nat_cmp t.blocks) → (c i : ℕ) → HasNumberAt t.blocks c i
     → t' ≡ record t { blocks = without nat_cmp c t.blocks } → is_data_code c ≡ true → data_count t' + 1 ≡ data_count t
 unfolding data_count
 data_removed t sorted c i at is kind =
-    let now = ap (λ (u : TableValue). sum_by one u.blocks) is in
+    let now = ap (λ u. sum_by one u.blocks) is in
     let left = ap (sum_by one) (without_at sorted c i at) in
     let gone = sum_by-remove one t.blocks i (0, []) at.within in
     let number = at.number in
-    let counted : one (get_or t.blocks i (0, [])) ≡ 1 = ap (λ (n : ℕ). cond {A = ℕ} (is_data_code n) 1 0) number
-    ∙ ap (λ (b : Bool). cond {A = ℕ} b 1 0) kind in
-    omega (arith, now, left, gone, counted)
+    let counted : one (get_or t.blocks i (0, [])) ≡ 1 = ap (λ n. cond (is_data_code n) 1 0) number
+    ∙ ap (λ b. cond b 1 0) kind in
+    omega arith

@@ -1,5 +1,5 @@
 -- Blocks leave the table, from the last place of the index to the first.
-use Rattle.std.proofs.Common.{◌≡◌, ◌<◌, ◌≤◌, ◌+◌, ◌/◌, ◌%◌, ℕ, zero, suc, List, [], length, Some, None, refl, sym, ◌∙◌, ap, subst}
+use Rattle.std.proofs.Common.{◌≡◌, ◌<◌, ◌≤◌, ◌+◌, ◌/◌, ◌%◌, ℕ, zero, suc, [], length, Some, None, refl, sym, ◌∙◌, ap, subst}
 use Rattle.std.proofs.Common.{arith}
 use Rattle.std.specs.List.{remove}
 use Rattle.std.proofs.lemmas.List.Edits.{get_or-remove_above, length-remove}
@@ -23,9 +23,6 @@ file_at c = file_by (c / 134217728) (c % 32768)
 pub file_named : (c n : ℕ) → c / 32768 % 4096 ≡ n → file_of (entry_at c) ≡ Some n
 file_named c n is = file_at c ∙ ap Some is
 
-pub is_file : (c n : ℕ) → file_of (entry_at c) ≡ Some n → c / 32768 % 4096 ≡ n
-is_file c n file = let e : Some (c / 32768 % 4096) ≡ Some n = sym (file_at c) ∙ file in cc
-
 -- From place at on there is no block any more that goes. Those that stay are as they were.
 pub record LeavesFrom (old new : TableValue) (goes stays : Entry → Type 0) (at : ℕ) : Type 0 where
   pub kept : (x : Entry) → stays x → blocks_of new x ≡ blocks_of old x
@@ -45,29 +42,27 @@ module _ {goes stays : Entry → Type 0} where
   leaves_out apart {mid} {new} {a} next was on is change codes = record {
     kept = λ x st. change.others x (λ here. apart x (subst goes (sym here) on) st) ∙ was.kept x st;
     away = λ j le lt now.
-        was.away (j + 1) (omega (arith, le, next)) (omega (arith, lt, less)) (subst (λ (n : ℕ). goes (entry_at n)) (above j le) now);
+        was.away (j + 1) (omega arith) (omega (arith, less)) (subst (λ n. goes (entry_at n)) (above j le) now);
     codes = codes;
-    low = let low = was.low in omega (arith, low, next, less);
-    few = let few = was.few in omega (arith, few, less);
-    capacity = ap (λ (t : TableValue). t.capacity) is ∙ was.capacity;
+    low = omega (arith, less);
+    few = omega (arith, less);
+    capacity = ap (λ t. t.capacity) is ∙ was.capacity;
   }
     where
       inside : a < length mid.blocks
-      inside = let low = was.low in omega (arith, low, next)
+      inside = omega arith
 
       less : length new.blocks + 1 ≡ length mid.blocks
-      less = let size = ap (λ (t : TableValue). length t.blocks) is in let left = length-remove mid.blocks a inside in
-          omega (arith, size, left)
+      less = omega (arith, ap (λ t. length t.blocks) is, length-remove mid.blocks a inside)
 
       above : (j : ℕ) → a ≤ j → number_at new.blocks j ≡ number_at mid.blocks (j + 1)
-      above j le = ap (λ (t : TableValue). number_at t.blocks j) is
-          ∙ ap (λ (e : ℕ × List ℕ). e.0) (get_or-remove_above mid.blocks a (0, []) j le inside)
+      above j le = ap (λ t. number_at t.blocks j) is
+          ∙ ap (λ e. e.0) (get_or-remove_above mid.blocks a (0, []) j le inside)
 
   -- at the first place none is left
   pub leaves_ends : {old new : TableValue} {at : ℕ} → at ≤ 0 → LeavesFrom old new goes stays at → (x : Entry) → goes x
       → blocks_of new x ≡ None
   leaves_ends {new} first was x on = find_none new.blocks (code x) (λ j lt same.
       let is = was.codes j lt in
-      let small = is.small in
-      let named : entry_at (code x) ≡ x = entry_code x (omega (arith, small, same)) in
-      was.away j (omega (arith, first)) lt (subst goes (sym (ap entry_at same ∙ named)) on))
+      let named : entry_at (code x) ≡ x = entry_code x (omega arith) in
+      was.away j (omega arith) lt (subst goes (sym (ap entry_at same ∙ named)) on))

@@ -12,7 +12,7 @@ pub word_past : (b : List ℕ) (k : ℕ) → length b ≤ 4 * k → word b k ≡
 unfolding word read32 part
 word_past b k past =
     let e : drop (4 * k) b ≡ [] = none_left (drop (4 * k) b) (omega (arith, length-drop (4 * k) b)) in
-    ap (λ (x : List ℕ). number_of (take 4 x)) e
+    ap (λ x. number_of (take 4 x)) e
 
 pub word_none : (k : ℕ) → word [] k ≡ 0
 word_none k = word_past [] k (omega arith)

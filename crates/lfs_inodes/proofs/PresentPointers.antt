@@ -1,5 +1,5 @@
 -- Pointers of blocks in memory and on the device are what memory has for the blocks below them.
-use Rattle.std.proofs.Common.{◌≡◌, ◌<◌, ◌≤◌, ⊎_elim, ◌+◌, ◌*◌, ◌-◌, ◌/◌, ◌%◌, ◌==◌, ℕ, zero, suc, true, false, List, refl, sym, ◌∙◌, ap}
+use Rattle.std.proofs.Common.{◌≡◌, ◌<◌, ◌≤◌, ⊎_elim, ◌+◌, ◌*◌, ◌-◌, ◌/◌, ◌%◌, ◌==◌, ℕ, zero, suc, true, false, refl, sym, ◌∙◌, ap}
 use Rattle.std.proofs.Common.{subst, arith}
 use Rattle.std.proofs.lemmas.Bool.{cases_eq, cases_lt, cond-true, cond-false, lt-ltb, le-ltb}
 use Rattle.std.proofs.lemmas.Bool.Decides.{nat_tests}
@@ -31,16 +31,16 @@ module _ {content : Content} {m : LogMap} (M : Memory) {o : ℕ} {dirty : Dirty}
   pub present_is : (x : Entry) → IsOfFile x → 0 < M.at x → present content dirty x (M.at x) ≡ M.bytes x
   present_is x file some =
       ⊎_elim
-      (λ (one : M.at x ≡ 1).
+      (λ one.
       let f = cached.found x file one in
       in_memory content dirty x one ∙ ap bytes_of f.1 ∙ sym (cached.cached x f.0 f.1).2)
-      (λ (ne : M.at x ≡ 1 → ⊥). on_device content dirty x (M.at x) ne ∙ laid.there x (omega arith))
+      (λ ne. on_device content dirty x (M.at x) ne ∙ laid.there x (omega arith))
       (cases_eq (M.at x) 1)
 
   -- and none where there is none
   absent_is : (x : Entry) (k : ℕ) → M.at x ≡ 0 → word (present content dirty x (M.at x)) k ≡ 0
   absent_is x k none =
-      ap (λ (b : List ℕ). word b k) (on_device content dirty x (M.at x) (λ e. omega arith) ∙ ap (block content) none) ∙ word_none k
+      ap (λ b. word b k) (on_device content dirty x (M.at x) (λ e. omega arith) ∙ ap (block content) none) ∙ word_none k
 
   module _ (n : ℕ) (some : 0 < M.at (Inode n)) where
     spelt : SpellsFile m M.at n (M.bytes (Inode n))
@@ -49,47 +49,47 @@ module _ {content : Content} {m : LogMap} (M : Memory) {o : ℕ} {dirty : Dirty}
     pub leaf_is : (q : ℕ) → q ≤ 128 → leaf_now content dirty n (M.bytes (Inode n)) q ≡ M.at (Leaf n q)
     leaf_is zero low = spelt.single
     leaf_is (suc q) low =
-        ap (λ (a : ℕ). word (present content dirty (Double n) a) q) spelt.double
+        ap (λ a. word (present content dirty (Double n) a) q) spelt.double
         ∙ ⊎_elim
-        (λ (gone : M.at (Double n) < 1).
+        (λ gone.
         absent_is (Double n) q (omega arith)
         ∙ ⊎_elim
-        (λ (no_leaf : M.at (Leaf n (suc q)) < 1). let e : 0 ≡ M.at (Leaf n (suc q)) = omega arith in e)
-        (λ (leaf : 1 ≤ M.at (Leaf n (suc q))). let d : 0 < M.at (Double n) = laid.down (Leaf n (suc q)) leaf in absurd (omega arith))
+        (λ no_leaf. let e : 0 ≡ M.at (Leaf n (suc q)) = omega arith in e)
+        (λ leaf. let d : 0 < M.at (Double n) = laid.down (Leaf n (suc q)) leaf in absurd (omega arith))
         (cases_lt (M.at (Leaf n (suc q))) 1))
-        (λ (there : 1 ≤ M.at (Double n)).
-        ap (λ (b : List ℕ). word b q) (present_is (Double n) (n, refl) there) ∙ laid.spells (Double n) there q (omega arith))
+        (λ there.
+        ap (λ b. word b q) (present_is (Double n) (n, refl) there) ∙ laid.spells (Double n) there q (omega arith))
         (cases_lt (M.at (Double n)) 1)
 
     past_is : (q j : ℕ) → q ≤ 128 → j < 128
         → word (present content dirty (Leaf n q) (leaf_now content dirty n (M.bytes (Inode n)) q)) j ≡ M.at (Data n (112 + 128 * q + j))
     past_is q j low lt =
-        ap (λ (a : ℕ). word (present content dirty (Leaf n q) a) j) (leaf_is q low)
+        ap (λ a. word (present content dirty (Leaf n q) a) j) (leaf_is q low)
         ∙ ⊎_elim
-        (λ (gone : M.at (Leaf n q) < 1).
+        (λ gone.
         absent_is (Leaf n q) j (omega arith)
         ∙ ⊎_elim
-        (λ (no_data : M.at (Data n (112 + 128 * q + j)) < 1). let e : 0 ≡ M.at (Data n (112 + 128 * q + j)) = omega arith in e)
-        (λ (data_there : 1 ≤ M.at (Data n (112 + 128 * q + j))).
+        (λ no_data. let e : 0 ≡ M.at (Data n (112 + 128 * q + j)) = omega arith in e)
+        (λ data_there.
         let place : (112 + 128 * q + j - 112) / 128 ≡ q = omega arith in
         let above : parent (Data n (112 + 128 * q + j)) ≡ Leaf n q = data_parent_high n (112 + 128 * q + j) (omega arith)
         ∙ ap (Leaf n) place in
-        let d : 0 < M.at (Leaf n q) = subst (λ (x : Entry). 0 < M.at x) above (laid.down (Data n (112 + 128 * q + j)) data_there) in
+        let d : 0 < M.at (Leaf n q) = subst (λ x. 0 < M.at x) above (laid.down (Data n (112 + 128 * q + j)) data_there) in
         absurd (omega arith))
         (cases_lt (M.at (Data n (112 + 128 * q + j))) 1))
-        (λ (there : 1 ≤ M.at (Leaf n q)).
-        ap (λ (b : List ℕ). word b j) (present_is (Leaf n q) (n, refl) there) ∙ laid.spells (Leaf n q) there j lt)
+        (λ there.
+        ap (λ b. word b j) (present_is (Leaf n q) (n, refl) there) ∙ laid.spells (Leaf n q) there j lt)
         (cases_lt (M.at (Leaf n q)) 1)
 
     data_is : (i : ℕ) → i < 16624 → data_now content dirty n (M.bytes (Inode n)) i ≡ M.at (Data n i)
     data_is i low =
         ⊎_elim
-        (λ (direct : i < 112). cond-true _ _ _ (lt-ltb i 112 direct) ∙ spelt.direct i direct)
-        (λ (past : 112 ≤ i).
+        (λ direct. cond-true _ _ _ (lt-ltb i 112 direct) ∙ spelt.direct i direct)
+        (λ past.
         let whole : 112 + 128 * ((i - 112) / 128) + (i - 112) % 128 ≡ i = omega arith in
         cond-false _ _ _ (le-ltb i 112 past)
         ∙ past_is ((i - 112) / 128) ((i - 112) % 128) (omega arith) (omega arith)
-        ∙ ap (λ (k : ℕ). M.at (Data n k)) whole)
+        ∙ ap (λ k. M.at (Data n k)) whole)
         (cases_lt i 112)
 
 pub present_is_laid : PresentIsLaid

@@ -1,5 +1,5 @@
 -- What a search of the index finds.
-use Rattle.std.proofs.Common.{◌≡◌, ◌<◌, ◌≤◌, ◌-◌, ⊎_elim, ℕ, zero, suc, List, [], ◌∷◌, length, get_or, reverse, Result, Ok, Err, IfOk}
+use Rattle.std.proofs.Common.{◌≡◌, ◌<◌, ◌-◌, ℕ, zero, suc, List, [], ◌∷◌, length, get_or, reverse, Result, Ok, Err, IfOk}
 use Rattle.std.proofs.Common.{IfErr, refl, sym, ◌∙◌, ap, subst, arith}
 use Rattle.std.specs.Prelude.{T}
 use Rattle.std.specs.List.Sorted.{IsSearchInRange, IsBinarySearchResult, IsNonDecreasingBy}
@@ -7,8 +7,6 @@ use Rattle.std.specs.Ordering.{nat_cmp, ordering_index}
 use Rattle.std.specs.FinMap.{is_sorted}
 use Rattle.std.proofs.lemmas.Cmp.{ranked}
 use Rattle.std.proofs.lemmas.List.{get_or-reverse, length-reverse}
-use Rattle.std.proofs.lemmas.Bool.{cases_eq}
-use Rattle.std.proofs.lemmas.Bool.Decides.{nat_tests}
 use Rattle.lfs_inodes.specs.declared.index.Place.{Place}
 use Rattle.lfs_inodes.specs.Code.{IsCode}
 use Rattle.lfs_inodes.specs.Blocks.{Capacity, TableValue, number_at, HasNumberAt, IsGapFor}
@@ -19,80 +17,70 @@ use Rattle.lfs_inodes.proofs.Held.{length-entries, value_of}
 use Rattle.lfs_inodes.proofs.Reversed.{index_of, reversed_at}
 
 -- ---- a binary search of places by falling keys
-index_falls : (a b k : ℕ) → b ≤ a → ordering_index (nat_cmp k a) ≤ ordering_index (nat_cmp k b)
-index_falls a b k le = grind (arith, nat_tests)
+-- what it says of the index
+abbrev pub IsSearched : List Place → ℕ → Result ℕ ℕ → Type 0
+IsSearched items k r = record {
+  bound : IsSearchInRange r (length items);
+  found : IfOk r (λ at. HasKeyAt items k (length items - 1 - at));
+  missing : AreRising items → IfErr r (λ at. IsGapIn items k (length items - at));
+}
 
 module _ (xs : List Place) (k : ℕ) where
   falls : AreRising (reverse xs) → (i j : ℕ) (d : Place) → i < j → j < length xs → (get_or xs j d).key.code < (get_or xs i d).key.code
   falls rising i j d lt in_list =
       let n = length-reverse xs in
-      let x = ap (λ (p : Place). p.key.code) (reversed_at xs i d (omega (arith, lt, in_list))) in
-      let y = ap (λ (p : Place). p.key.code) (reversed_at xs j d in_list) in
-      let r = rising (length (reverse xs) - 1 - j) (length (reverse xs) - 1 - i) d (omega (arith, n, lt, in_list))
-      (omega (arith, n, lt, in_list)) in
-      omega (arith, x, y, r)
+      let x = ap (λ p. p.key.code) (reversed_at xs i d (omega arith)) in
+      let y = ap (λ p. p.key.code) (reversed_at xs j d in_list) in
+      let r = rising (length (reverse xs) - 1 - j) (length (reverse xs) - 1 - i) d (omega arith)
+      (omega arith) in
+      omega arith
 
   comparisons_rise : AreRising (reverse xs) → IsNonDecreasingBy (λ (p : Place). ordering_index (nat_cmp k p.key.code)) xs
-  comparisons_rise rising i j d le lt =
-      index_falls (get_or xs i d).key.code (get_or xs j d).key.code k (⊎_elim
-      (λ (same : i ≡ j). let s = ap (λ (n : ℕ). (get_or xs n d).key.code) same in omega (arith, s))
-      (λ (ne : i ≡ j → ⊥). let r = falls rising i j d (omega (arith, le, ne)) lt in omega (arith, r))
-      (cases_eq i j))
+  comparisons_rise rising i j d le lt = grind (arith, falls rising i j d)
 
   pub searched : (r : Result ℕ ℕ) → IsSearchInRange r (length xs) → IsBinarySearchResult (λ (p : Place). nat_cmp k p.key.code) xs r
-      → record {
-        found : IfOk r (λ at. HasKeyAt (reverse xs) k (length (reverse xs) - 1 - at));
-        missing : AreRising (reverse xs) → IfErr r (λ at. IsGapIn (reverse xs) k (length (reverse xs) - at));
-      }
+      → IsSearched (reverse xs) k r
   searched (Ok at) within equal = record {
-    found =
-        let n = length-reverse xs in
-        record {
-          within = omega (arith, n, within);
-          number = λ d. ap (λ (p : Place). p.key.code) (reversed_at xs at d within) ∙ sym (ranked k _ _ (sym (equal d)));
-        };
+    bound = omega (arith, length-reverse xs);
+    found = record {
+      within = omega (arith, length-reverse xs);
+      number = λ d. ap (λ (p : Place). p.key.code) (reversed_at xs at d within) ∙ sym (ranked k _ _ (sym (equal d)));
+    };
     missing = λ rising. tt;
   }
   searched (Err at) within parted = record {
+    bound = omega (arith, length-reverse xs);
     found = tt;
     missing = λ rising.
         let n = length-reverse xs in
         let parts = parted (comparisons_rise rising) in
         record {
-          within = omega (arith, n);
+          within = omega arith;
           before = λ j d lt.
-              let e = ap (λ (p : Place). p.key.code) (get_or-reverse xs j d (omega (arith, n, lt))) in
-              let c = ranked k _ _ (sym (parts.1 (length xs - 1 - j) d (omega (arith, n, lt)) (omega (arith, n, lt)))) in
-              omega (arith, e, c);
+              omega (
+                arith,
+                ap (λ (p : Place). p.key.code) (get_or-reverse xs j d (omega arith)),
+                ranked k _ _ (sym (parts.1 (length xs - 1 - j) d (omega arith) (omega arith))),
+              );
           after = λ j d le lt.
-              let e = ap (λ (p : Place). p.key.code) (get_or-reverse xs j d (omega (arith, n, lt))) in
-              let c = ranked k _ _ (sym (parts.0 (length xs - 1 - j) d (omega arith) (omega (arith, n, le, lt)))) in
-              omega (arith, e, c);
+              omega (
+                arith,
+                ap (λ (p : Place). p.key.code) (get_or-reverse xs j d (omega arith)),
+                ranked k _ _ (sym (parts.0 (length xs - 1 - j) d (omega arith) (omega arith))),
+              );
         };
   }
 
--- the same of the index's value
-abbrev pub IsSearched : IndexValue → ℕ → Result ℕ ℕ → Type 0
-IsSearched v k r = record {
-  found : IfOk r (λ at. HasKeyAt v.items k (length v.items - 1 - at));
-  missing : AreRising v.items → IfErr r (λ at. IsGapIn v.items k (length v.items - at));
-}
-
 pub searched_in : (n : ℕ) {xs : List Place} {v : IndexValue} → index_of n xs ≡ v → {ys : List Place} → ys ≡ xs → {m k : ℕ} → m ≡ k
-    → (r : Result ℕ ℕ) → IsSearchInRange r (length ys) → IsBinarySearchResult (λ (p : Place). nat_cmp m p.key.code) ys r → IsSearched v k r
+    → (r : Result ℕ ℕ) → IsSearchInRange r (length ys) → IsBinarySearchResult (λ (p : Place). nat_cmp m p.key.code) ys r
+    → IsSearched v.items k r
 searched_in n view {ys} same {m} {k} is r within answer =
-    subst (λ (u : IndexValue). IsSearched u k r) (ap (index_of n) same ∙ view)
-    (subst (λ (l : ℕ). IsSearched (index_of n ys) l r) is (searched ys m r within answer))
+    subst (λ u. IsSearched u.items k r) (ap (index_of n) same ∙ view)
+    (subst (λ l. IsSearched (reverse ys) l r) is (searched ys m r within answer))
 
 -- ---- the same in the table
 is_code : IsCode 32768
-is_code = record {
-  small = omega arith;
-  file = omega arith;
-  data_index = λ h. omega arith;
-  leaf_index = λ h. omega arith;
-  no_index = λ h. omega arith;
-}
+is_code = grind arith
 
 some_place : Place
 some_place = record { key = record { code = 32768; formed = is_code }; spot = 0 }
@@ -105,39 +93,36 @@ number_of_place (p ∷ ps) bs (suc i) d lt = number_of_place ps bs i d (omega ar
 
 pub places_rise : (ps : List Place) (bs : List (List ℕ)) → T (is_sorted nat_cmp (entries_in ps bs)) → AreRising ps
 places_rise ps bs sorted i j d lt within =
-    let l = length-entries ps bs in
-    let x = number_of_place ps bs i d (omega (arith, lt, within)) in
-    let y = number_of_place ps bs j d within in
-    let r = rises (entries_in ps bs) sorted i j lt (omega (arith, l, within)) in
-    omega (arith, x, y, r)
+    grind (
+      arith,
+      length-entries ps bs,
+      number_of_place ps bs i d,
+      number_of_place ps bs j d within,
+      rises (entries_in ps bs) sorted i j lt,
+    )
 
 number_found : (ps : List Place) (bs : List (List ℕ)) (c i : ℕ) → HasKeyAt ps c i → HasNumberAt (entries_in ps bs) c i
 number_found ps bs c i h =
     let l = length-entries ps bs in
     let w = h.within in
-    record { within = omega (arith, l, w); number = number_of_place ps bs i some_place w ∙ h.number some_place }
+    record { within = omega arith; number = number_of_place ps bs i some_place w ∙ h.number some_place }
 
 gap_found : (ps : List Place) (bs : List (List ℕ)) (c : ℕ) {i : ℕ} → IsGapIn ps c i → IsGapFor (entries_in ps bs) c i
 gap_found ps bs c h =
     let l = length-entries ps bs in
-    let w = h.within in
     record {
-      within = omega (arith, l, w);
+      within = omega arith;
       before = λ j lt.
-          let e = number_of_place ps bs j some_place (omega (arith, lt, w)) in
-          let b = h.before j some_place lt in
-          omega (arith, e, b);
+          omega (arith, number_of_place ps bs j some_place (omega arith), h.before j some_place lt);
       after = λ j le lt.
-          let e = number_of_place ps bs j some_place (omega (arith, l, lt)) in
-          let a = h.after j some_place le (omega (arith, l, lt)) in
-          omega (arith, e, a);
+          omega (arith, number_of_place ps bs j some_place (omega arith), h.after j some_place le (omega arith));
     }
 
 module _ (most : Capacity) (ps : List Place) (bs : List (List ℕ)) {t : TableValue} (view : value_of most ps bs ≡ t) (c : ℕ) where
   pub found_in : (r : Result ℕ ℕ) → IfOk r (HasKeyAt ps c) → IfOk r (HasNumberAt t.blocks c)
-  found_in (Ok at) h = subst (λ (u : TableValue). HasNumberAt u.blocks c at) view (number_found ps bs c at h)
+  found_in (Ok at) h = subst (λ u. HasNumberAt u.blocks c at) view (number_found ps bs c at h)
   found_in (Err at) h = tt
 
   pub missing_in : (r : Result ℕ ℕ) → IfErr r (IsGapIn ps c) → IfErr r (IsGapFor t.blocks c)
   missing_in (Ok at) h = tt
-  missing_in (Err at) h = subst (λ (u : TableValue). IsGapFor u.blocks c at) view (gap_found ps bs c h)
+  missing_in (Err at) h = subst (λ u. IsGapFor u.blocks c at) view (gap_found ps bs c h)

@@ -24,44 +24,44 @@ pub long_zeroed : (first n : ℕ) (b : List ℕ) → length b ≡ 512 → first 
 long_zeroed first zero b long room = ap length (zeroed_none first b) ∙ long
 long_zeroed first (suc n) b long room =
     ap length (zeroed_next first n b)
-    ∙ long_patched (first + n) 0 (zeroed first n b) (long_zeroed first n b long (omega (arith, room))) (omega (arith, room))
+    ∙ long_patched (first + n) 0 (zeroed first n b) (long_zeroed first n b long (omega arith)) (omega arith)
 
 pub word_zero : (first n : ℕ) (b : List ℕ) → length b ≡ 512 → first + n ≤ 128 → (w : ℕ) → first ≤ w → w < first + n
     → word (zeroed first n b) w ≡ 0
-word_zero first zero b long room w from to = absurd (omega (arith, from, to))
+word_zero first zero b long room w from to = absurd (omega arith)
 word_zero first (suc n) b long room w from to =
-    let before = long_zeroed first n b long (omega (arith, room)) in
-    ap (λ (c : List ℕ). word c w) (zeroed_next first n b) ∙ ⊎_elim
-    (λ (last : w ≡ first + n). ap (word (patched (first + n) 0 (zeroed first n b))) last
-    ∙ word_at (first + n) 0 (zeroed first n b) before (omega (arith, room)) (omega arith))
-    (λ (ne : w ≡ first + n → ⊥). word_other (first + n) 0 (zeroed first n b) before (omega (arith, room)) w (omega (arith, room, to)) ne
-    ∙ word_zero first n b long (omega (arith, room)) w from (omega (arith, to, ne)))
+    let before = long_zeroed first n b long (omega arith) in
+    ap (λ c. word c w) (zeroed_next first n b) ∙ ⊎_elim
+    (λ last. ap (word (patched (first + n) 0 (zeroed first n b))) last
+    ∙ word_at (first + n) 0 (zeroed first n b) before (omega arith) (omega arith))
+    (λ ne. word_other (first + n) 0 (zeroed first n b) before (omega arith) w (omega arith) ne
+    ∙ word_zero first n b long (omega arith) w from (omega arith))
     (cases_eq w (first + n))
 
 pub word_kept : (first n : ℕ) (b : List ℕ) → length b ≡ 512 → first + n ≤ 128 → (w : ℕ) → w < 128 → (first ≤ w → w < first + n → ⊥)
     → word (zeroed first n b) w ≡ word b w
-word_kept first zero b long room w low out = ap (λ (c : List ℕ). word c w) (zeroed_none first b)
+word_kept first zero b long room w low out = ap (λ c. word c w) (zeroed_none first b)
 word_kept first (suc n) b long room w low out =
-    let before = long_zeroed first n b long (omega (arith, room)) in
-    ap (λ (c : List ℕ). word c w) (zeroed_next first n b)
-    ∙ word_other (first + n) 0 (zeroed first n b) before (omega (arith, room)) w low (λ is. out (omega (arith, is)) (omega (arith, is)))
-    ∙ word_kept first n b long (omega (arith, room)) w low (λ from to. out from (omega (arith, to)))
+    let before = long_zeroed first n b long (omega arith) in
+    ap (λ c. word c w) (zeroed_next first n b)
+    ∙ word_other (first + n) 0 (zeroed first n b) before (omega arith) w low (λ is. out (omega arith) (omega arith))
+    ∙ word_kept first n b long (omega arith) w low (λ from to. out from (omega arith))
 
 -- ---- an inode without some of its pointers
 pub holds_zeroed : (k first n : ℕ) (b : List ℕ) → HoldsInode k b → 8 ≤ first → first + n ≤ 122 → HoldsInode k (zeroed first n b)
 holds_zeroed k first zero b holds from to = subst (HoldsInode k) (sym (zeroed_none first b)) holds
 holds_zeroed k first (suc n) b holds from to =
     subst (HoldsInode k) (sym (zeroed_next first n b))
-    (holds_patched k (first + n) 0 (zeroed first n b) (holds_zeroed k first n b holds from (omega (arith, to))) (omega (arith, from))
-    (omega (arith, to)) (omega arith))
+    (holds_patched k (first + n) 0 (zeroed first n b) (holds_zeroed k first n b holds from (omega arith)) (omega arith)
+    (omega arith) (omega arith))
 
 pub header_zeroed : (first n : ℕ) (b : List ℕ) → length b ≡ 512 → 8 ≤ first → first + n ≤ 122 → header (zeroed first n b) ≡ header b
 header_zeroed first zero b long from to = ap header (zeroed_none first b)
 header_zeroed first (suc n) b long from to =
     ap header (zeroed_next first n b)
-    ∙ header_patched (first + n) 0 (zeroed first n b) (long_zeroed first n b long (omega (arith, to))) (omega (arith, from))
-    (omega (arith, to))
-    ∙ header_zeroed first n b long from (omega (arith, to))
+    ∙ header_patched (first + n) 0 (zeroed first n b) (long_zeroed first n b long (omega arith)) (omega arith)
+    (omega arith)
+    ∙ header_zeroed first n b long from (omega arith)
 
 -- ---- a block in memory, word by word
 module _ (first : ℕ) (x : Entry) where
@@ -75,7 +75,7 @@ module _ (first : ℕ) (x : Entry) where
   one_zeroed : (n : ℕ) (o : Option (List ℕ))
       → option_map (patched (first + n) 0) (option_map (zeroed first n) o) ≡ option_map (zeroed first (n + 1)) o
   one_zeroed n None = refl
-  one_zeroed n (Some b) = let e : suc n ≡ n + 1 = omega arith in ap Some (sym (zeroed_next first n b) ∙ ap (λ (n : ℕ). zeroed first n b) e)
+  one_zeroed n (Some b) = let e : suc n ≡ n + 1 = omega arith in ap Some (sym (zeroed_next first n b) ∙ ap (λ n. zeroed first n b) e)
 
   pub zeroes_next : {old mid new : Dirty} (n : ℕ) → ChangesTo old mid x (option_map (zeroed first n) (old x))
       → ChangesTo mid new x (option_map (patched (first + n) 0) (mid x))

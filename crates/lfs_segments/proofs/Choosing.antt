@@ -1,5 +1,5 @@
 -- Segments chosen one after the other: they are the first ones of their order.
-use Rattle.std.proofs.Common.{◌≡◌, ◌<◌, ◌≤◌, ◌⊎◌, ⊎_elim, ◌+◌, ℕ, suc, List, [], ◌∷◌, ◌++◌, length, get_or, Option, Some, None, refl, sym}
+use Rattle.std.proofs.Common.{◌≡◌, ◌⊎◌, ⊎_elim, ◌+◌, ℕ, suc, List, [], ◌∷◌, ◌++◌, length, get_or, Option, Some, None, refl, sym}
 use Rattle.std.proofs.Common.{subst, arith, inl, inr}
 use Rattle.std.specs.Prelude.{⊤}
 use Rattle.std.specs.List.{AllByRecursion}
@@ -21,8 +21,8 @@ module _ (t : UsageTable) (p : Preference) (last : Option Candidate) where
   on_reaches : (next : Option Candidate) (c : Candidate) (i : ℕ) → IsAhead t p next c.segment → Reaches t p next i → Reaches t p (Some c) i
   on_reaches None c i ahead reaches = absurd reaches
   on_reaches (Some n) c i ahead reaches = inr (⊎_elim
-      (λ (here : n.segment ≡ i). subst (λ (z : ℕ). Precedes t p c.segment z) here ahead)
-      (λ (later : Precedes t p n.segment i). (is_order t p).through c.segment n.segment i ahead later)
+      (λ here. subst (λ z. Precedes t p c.segment z) here ahead)
+      (λ later. (is_order t p).through c.segment n.segment i ahead later)
       reaches)
 
   -- the one that an option holds comes behind the last one
@@ -35,11 +35,11 @@ module _ (t : UsageTable) (p : Preference) (last : Option Candidate) where
       → IsAhead t p next c.segment → Leads t p last (suc c.segment) (Some c)
   leads_on next {c} is there behind ahead = record {
     least = λ i low used after. ⊎_elim
-        (λ (before : i < c.segment). on_reaches next c i ahead (is.least i before used after))
-        (λ (here : c.segment ≤ i). inl (omega (arith, here, low)))
+        (λ before. on_reaches next c i ahead (is.least i before used after))
+        (λ here. inl (omega arith))
         (cases_lt i c.segment);
     known = there;
-    behind = λ d same. subst (λ (o : Option Candidate). IsBehindOf o) same behind;
+    behind = λ d same. subst (λ o. IsBehindOf o) same behind;
   }
 
 -- ---- what is chosen so far, and the last one of it
@@ -58,16 +58,10 @@ module _ (t : UsageTable) (p : Preference) where
   abbrev R : ℕ → ℕ → Type 0
   R = Precedes t p
 
-  never : (a : ℕ) → R a a → ⊥
-  never a is = (is_order t p).one_way a a is is
-
   -- what comes behind the last one isn't chosen
   out_behind : (last : Option Candidate) (xs : List ℕ) (s : ℕ) → IsEnd t p last xs → IsBehind t p last s → IsIn xs s → ⊥
-  out_behind None xs s end behind is = subst (λ (ys : List ℕ). IsIn ys s) end is
-  out_behind (Some c) xs s end behind is = ⊎_elim
-      (λ (here : s ≡ c.segment). never s (subst (λ (z : ℕ). R z s) (sym here) behind))
-      (λ (before : R s c.segment). (is_order t p).one_way s c.segment before behind)
-      (end.1 s is)
+  out_behind None xs s end behind is = subst (λ ys. IsIn ys s) end is
+  out_behind (Some c) xs s end behind is = grind arith
 
   -- and what isn't chosen comes behind it
   behind_out : (last : Option Candidate) {xs : List ℕ} (s : ℕ) → IsEnd t p last xs → AreFirst t R xs → MayBeVictim t s → (IsIn xs s → ⊥)
@@ -92,8 +86,8 @@ module _ (t : UsageTable) (p : Preference) where
     -- others come behind it
     before_others : (s : ℕ) → MayBeVictim t s → (IsIn (xs ++ c.segment ∷ []) s → ⊥) → R c.segment s
     before_others s there out = ⊎_elim
-        (λ (here : c.segment ≡ s). absurd (out (subst (λ (z : ℕ). IsIn (xs ++ c.segment ∷ []) z) here (last_in xs c.segment))))
-        (λ (later : R c.segment s). later)
+        (λ here. absurd (out (subst (λ z. IsIn (xs ++ c.segment ∷ []) z) here (last_in xs c.segment))))
+        (λ later. later)
         (leads.least s there.0 there (behind_out last s was.end was.first there (λ is. out (was_in xs c.segment s is))))
 
     -- The next one is chosen too.
@@ -103,8 +97,8 @@ module _ (t : UsageTable) (p : Preference) where
         ordered = all_pairs_push R xs c.segment was.first.ordered
             (λ k d low. was.first.others (get_or xs k d) c.segment (at_in xs k d low) used new);
         others = λ v s is there out. ⊎_elim
-            (λ (before : IsIn xs v). was.first.others v s before there (λ in_xs. out (was_in xs c.segment s in_xs)))
-            (λ (here : v ≡ c.segment). subst (λ (z : ℕ). R z s) (sym here) (before_others s there out))
+            (λ before. was.first.others v s before there (λ in_xs. out (was_in xs c.segment s in_xs)))
+            (λ here. subst (λ z. R z s) (sym here) (before_others s there out))
             (in_pushed xs c.segment v is);
       };
       each = all_pushed (MayBeVictim t) xs c.segment was.each used;
@@ -112,8 +106,8 @@ module _ (t : UsageTable) (p : Preference) where
       end = (
         last_in xs c.segment,
         λ y is. ⊎_elim
-            (λ (before : IsIn xs y). inr (was.first.others y c.segment before used new))
-            (λ (here : y ≡ c.segment). inl here)
+            (λ before. inr (was.first.others y c.segment before used new))
+            (λ here. inl here)
             (in_pushed xs c.segment y is),
       );
       known = leads.known;
@@ -123,10 +117,10 @@ module _ (t : UsageTable) (p : Preference) where
   pub none_left : {last : Option Candidate} (xs : List ℕ) → Picked t p last xs → Leads t p last (length t.segments) None → (s : ℕ)
       → MayBeVictim t s → IsIn xs s
   none_left {last} xs was leads s there = ⊎_elim
-      (λ (is : IsIn xs s). is)
-      (λ (out : IsIn xs s → ⊥). absurd (leads.least s there.0 there (behind_out last s was.end was.first there out))) (in_or_out xs s)
+      (λ is. is)
+      (λ out. absurd (leads.least s there.0 there (behind_out last s was.end was.first there out))) (in_or_out xs s)
 
 -- a list with one more is longer by one
 pub length_pushed : (xs : List ℕ) (x : ℕ) → length (xs ++ x ∷ []) ≡ length xs + 1
 length_pushed [] x = refl
-length_pushed (y ∷ ys) x = let rest = length_pushed ys x in omega (arith, rest)
+length_pushed (y ∷ ys) x = omega (arith, length_pushed ys x)

@@ -1,5 +1,5 @@
 -- The totals that are kept beside a usage table, as one segment changes.
-use Rattle.std.proofs.Common.{◌≡◌, ◌<◌, ◌≤◌, ◌+◌, ◌*◌, ◌==◌, cond, ℕ, zero, suc, Bool, true, false, List, [], ◌∷◌, length, get_or}
+use Rattle.std.proofs.Common.{◌≡◌, ◌<◌, ◌≤◌, ◌+◌, ◌*◌, ◌==◌, cond, ℕ, zero, suc, Bool, List, [], ◌∷◌, length, get_or}
 use Rattle.std.proofs.Common.{replicate, refl, sym, ap, ◌∙◌, arith, rules, eq-eqb, not}
 use Rattle.std.specs.Prelude.{slice_set, sum_by}
 use Rattle.std.proofs.lemmas.List.Sums.{sum_by-cons}
@@ -13,47 +13,31 @@ use Rattle.lfs_segments.proofs.Numbers.{clean_change, all_clean}
 -- a sum of which one term changes
 sum_change : (f : SegmentNumbers → ℕ) (segments : List SegmentNumbers) (s : ℕ) (x : SegmentNumbers) → s < length segments
     → sum_by f (slice_set segments s x) + f (get_or segments s no_segment) ≡ sum_by f segments + f x
-sum_change f [] s x lt = absurd (omega (arith, lt))
+sum_change f [] s x lt = absurd (omega arith)
 sum_change f (n ∷ rest) zero x lt = omega (arith, sum_by-cons f x rest, sum_by-cons f n rest)
-sum_change f (n ∷ rest) (suc s) x lt =
-    let below = sum_change f rest s x (omega (arith, lt)) in
-    omega (arith, below, sum_by-cons f n (slice_set rest s x), sum_by-cons f n rest)
+sum_change f (n ∷ rest) (suc s) x lt = grind (arith, sum_change f rest s x, sum_by-cons f n (slice_set rest s x), sum_by-cons f n rest)
 
 -- a term of a sum isn't above it
 sum_has : (f : SegmentNumbers → ℕ) (segments : List SegmentNumbers) (s : ℕ) → s < length segments
     → f (get_or segments s no_segment) ≤ sum_by f segments
-sum_has f [] s lt = absurd (omega (arith, lt))
+sum_has f [] s lt = absurd (omega arith)
 sum_has f (n ∷ rest) zero lt = omega (arith, sum_by-cons f n rest)
-sum_has f (n ∷ rest) (suc s) lt = let below = sum_has f rest s (omega (arith, lt)) in omega (arith, below, sum_by-cons f n rest)
+sum_has f (n ∷ rest) (suc s) lt = grind (arith, sum_has f rest s, sum_by-cons f n rest)
 
 -- nor is a sum above as many of the largest term
 sum_most : (f : SegmentNumbers → ℕ) (most : ℕ) (segments : List SegmentNumbers) → ((s : ℕ) → f (get_or segments s no_segment) ≤ most)
     → sum_by f segments ≤ most * length segments
 sum_most f most [] each = omega arith
-sum_most f most (n ∷ rest) each =
-    let below = sum_most f most rest (λ s. each (suc s)) in
-    let first = each 0 in
-    omega (arith, below, first, sum_by-cons f n rest)
+sum_most f most (n ∷ rest) each = omega (arith, sum_most f most rest (λ s. each (suc s)), each 0, sum_by-cons f n rest)
 
 -- two lists with the same terms
 sum_same : (f : SegmentNumbers → ℕ) (old new : List SegmentNumbers) → length new ≡ length old
     → ((i : ℕ) → f (get_or new i no_segment) ≡ f (get_or old i no_segment)) → sum_by f new ≡ sum_by f old
 sum_same f [] [] size same = refl
-sum_same f [] (b ∷ new) size same = absurd (omega (arith, size))
-sum_same f (a ∷ old) [] size same = absurd (omega (arith, size))
+sum_same f [] (b ∷ new) size same = absurd (omega arith)
+sum_same f (a ∷ old) [] size same = absurd (omega arith)
 sum_same f (a ∷ old) (b ∷ new) size same =
-    let rest = sum_same f old new (omega (arith, size)) (λ i. same (suc i)) in
-    let first = same 0 in
-    omega (arith, rest, first, sum_by-cons f a old, sum_by-cons f b new)
-
--- where none of them has any, it is none
-sum_none : (f : SegmentNumbers → ℕ) (segments : List SegmentNumbers) → ((s : ℕ) → f (get_or segments s no_segment) ≡ 0)
-    → sum_by f segments ≡ 0
-sum_none f [] each = refl
-sum_none f (n ∷ rest) each =
-    let below = sum_none f rest (λ s. each (suc s)) in
-    let first = each 0 in
-    omega (arith, below, first, sum_by-cons f n rest)
+    omega (arith, sum_same f old new (omega arith) (λ i. same (suc i)), same 0, sum_by-cons f a old, sum_by-cons f b new)
 
 pub early_change : (segments : List SegmentNumbers) (s : ℕ) (x : SegmentNumbers) → s < length segments
     → early_in (slice_set segments s x) + early_of (get_or segments s no_segment) ≡ early_in segments + early_of x
@@ -66,11 +50,7 @@ unfolding taken_in
 taken_change segments s x lt = sum_change taken_of segments s x lt
 
 early_most : {n : SegmentNumbers} → FitsSegment n → early_of n ≤ 64
-early_most {n} fits = by_kept (n.kept == 0)
-  where
-    by_kept : (b : Bool) → cond b (n.live + n.held) 0 ≤ 64
-    by_kept true = let fewer = fits.fewer in let used = fits.used in omega (arith, fewer, used)
-    by_kept false = omega arith
+early_most {n} fits = grind arith
 
 pub early_total : (segments : List SegmentNumbers) → ((s : ℕ) → FitsSegment (get_or segments s no_segment))
     → early_in segments ≤ 64 * length segments
@@ -80,17 +60,17 @@ early_total segments each = sum_most early_of 64 segments (λ s. early_most (eac
 pub taken_total : (segments : List SegmentNumbers) → ((s : ℕ) → FitsSegment (get_or segments s no_segment))
     → taken_in segments ≤ 64 * length segments
 unfolding taken_in
-taken_total segments each = sum_most taken_of 64 segments (λ s. let used = (each s).used in omega (arith, used))
+taken_total segments each = sum_most taken_of 64 segments (λ s. omega (arith, (each s).used))
 
 pub none_early : (n : ℕ) → early_in (replicate n no_segment) ≡ 0
 unfolding early_in
 none_early zero = refl
-none_early (suc n) = let rest = none_early n in omega (arith, rest, sum_by-cons early_of no_segment (replicate n no_segment))
+none_early (suc n) = omega (arith, none_early n, sum_by-cons early_of no_segment (replicate n no_segment))
 
 pub none_taken : (n : ℕ) → taken_in (replicate n no_segment) ≡ 0
 unfolding taken_in
 none_taken zero = refl
-none_taken (suc n) = let rest = none_taken n in omega (arith, rest, sum_by-cons taken_of no_segment (replicate n no_segment))
+none_taken (suc n) = omega (arith, none_taken n, sum_by-cons taken_of no_segment (replicate n no_segment))
 
 pub early_has : (segments : List SegmentNumbers) (s : ℕ) → s < length segments → early_of (get_or segments s no_segment) ≤ early_in segments
 unfolding early_in
@@ -108,9 +88,9 @@ pub totals_change : {segments : List SegmentNumbers} (s : ℕ) (x : SegmentNumbe
     → taken' + taken_of (get_or segments s no_segment) ≡ taken + taken_of x
     → AreTotals (slice_set segments s x) clean' early' taken'
 totals_change {segments} s x taken clean' early' taken' lt totals cleans earlies takens = record {
-  clean_ones = let change = clean_change segments s x lt in let is = totals.clean_ones in omega (arith, change, is, cleans);
-  early_ones = let change = early_change segments s x lt in let is = totals.early_ones in omega (arith, change, is, earlies);
-  taken_ones = let change = taken_change segments s x lt in let is = totals.taken_ones in omega (arith, change, is, takens);
+  clean_ones = omega (arith, clean_change segments s x lt);
+  early_ones = omega (arith, early_change segments s x lt);
+  taken_ones = omega (arith, taken_change segments s x lt);
 }
 
 pub totals_new : {segments : List SegmentNumbers} (n : ℕ) → segments ≡ replicate n no_segment → AreTotals segments n 0 0
@@ -124,34 +104,30 @@ totals_new n is = record {
 sum_zero : (f : SegmentNumbers → ℕ) (segments : List SegmentNumbers) → f no_segment ≡ 0 → sum_by f segments ≡ 0 → (s : ℕ)
     → f (get_or segments s no_segment) ≡ 0
 sum_zero f [] past none s = past
-sum_zero f (n ∷ rest) past none zero = omega (arith, none, sum_by-cons f n rest)
-sum_zero f (n ∷ rest) past none (suc s) = sum_zero f rest past (omega (arith, none, sum_by-cons f n rest)) s
+sum_zero f (n ∷ rest) past none zero = omega (arith, sum_by-cons f n rest)
+sum_zero f (n ∷ rest) past none (suc s) = sum_zero f rest past (omega (arith, sum_by-cons f n rest)) s
 
 -- no sector is counted as taken: none was
 pub untaken_of : {t : UsageTable} → FitsTable t → taken_in t.segments ≡ 0 → AreUntaken t
 unfolding taken_in
-untaken_of {t} fits none s =
-    let rest = sum_zero taken_of t.segments refl none s in
-    let kept = (fits.each s).kept in
-    omega (arith, rest, kept)
-
-pub taken_of_untaken : (t : UsageTable) → AreUntaken t → taken_in t.segments ≡ 0
-unfolding taken_in
-taken_of_untaken t un = sum_none taken_of t.segments (λ s. let same = un s in omega (arith, same))
+untaken_of {t} fits none s = omega (arith, sum_zero taken_of t.segments refl none s, (fits.each s).kept)
 
 -- two lists that differ in one term
 sum_moved : (f : SegmentNumbers → ℕ) (old new : List SegmentNumbers) (s : ℕ) → length new ≡ length old → s < length old
     → ((i : ℕ) → (i ≡ s → ⊥) → f (get_or new i no_segment) ≡ f (get_or old i no_segment))
     → sum_by f new + f (get_or old s no_segment) ≡ sum_by f old + f (get_or new s no_segment)
-sum_moved f [] new s size lt same = absurd (omega (arith, lt))
-sum_moved f (a ∷ old) [] s size lt same = absurd (omega (arith, size))
+sum_moved f [] new s size lt same = absurd (omega arith)
+sum_moved f (a ∷ old) [] s size lt same = absurd (omega arith)
 sum_moved f (a ∷ old) (b ∷ new) zero size lt same =
-    let rest = sum_same f old new (omega (arith, size)) (λ i. same (suc i) (λ h. omega (arith, h))) in
-    omega (arith, rest, sum_by-cons f a old, sum_by-cons f b new)
+    omega (arith, sum_same f old new (omega arith) (λ i. same (suc i) (λ h. omega arith)), sum_by-cons f a old, sum_by-cons f b new)
 sum_moved f (a ∷ old) (b ∷ new) (suc s) size lt same =
-    let rest = sum_moved f old new s (omega (arith, size)) (omega (arith, lt)) (λ i ne. same (suc i) (λ h. ne (omega (arith, h)))) in
-    let first = same 0 (λ h. omega (arith, h)) in
-    omega (arith, rest, first, sum_by-cons f a old, sum_by-cons f b new)
+    omega (
+      arith,
+      sum_moved f old new s (omega arith) (omega arith) (λ i ne. same (suc i) (λ h. ne (omega arith))),
+      same 0 (λ h. omega arith),
+      sum_by-cons f a old,
+      sum_by-cons f b new,
+    )
 
 -- A block that is noted in a segment of which nothing is kept is early.
 pub early_noted : {old new : UsageTable} {s : ℕ} (lives : Bool) → s < length old.segments → kept_of old s ≡ 0 → Notes old new s lives
@@ -160,11 +136,10 @@ unfolding early_in
 early_noted {old} {new} {s} lives lt kept notes =
     let moved = sum_moved early_of old.segments new.segments s notes.size lt away in
     let before : early_of (get_or old.segments s no_segment) ≡ live_of old s + held_of old s =
-    ap {B = ℕ} (λ (b : Bool). cond {A = ℕ} b (live_of old s + held_of old s) 0) (eq-eqb (kept_of old s) 0 kept) in
+    ap (λ b. cond b (live_of old s + held_of old s) 0) (eq-eqb (kept_of old s) 0 kept) in
     let now : early_of (get_or new.segments s no_segment) ≡ live_of new s + held_of new s =
-    ap {B = ℕ} (λ (b : Bool). cond {A = ℕ} b (live_of new s + held_of new s) 0) (eq-eqb (kept_of new s) 0 (notes.kept s ∙ kept)) in
-    let one = one_more lives notes.live notes.held in
-    omega (arith, moved, before, now, one)
+    ap (λ b. cond b (live_of new s + held_of new s) 0) (eq-eqb (kept_of new s) 0 (notes.kept s ∙ kept)) in
+    omega (arith, one_more lives notes.live notes.held)
   where
     away : (i : ℕ) → (i ≡ s → ⊥) → early_of (get_or new.segments i no_segment) ≡ early_of (get_or old.segments i no_segment)
     away i ne = search rules

@@ -14,18 +14,18 @@ use Rattle.lfs_segments.proofs.Orders.{IsOrder}
 pub in_or_out : (xs : List ℕ) (y : ℕ) → IsIn xs y ⊎ (IsIn xs y → ⊥)
 in_or_out [] y = inr (λ is. is)
 in_or_out (x ∷ xs) y = ⊎_elim
-    (λ (here : y ≡ x). inl (inl here))
-    (λ (away : y ≡ x → ⊥). ⊎_elim
-    (λ (later : IsIn xs y). inl (inr later))
-    (λ (out : IsIn xs y → ⊥). inr (⊎_elim away out))
+    (λ here. inl (inl here))
+    (λ away. ⊎_elim
+    (λ later. inl (inr later))
+    (λ out. inr (⊎_elim away out))
     (in_or_out xs y))
     (cases_eq y x)
 
 -- what stands at a place is a member
 pub at_in : (xs : List ℕ) (k d : ℕ) → k < length xs → IsIn xs (get_or xs k d)
-at_in [] k d low = absurd (omega (arith, low))
+at_in [] k d low = absurd (omega arith)
 at_in (x ∷ xs) zero d low = inl refl
-at_in (x ∷ xs) (suc k) d low = inr (at_in xs k d (omega (arith, low)))
+at_in (x ∷ xs) (suc k) d low = inr (at_in xs k d (omega arith))
 
 -- what holds of each member holds of all
 pub all_from : (P : ℕ → Type 0) (xs : List ℕ) → ((x : ℕ) → IsIn xs x → P x) → AllByRecursion P xs
@@ -36,13 +36,13 @@ all_from P (x ∷ xs) each = (each x (inl refl), all_from P xs (λ y is. each y 
 pub in_either : (xs ys : List ℕ) (y : ℕ) → IsIn (xs ++ ys) y → IsIn xs y ⊎ IsIn ys y
 in_either [] ys y is = inr is
 in_either (x ∷ xs) ys y is = ⊎_elim
-    (λ (here : y ≡ x). inl (inl here))
-    (λ (later : IsIn (xs ++ ys) y). ⊎_elim (λ (i : IsIn xs y). inl (inr i)) (λ (j : IsIn ys y). inr j) (in_either xs ys y later))
+    (λ here. inl (inl here))
+    (λ later. ⊎_elim (λ i. inl (inr i)) (λ j. inr j) (in_either xs ys y later))
     is
 
 pub in_left : (xs ys : List ℕ) (y : ℕ) → IsIn xs y → IsIn (xs ++ ys) y
 in_left [] ys y is = absurd is
-in_left (x ∷ xs) ys y is = ⊎_elim (λ (here : y ≡ x). inl here) (λ (later : IsIn xs y). inr (in_left xs ys y later)) is
+in_left (x ∷ xs) ys y is = ⊎_elim (λ here. inl here) (λ later. inr (in_left xs ys y later)) is
 
 pub apart_left : (xs ys : List ℕ) → AreApart (xs ++ ys) → AreApart xs
 apart_left [] ys apart = tt
@@ -58,22 +58,22 @@ module _ (R : ℕ → ℕ → Type 0) where
   pub before_all : (x : ℕ) (xs : List ℕ) → ((k d : ℕ) → k < length xs → R x (get_or xs k d)) → (y : ℕ) → IsIn xs y → R x y
   before_all x [] each y is = absurd is
   before_all x (z ∷ zs) each y is = ⊎_elim
-      (λ (here : y ≡ z). subst (λ (w : ℕ). R x w) (sym here) (each 0 0 (omega arith)))
-      (λ (later : IsIn zs y). before_all x zs (λ k d low. each (suc k) d (omega (arith, low))) y later)
+      (λ here. subst (λ w. R x w) (sym here) (each 0 0 (omega arith)))
+      (λ later. before_all x zs (λ k d low. each (suc k) d (omega arith)) y later)
       is
 
   first_before : (x : ℕ) (xs : List ℕ) → AllPairs R (x ∷ xs) → (y : ℕ) → IsIn xs y → R x y
-  first_before x xs pairs = before_all x xs (λ k d low. pairs 0 (suc k) d (omega arith) (omega (arith, low)))
+  first_before x xs pairs = before_all x xs (λ k d low. pairs 0 (suc k) d (omega arith) (omega arith))
 
   others_pairs : (x : ℕ) (xs : List ℕ) → AllPairs R (x ∷ xs) → AllPairs R xs
-  others_pairs x xs pairs i j d less low = pairs (suc i) (suc j) d (omega (arith, less)) (omega (arith, low))
+  others_pairs x xs pairs i j d less low = pairs (suc i) (suc j) d (omega arith) (omega arith)
 
   -- those of a beginning come before those behind it
   pairs_across : (xs ys : List ℕ) → AllPairs R (xs ++ ys) → (v s : ℕ) → IsIn xs v → IsIn ys s → R v s
   pairs_across [] ys pairs v s is there = absurd is
   pairs_across (x ∷ xs) ys pairs v s is there = ⊎_elim
-      (λ (here : v ≡ x). subst (λ (w : ℕ). R w s) (sym here) (first_before x (xs ++ ys) pairs s (behind xs)))
-      (λ (later : IsIn xs v). pairs_across xs ys (others_pairs x (xs ++ ys) pairs) v s later there)
+      (λ here. subst (λ w. R w s) (sym here) (first_before x (xs ++ ys) pairs s (behind xs)))
+      (λ later. pairs_across xs ys (others_pairs x (xs ++ ys) pairs) v s later there)
       is
     where
       behind : (xs : List ℕ) → IsIn (xs ++ ys) s
@@ -82,13 +82,13 @@ module _ (R : ℕ → ℕ → Type 0) where
 
   -- a beginning is in order
   pairs_left : (xs ys : List ℕ) → AllPairs R (xs ++ ys) → AllPairs R xs
-  pairs_left [] ys pairs i j d less low = absurd (omega (arith, low))
-  pairs_left (x ∷ xs) ys pairs zero zero d less low = absurd (omega (arith, less))
+  pairs_left [] ys pairs i j d less low = absurd (omega arith)
+  pairs_left (x ∷ xs) ys pairs zero zero d less low = absurd (omega arith)
   pairs_left (x ∷ xs) ys pairs zero (suc j) d less low =
-      first_before x (xs ++ ys) pairs (get_or xs j d) (in_left xs ys (get_or xs j d) (at_in xs j d (omega (arith, low))))
-  pairs_left (x ∷ xs) ys pairs (suc i) zero d less low = absurd (omega (arith, less))
+      first_before x (xs ++ ys) pairs (get_or xs j d) (in_left xs ys (get_or xs j d) (at_in xs j d (omega arith)))
+  pairs_left (x ∷ xs) ys pairs (suc i) zero d less low = absurd (omega arith)
   pairs_left (x ∷ xs) ys pairs (suc i) (suc j) d less low =
-      pairs_left xs ys (others_pairs x (xs ++ ys) pairs) i j d (omega (arith, less)) (omega (arith, low))
+      pairs_left xs ys (others_pairs x (xs ++ ys) pairs) i j d (omega arith) (omega arith)
 
   -- ---- the first ones of those for which P holds
   record AreFirstOf (P : ℕ → Type 0) (xs : List ℕ) : Type 0 where
@@ -103,17 +103,17 @@ module _ (R : ℕ → ℕ → Type 0) where
     -- of two such lists the first ones are the same
     same_head : (P : ℕ → Type 0) (x w : ℕ) (xs ws : List ℕ) → AreFirstOf P (x ∷ xs) → AreFirstOf P (w ∷ ws) → w ≡ x
     same_head P x w xs ws one other = ⊎_elim
-        (λ (same : w ≡ x). same)
-        (λ (away : w ≡ x → ⊥). absurd (⊎_elim
-        (λ (less : R w x). order.one_way w x less (ahead x w xs one (other.each w (inl refl)) away))
-        (λ (more : R x w). order.one_way x w more (ahead w x ws other (one.each x (inl refl)) (λ e. away (sym e))))
+        (λ same. same)
+        (λ away. absurd (⊎_elim
+        (λ less. order.one_way w x less (ahead x w xs one (other.each w (inl refl)) away))
+        (λ more. order.one_way x w more (ahead w x ws other (one.each x (inl refl)) (λ e. away (sym e))))
         (order.either w x away)))
         (cases_eq w x)
       where
         ahead : (a b : ℕ) (rest : List ℕ) → AreFirstOf P (a ∷ rest) → P b → (b ≡ a → ⊥) → R a b
         ahead a b rest first is away = ⊎_elim
-            (λ (there : IsIn rest b). first_before a rest first.ordered b there)
-            (λ (out : IsIn rest b → ⊥). first.others a b (inl refl) is (⊎_elim away out))
+            (λ there. first_before a rest first.ordered b there)
+            (λ out. first.others a b (inl refl) is (⊎_elim away out))
             (in_or_out rest b)
 
     -- what follows the first one are the first ones of the rest
@@ -122,19 +122,19 @@ module _ (R : ℕ → ℕ → Type 0) where
       ordered = others_pairs x xs first.ordered;
       each = λ y is. (
         first.each y (inr is),
-        λ e. never x (subst (λ (w : ℕ). R x w) (e ∙ sym same) (first_before x xs first.ordered y is)),
+        λ e. never x (subst (λ w. R x w) (e ∙ sym same) (first_before x xs first.ordered y is)),
       );
-      others = λ v s is there out. first.others v s (inr is) there.0 (⊎_elim (λ (e : s ≡ x). there.1 (e ∙ same)) out);
+      others = λ v s is there out. grind arith;
     }
 
     same_firsts : (P : ℕ → Type 0) (xs ws : List ℕ) → AreFirstOf P xs → AreFirstOf P ws → length ws ≤ length xs → ws ≡ take (length ws) xs
     same_firsts P xs [] one other few = refl
-    same_firsts P [] (w ∷ ws) one other few = absurd (omega (arith, few))
+    same_firsts P [] (w ∷ ws) one other few = absurd (omega arith)
     same_firsts P (x ∷ xs) (w ∷ ws) one other few =
         let head = same_head P x w xs ws one other in
         let rest = same_firsts (λ s. P s × (s ≡ x → ⊥)) xs ws (rest_first P x x xs refl one) (rest_first P x w ws head other)
-        (omega (arith, few)) in
-        ap₂ (λ (y : ℕ) (ys : List ℕ). y ∷ ys) head rest
+        (omega arith) in
+        ap₂ (λ y ys. y ∷ ys) head rest
 
 -- ---- the first ones of those that may be cleaned
 module _ (t : UsageTable) (R : ℕ → ℕ → Type 0) where
@@ -142,8 +142,8 @@ module _ (t : UsageTable) (R : ℕ → ℕ → Type 0) where
   beginning_first {xs} ys first = record {
     ordered = pairs_left R xs ys first.ordered;
     others = λ v s is used out. ⊎_elim
-        (λ (later : IsIn ys s). pairs_across R xs ys first.ordered v s is later)
-        (λ (past : IsIn ys s → ⊥). first.others v s (in_left xs ys v is) used (λ there. ⊎_elim out past (in_either xs ys s there)))
+        (λ later. pairs_across R xs ys first.ordered v s is later)
+        (λ past. first.others v s (in_left xs ys v is) used (λ there. ⊎_elim out past (in_either xs ys s there)))
         (in_or_out ys s);
   }
 

@@ -3,7 +3,6 @@ use Rattle.std.proofs.Common.{◌≡◌, ◌<◌, ◌≤◌, ◌⊎◌, ⊎_elim
 use Rattle.std.proofs.Common.{take_all, refl, sym, ap, ◌∙◌, subst, arith}
 use Rattle.std.specs.Prelude.{sum_by, Option, Some, None, IfSome, IfNone, is_some, true}
 use Rattle.std.specs.List.{AllByRecursion}
-use Rattle.std.proofs.lemmas.Bool.{cases_lt}
 use Rattle.std.proofs.lemmas.List.{take-append-le}
 use Rattle.std.proofs.lemmas.List.Sums.{sum_by_push}
 use Rattle.lfs_model.specs.Members.{IsIn, AreApart}
@@ -44,32 +43,29 @@ module _ (t : UsageTable) {meta : ℕ} (xs : List ℕ) (x : ℕ) {best count : �
   same_gain k le = ap (gain_of t meta) (take-append-le k xs (x ∷ []) le)
 
   whole_gain : (k : ℕ) → length xs < k → gain_of t meta (take k (xs ++ x ∷ [])) ≡ gain_of t meta (xs ++ x ∷ [])
-  whole_gain k lt = ap (gain_of t meta) (take_all k (xs ++ x ∷ []) (let l = length_pushed xs x in omega (arith, l, lt)))
+  whole_gain k lt = ap (gain_of t meta) (take_all k (xs ++ x ∷ []) (omega (arith, length_pushed xs x)))
 
   all_pushed_gain : (most : ℕ) → best ≤ most → gain_of t meta (xs ++ x ∷ []) ≤ most → (k : ℕ)
       → gain_of t meta (take k (xs ++ x ∷ [])) ≤ most
-  all_pushed_gain most old new k = ⊎_elim
-      (λ (past : length xs < k). let w = whole_gain k past in omega (arith, w, new))
-      (λ (le : k ≤ length xs). let s = same_gain k le in let a = was.all k le in omega (arith, s, a, old))
-      (cases_lt (length xs) k)
+  all_pushed_gain most old new k = grind (arith, whole_gain k, same_gain k, was.all k)
 
   pub tried_more : best < gain_of t meta (xs ++ x ∷ []) → gain_of t meta (xs ++ x ∷ []) < wanted_gain t
       → Tried t meta (xs ++ x ∷ []) (gain_of t meta (xs ++ x ∷ [])) (length xs + 1)
   tried_more more small = record {
-    inside = let l = length_pushed xs x in omega (arith, l);
+    inside = omega (arith, length_pushed xs x);
     gains = whole_gain (length xs + 1) (omega arith);
-    all = λ k le. all_pushed_gain (gain_of t meta (xs ++ x ∷ [])) (omega (arith, more)) (omega arith) k;
-    fewer = λ k lt. let s = same_gain k (omega (arith, lt)) in let a = was.all k (omega (arith, lt)) in omega (arith, s, a, more);
-    none = λ is. absurd (omega (arith, is, more));
+    all = λ k le. all_pushed_gain (gain_of t meta (xs ++ x ∷ [])) (omega arith) (omega arith) k;
+    fewer = λ k lt. grind (arith, same_gain k, was.all k);
+    none = λ is. absurd (omega arith);
     low = small;
   }
 
   pub tried_still : gain_of t meta (xs ++ x ∷ []) ≤ best → Tried t meta (xs ++ x ∷ []) best count
   tried_still less = record {
-    inside = let l = length_pushed xs x in let i = was.inside in omega (arith, l, i);
+    inside = omega (arith, length_pushed xs x);
     gains = same_gain count was.inside ∙ was.gains;
     all = λ k le. all_pushed_gain best (omega arith) less k;
-    fewer = λ k lt. let i = was.inside in let s = same_gain k (omega (arith, lt, i)) in let f = was.fewer k lt in omega (arith, s, f);
+    fewer = λ k lt. omega (arith, same_gain k (omega arith), was.fewer k lt);
     none = was.none;
     low = was.low;
   }
@@ -78,34 +74,31 @@ module _ (t : UsageTable) {meta : ℕ} (xs : List ℕ) (x : ℕ) {best count : �
   pub tried_next_more : {best' : ℕ} (count' : ℕ) → best' ≡ gain_of t meta (xs ++ x ∷ []) → count' ≡ length xs + 1 → best < best'
       → best' < wanted_gain t → Tried t meta (xs ++ x ∷ []) best' count'
   tried_next_more {best'} count' gain longer more small =
-      subst (λ (n : ℕ). Tried t meta (xs ++ x ∷ []) best' n) (sym longer)
-      (subst (λ (n : ℕ). Tried t meta (xs ++ x ∷ []) n (length xs + 1)) (sym gain)
-      (tried_more (omega (arith, gain, more)) (omega (arith, gain, small))))
+      subst (λ n. Tried t meta (xs ++ x ∷ []) best' n) (sym longer)
+      (subst (λ n. Tried t meta (xs ++ x ∷ []) n (length xs + 1)) (sym gain)
+      (tried_more (omega arith) (omega arith)))
 
   pub tried_next_still : {best' count' gain : ℕ} → best' ≡ best → count' ≡ count → gain ≡ gain_of t meta (xs ++ x ∷ []) → gain ≤ best
       → Tried t meta (xs ++ x ∷ []) best' count'
   tried_next_still {best'} same as_many is less =
-      subst (λ (n : ℕ). Tried t meta (xs ++ x ∷ []) best' n) (sym as_many)
-      (subst (λ (n : ℕ). Tried t meta (xs ++ x ∷ []) n count) (sym same) (tried_still (omega (arith, is, less))))
+      subst (λ n. Tried t meta (xs ++ x ∷ []) best' n) (sym as_many)
+      (subst (λ n. Tried t meta (xs ++ x ∷ []) n count) (sym same) (tried_still (omega arith)))
 
 -- what a list with one more gains
 pub gain_pushed : (t : UsageTable) (meta : ℕ) (xs : List ℕ) (x : ℕ) {blocks load others gain : ℕ} → blocks ≡ sum_by (load_of t) xs
     → load ≡ load_of t x → length xs ≡ others
     → gain ≡ others + 1 - (blocks + load + meta + 48 + 62) / 63 → gain ≡ gain_of t meta (xs ++ x ∷ [])
-gain_pushed t meta xs x sum own long is =
-    let p = sum_by_push (load_of t) xs x in
-    let l = length_pushed xs x in
-    omega (arith, sum, own, long, is, p, l)
+gain_pushed t meta xs x sum own long is = omega (arith, sum_by_push (load_of t) xs x, length_pushed xs x)
 
 -- ---- victims
 -- what gains is a list of victims
 pub gains_some : {t : UsageTable} {meta most : ℕ} {xs : List ℕ} → length xs ≤ most → AreApart xs → AllByRecursion (MayBeVictim t) xs
     → 0 < gain_of t meta xs → AreVictims t meta most xs
-gains_some few apart each some = record { few = few; apart = apart; each = each; gain = omega (arith, some) }
+gains_some few apart each some = grind arith
 
 -- and such a list gains
 pub victims_gain : (t : UsageTable) {meta most : ℕ} {ws : List ℕ} → AreVictims t meta most ws → 0 < gain_of t meta ws
-victims_gain t are = let g = are.gain in omega (arith, g)
+victims_gain t are = omega arith
 
 module _ {t : UsageTable} (meta most : ℕ) (p : Preference) {xs : List ℕ} (first : AreFirst t (Precedes t p) xs)
     (each : AllByRecursion (MayBeVictim t) xs) (apart : AreApart xs) where
@@ -121,50 +114,30 @@ module _ {t : UsageTable} (meta most : ℕ) (p : Preference) {xs : List ℕ} (fi
   pub not_longer : (length xs ≡ most) ⊎ ((s : ℕ) → MayBeVictim t s → IsIn xs s) → {ws : List ℕ} → AreVictims t meta most ws
       → length ws ≤ length xs
   not_longer ended {ws} are = ⊎_elim
-      (λ (full : length xs ≡ most). let f = are.few in omega (arith, full, f))
-      (λ (all : (s : ℕ) → MayBeVictim t s → IsIn xs s). fewer xs ws are.apart (λ y is. all y (all_in (MayBeVictim t) ws are.each y is)))
+      (λ full. omega arith)
+      (λ all. fewer xs ws are.apart (λ y is. all y (all_in (MayBeVictim t) ws are.each y is)))
       ended
 
   -- The one that is chosen at the end gains most.
   pub choice_at_end : {best count : ℕ} → Tried t meta xs best count → length xs ≤ most
       → (length xs ≡ most) ⊎ ((s : ℕ) → MayBeVictim t s → IsIn xs s) → 0 < count → IsChoice t meta most R (take count xs)
   choice_at_end {best} {count} tried few ended some =
-      let gains = tried.gains in
-      let low = tried.low in
       let inside = tried.inside in
       let long = length-take-le count xs inside in
       record {
-        victims = gains_some (omega (arith, long, inside, few)) (taken_apart t R xs count apart) (taken_each t R xs count each)
-            (let z = tried.fewer 0 some in omega (arith, z, gains));
+        victims = gains_some (omega arith) (taken_apart t R xs count apart) (taken_each t R xs count each)
+            (omega (arith, tried.fewer 0 some));
         first = taken_first t R count first;
         best = λ ws are other.
             let le = not_longer ended are in
-            let g = gain_there are other le in
-            let a = tried.all (length ws) le in
-            omega (arith, g, a, gains);
-        fewest = λ ws are other short.
-            let g = gain_there are other (omega (arith, short, long, inside)) in
-            let f = tried.fewer (length ws) (omega (arith, short, long)) in
-            omega (arith, g, f, gains, low);
+            omega (arith, gain_there are other le, tried.all (length ws) le);
+        fewest = grind (arith, gain_there, tried.fewer);
       }
 
   -- Where none gains, no first ones are victims.
   pub exhausts : FitsTable t → {best count : ℕ} → Tried t meta xs best count → length xs ≤ most
       → (length xs ≡ most) ⊎ ((s : ℕ) → MayBeVictim t s → IsIn xs s) → count ≡ 0 → Exhausts t meta most p
-  exhausts table tried few ended none = record {
-    table = table;
-    all = xs;
-    first = first;
-    each = each;
-    apart = apart;
-    few = few;
-    ended = ended;
-    lacks = λ k le.
-        let a = tried.all k le in
-        let g = tried.gains in
-        let z = ap (λ (n : ℕ). gain_of t meta (take n xs)) none in
-        omega (arith, a, g, z);
-  }
+  exhausts table tried few ended none = grind arith
 
 -- The first one that gains as many as are wanted is the choice.
 pub choice_at_once : (t : UsageTable) {meta : ℕ} (most : ℕ) (p : Preference) (xs : List ℕ) (x : ℕ) {best count : ℕ}
@@ -172,18 +145,19 @@ pub choice_at_once : (t : UsageTable) {meta : ℕ} (most : ℕ) (p : Preference)
     → AreFirst t (Precedes t p) (xs ++ x ∷ []) → AllByRecursion (MayBeVictim t) (xs ++ x ∷ []) → AreApart (xs ++ x ∷ [])
     → length xs < most → wanted_gain t ≤ gain_of t meta (xs ++ x ∷ []) → IsChoice t meta most (Precedes t p) (xs ++ x ∷ [])
 choice_at_once t {meta} most p xs x {best} tried first each apart few enough =
-    let low = tried.low in
     let long = length_pushed xs x in
     record {
-      victims = gains_some (omega (arith, few, long)) apart each (omega (arith, enough, low));
+      victims = gains_some (omega arith) apart each (omega arith);
       first = first;
-      best = λ ws are other. omega (arith, enough);
+      best = λ ws are other. omega arith;
       fewest = λ ws are other short.
-          let le : length ws ≤ length xs = omega (arith, short, long) in
-          let g = gain_there meta most p first each apart are other (omega (arith, short)) in
-          let s = ap (gain_of t meta) (take-append-le (length ws) xs (x ∷ []) le) in
-          let a = tried.all (length ws) le in
-          omega (arith, g, s, a, low, enough);
+          let le : length ws ≤ length xs = omega arith in
+          omega (
+            arith,
+            gain_there meta most p first each apart are other (omega arith),
+            ap (gain_of t meta) (take-append-le (length ws) xs (x ∷ []) le),
+            tried.all (length ws) le,
+          );
     }
 
 -- So no first ones of an order of which no beginning gains are victims.
@@ -191,7 +165,4 @@ pub no_choice : {t : UsageTable} {meta most : ℕ} {p : Preference} → Exhausts
     → AreFirst t (Precedes t p) ws → ⊥
 no_choice {t} {meta} {most} {p} is ws are other =
     let le = not_longer meta most p is.first is.each is.apart is.ended are in
-    let g = gain_there meta most p is.first is.each is.apart are other le in
-    let l = is.lacks (length ws) le in
-    let v = victims_gain t are in
-    omega (arith, g, l, v)
+    omega (arith, gain_there meta most p is.first is.each is.apart are other le, is.lacks (length ws) le, victims_gain t are)

@@ -14,43 +14,43 @@ use Rattle.lfs_segments.proofs.Gaining.{not_longer}
 
 -- ---- the greatest one
 greatest : (f : ℕ → ℕ) (x : ℕ) (xs : List ℕ) → (v : ℕ) × IsIn (x ∷ xs) v × ((y : ℕ) → IsIn (x ∷ xs) y → f y ≤ f v)
-greatest f x [] = (x, inl refl, λ y is. ⊎_elim (λ (here : y ≡ x). let e = ap f here in omega (arith, e)) (λ (none : ⊥). absurd none) is)
+greatest f x [] = (x, inl refl, λ y is. ⊎_elim (λ here. omega (arith, ap f here)) (λ none. absurd none) is)
 greatest f x (z ∷ zs) =
     let rest = greatest f z zs in
     let v = rest.0 in
     let in_rest = rest.1 in
     let top = rest.2 in
     ⊎_elim
-    (λ (more : f v < f x). (
+    (λ more. (
       x,
       inl refl,
       λ y is. ⊎_elim
-          (λ (here : y ≡ x). let e = ap f here in omega (arith, e))
-          (λ (later : IsIn (z ∷ zs) y). let t = top y later in omega (arith, t, more))
+          (λ here. omega (arith, ap f here))
+          (λ later. omega (arith, top y later))
           is,
     ))
-    (λ (less : f x ≤ f v). (
+    (λ less. (
       v,
       inr in_rest,
       λ y is. ⊎_elim
-          (λ (here : y ≡ x). let e = ap f here in omega (arith, e, less))
-          (λ (later : IsIn (z ∷ zs) y). top y later)
+          (λ here. omega (arith, ap f here))
+          (λ later. top y later)
           is,
     ))
     (cases_lt (f v) (f x))
 
 pub greatest_in : (f : ℕ → ℕ) (xs : List ℕ) → 0 < length xs → (v : ℕ) × IsIn xs v × ((y : ℕ) → IsIn xs y → f y ≤ f v)
-greatest_in f [] some = absurd (omega (arith, some))
+greatest_in f [] some = absurd (omega arith)
 greatest_in f (x ∷ xs) some = greatest f x xs
 
 -- a segment with fewer blocks than one that is chosen is chosen
 pub least_in : (t : UsageTable) {xs : List ℕ} → AreFirst t (ComesBefore t) xs → (v : ℕ) → IsIn xs v → (s : ℕ) → MayBeVictim t s
     → load_of t s < load_of t v → IsIn xs s
 least_in t {xs} first v is s there less = ⊎_elim
-    (λ (chosen : IsIn xs s). chosen)
-    (λ (out : IsIn xs s → ⊥). absurd (⊎_elim
-    (λ (fewer : load_of t v < load_of t s). omega (arith, fewer, less))
-    (λ (as_many : (load_of t v ≡ load_of t s) × (v < s)). let same = as_many.0 in omega (arith, same, less))
+    (λ chosen. chosen)
+    (λ out. absurd (⊎_elim
+    (λ fewer. omega arith)
+    (λ as_many. omega arith)
     (first.others v s is there out)))
     (in_or_out xs s)
 
@@ -70,6 +70,4 @@ no_victims t meta most is vs are =
     let long = length-take-le (length vs) is.all le in
     let least = least_blocks t (take (length vs) is.all) vs (taken_first t (ComesBefore t) (length vs) is.first) are.apart are.each
     (sym long) in
-    let lacks = is.lacks (length vs) le in
-    let gain = are.gain in
-    omega (arith, long, least, lacks, gain)
+    omega (arith, is.lacks (length vs) le)

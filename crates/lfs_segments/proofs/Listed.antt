@@ -1,50 +1,25 @@
 -- The list of segments whose numbers change as a checkpoint is acknowledged: as one has other numbers, and as all of them change.
-use Rattle.std.proofs.Common.{◌≡◌, ◌<◌, ◌≤◌, ◌⊎◌, ⊎_elim, inl, ◌+◌, ◌==◌, ◌&&◌, cond, ℕ, suc, Bool, true, false, List, length, get_or}
-use Rattle.std.proofs.Common.{replicate, refl, sym, ◌∙◌, ap, subst, arith, eq-eqb, eqb-true, length-set, get_or-set_other, get_or-set_same}
+use Rattle.std.proofs.Common.{◌≡◌, ◌<◌, ◌≤◌, ◌⊎◌, ⊎_elim, inl, ◌+◌, ℕ, suc, Bool, true, false, List, length, get_or}
+use Rattle.std.proofs.Common.{replicate, refl, sym, ◌∙◌, ap, subst, arith, length-set, get_or-set_other, get_or-set_same}
 use Rattle.std.specs.Prelude.{slice_set}
 use Rattle.std.proofs.lemmas.Bool.{cases_eq}
 use Rattle.lfs_segments.specs.declared.releasing.Unsettled.{Unsettled}
 use Rattle.lfs_segments.specs.Table.{SegmentNumbers, UsageTable, no_segment, clean_in}
-use Rattle.lfs_segments.specs.Steps.{Releases, released, is_empty}
+use Rattle.lfs_segments.specs.Steps.{Releases, released}
 use Rattle.lfs_segments.specs.Settled.{ListsUnsettled, IsListed, is_settled}
 use Rattle.lfs_segments.proofs.Numbers.{set_own, set_other, no_segment_there}
 use Rattle.lfs_segments.proofs.Steps.{never_fewer}
 
-each_one : (a b : Bool) → (a && b) ≡ true → (a ≡ true) × (b ≡ true)
-each_one true true h = (refl, refl)
-each_one true false h = absurd cc
-each_one false b h = absurd cc
-
 -- ---- numbers that stay
-pub stays : (n : SegmentNumbers) → is_settled n ≡ true → released n ≡ n
-stays n is =
-    let both = each_one ((released n).used == n.used) ((released n).kept == n.kept) is in
-    let used = eqb-true (released n).used n.used both.0 in
-    let kept = eqb-true (released n).kept n.kept both.1 in
-    λ i. record { used = used i; live = n.live; held = n.held; age = n.age; kept = kept i }
-
-twice : (e : Bool) (u : ℕ) → cond e 0 (cond e 0 u) ≡ cond e 0 u
-twice true u = refl
-twice false u = refl
-
 -- once they changed, they stay
 pub released_twice : (n : SegmentNumbers) → released (released n) ≡ released n
-released_twice n =
-    let same = twice (is_empty n) n.used in
-    λ i. record { used = same i; live = n.live; held = n.held; age = n.age; kept = same i }
-
-pub settled_after : (n : SegmentNumbers) → is_settled (released n) ≡ true
-settled_after n = ap (λ (m : SegmentNumbers). (m.used == (released n).used) && (m.kept == (released n).kept)) (released_twice n)
-    ∙ same (released n).used (released n).kept
-  where
-    same : (a b : ℕ) → ((a == a) && (b == b)) ≡ true
-    same a b = ap (λ (x : Bool). x && (b == b)) (eq-eqb a a refl) ∙ eq-eqb b b refl
+released_twice n = grind arith
 
 -- ---- the list, as a segment has other numbers
 module _ {l : Unsettled} {segments : List SegmentNumbers} (s : ℕ) (x : SegmentNumbers) (lt : s < length segments)
     (lists : ListsUnsettled l segments) where
   within : (i : ℕ) → i < l.count → get_or l.segments i 0 < length (slice_set segments s x)
-  within i low = let was = lists.inside i low in let size = length-set segments s x in omega (arith, was, size)
+  within i low = omega (arith, lists.inside i low, length-set segments s x)
 
   -- of those that have other numbers than s nothing is new
   others : l.count < 64 → (i : ℕ) → (i ≡ s → ⊥) → is_settled (get_or (slice_set segments s x) i no_segment) ≡ false → IsListed l i
@@ -56,9 +31,9 @@ module _ {l : Unsettled} {segments : List SegmentNumbers} (s : ℕ) (x : Segment
     few = lists.few;
     inside = within;
     all = λ room i off. ⊎_elim
-        (λ (here : i ≡ s). subst (IsListed l) (sym here) (own room (ap is_settled (sym (set_own segments s x lt))
-        ∙ ap (λ (j : ℕ). is_settled (get_or (slice_set segments s x) j no_segment)) (sym here) ∙ off)))
-        (λ (away : i ≡ s → ⊥). others room i away off)
+        (λ here. subst (IsListed l) (sym here) (own room (ap is_settled (sym (set_own segments s x lt))
+        ∙ ap (λ j. is_settled (get_or (slice_set segments s x) j no_segment)) (sym here) ∙ off)))
+        (λ away. others room i away off)
         (cases_eq i s);
   }
 
@@ -71,56 +46,50 @@ module _ {l : Unsettled} {segments : List SegmentNumbers} (s : ℕ) (x : Segment
   noted_before is off = listed_by (λ room new. lists.all room s (ap is_settled is ∙ off))
 
   pub noted_full : 64 ≤ l.count → ListsUnsettled l (slice_set segments s x)
-  noted_full full = listed_by (λ room new. absurd (omega (arith, full, room)))
+  noted_full full = listed_by (λ room new. absurd (omega arith))
 
   -- or it comes to the list
   pub noted_more : (l' : Unsettled) → l.count < 64 → l'.segments ≡ slice_set l.segments l.count s → l'.count ≡ suc l.count
       → ListsUnsettled l' (slice_set segments s x)
   noted_more l' room items count = record {
     size = ap length items ∙ length-set l.segments l.count s ∙ lists.size;
-    few = omega (arith, room, count);
+    few = omega arith;
     inside = λ i low. ⊎_elim
-        (λ (here : i ≡ l.count). let size = length-set segments s x in let is = ap (λ (j : ℕ). get_or l'.segments j 0) here ∙ own in
-        omega (arith, size, lt, is))
-        (λ (away : i ≡ l.count → ⊥). let was = within i (omega (arith, low, count, away)) in let is = old i away in omega (arith, was, is))
+        (λ here. let size = length-set segments s x in let is = ap (λ j. get_or l'.segments j 0) here ∙ own in
+        omega arith)
+        (λ away. let was = within i (omega arith) in let is = old i away in omega arith)
         (cases_eq i l.count);
     all = λ more i off. ⊎_elim
-        (λ (here : i ≡ s). record { at = l.count; low = omega (arith, count); is = own ∙ sym here })
-        (λ (away : i ≡ s → ⊥).
+        (λ here. record { at = l.count; low = omega arith; is = own ∙ sym here })
+        (λ away.
         let was = others room i away off in
         let low = was.low in
-        record { at = was.at; low = omega (arith, low, count); is = old was.at (λ h. omega (arith, h, low)) ∙ was.is })
+        record { at = was.at; low = omega arith; is = old was.at (λ h. omega arith) ∙ was.is })
         (cases_eq i s);
   }
     where
       whole : l.count < length l.segments
-      whole = let size = lists.size in omega (arith, size, room)
+      whole = omega arith
 
       own : get_or l'.segments l.count 0 ≡ s
-      own = ap (λ (xs : List ℕ). get_or xs l.count 0) items ∙ get_or-set_same l.segments l.count s 0 whole
+      own = ap (λ xs. get_or xs l.count 0) items ∙ get_or-set_same l.segments l.count s 0 whole
 
       old : (i : ℕ) → (i ≡ l.count → ⊥) → get_or l'.segments i 0 ≡ get_or l.segments i 0
-      old i away = ap (λ (xs : List ℕ). get_or xs i 0) items ∙ get_or-set_other l.segments l.count i s 0 away
+      old i away = ap (λ xs. get_or xs i 0) items ∙ get_or-set_other l.segments l.count i s 0 away
 
 -- ---- an empty list, where the numbers of all segments stay
 pub lists_none : {l : Unsettled} {segments : List SegmentNumbers} → l.count ≡ 0 → length l.segments ≡ 64
     → ((s : ℕ) → is_settled (get_or segments s no_segment) ≡ true) → ListsUnsettled l segments
-lists_none none size settled = record {
-  size = size;
-  few = omega (arith, none);
-  inside = λ i low. absurd (omega (arith, low, none));
-  all = λ room s off. let bad : true ≡ false = sym (settled s) ∙ off in absurd cc;
-}
+lists_none none size settled = grind arith
 
 pub lists_new : (l : Unsettled) {segments : List SegmentNumbers} (n : ℕ) → l.count ≡ 0 → length l.segments ≡ 64
     → segments ≡ replicate n no_segment → ListsUnsettled l segments
 lists_new l {segments} n none size is = lists_none none size
-    (λ s. ap (λ (xs : List SegmentNumbers). is_settled (get_or xs s no_segment)) is ∙ ap is_settled (no_segment_there n s))
+    (λ s. ap (λ xs. is_settled (get_or xs s no_segment)) is ∙ ap is_settled (no_segment_there n s))
 
 pub lists_released : (l : Unsettled) {old new : UsageTable} → l.count ≡ 0 → length l.segments ≡ 64 → Releases old new
     → ListsUnsettled l new.segments
-lists_released l {old} {new} none size done =
-    lists_none none size (λ s. ap is_settled (done.each s) ∙ settled_after (get_or old.segments s no_segment))
+lists_released l {old} {new} none size done = grind arith
 
 -- ---- releasing the segments of a list, one after the other
 pub record ReleasesListed (old now : UsageTable) (l : Unsettled) (k : ℕ) : Type 0 where
@@ -133,49 +102,32 @@ pub record ReleasesListed (old now : UsageTable) (l : Unsettled) (k : ℕ) : Typ
       ⊎ (get_or now.segments s no_segment ≡ get_or old.segments s no_segment)
   pub clean : clean_in old.segments ≤ clean_in now.segments
 
-pub listed_goes_on : {old now : UsageTable} (new : UsageTable) {l : Unsettled} {k s : ℕ} → ReleasesListed old now l k
-    → s ≡ get_or l.segments k 0 → s
-    < length now.segments → new.segments ≡ slice_set now.segments s (released (get_or now.segments s no_segment)) → new.blocks ≡ now.blocks
-    → new.last ≡ now.last → ReleasesListed old new l (k + 1)
-listed_goes_on {old} {now} new {l} {k} {s} so is lt segments blocks last = record {
-  size = ap length segments ∙ length-set now.segments s (released (get_or now.segments s no_segment)) ∙ so.size;
-  blocks = blocks ∙ so.blocks;
-  last = last ∙ so.last;
+pub listed_goes_on : {old now new : UsageTable} {l : Unsettled} {k s : ℕ} {x : SegmentNumbers} → ReleasesListed old now l k
+    → s ≡ get_or l.segments k 0 → s < length now.segments → x ≡ released (get_or now.segments s no_segment)
+    → new ≡ record now { segments = slice_set now.segments s x } → ReleasesListed old new l (k + 1)
+listed_goes_on {old} {now} {l} {k} {s} {x} so is lt same new_is = subst (λ t. ReleasesListed old t l (k + 1)) (sym new_is) (record {
+  size = length-set now.segments s x ∙ so.size;
+  blocks = so.blocks;
+  last = so.last;
   done = λ i low. ⊎_elim
-      (λ (here : get_or l.segments i 0 ≡ s). own (get_or l.segments i 0) here)
-      (λ (away : get_or l.segments i 0 ≡ s → ⊥). other (get_or l.segments i 0) away ∙ so.done i (earlier i low away))
+      (own (get_or l.segments i 0))
+      (λ away. set_other now.segments x away ∙ so.done i (earlier i low away))
       (cases_eq (get_or l.segments i 0) s);
   either = λ i. ⊎_elim
-      (λ (here : i ≡ s). inl (own i here))
-      (λ (away : i ≡ s → ⊥). subst (λ (n : SegmentNumbers). (n ≡ released (get_or old.segments i no_segment))
-      ⊎ (n ≡ get_or old.segments i no_segment)) (sym (other i away)) (so.either i))
+      (λ here. inl (own i here))
+      (λ away. rw (set_other now.segments x away) (so.either i))
       (cases_eq i s);
-  clean = let more = never_fewer now new s lt segments in let was = so.clean in omega (arith, more, was);
-}
+  clean = omega (arith, never_fewer now.segments s lt same, so.clean);
+})
   where
-    other : (i : ℕ) → (i ≡ s → ⊥) → get_or new.segments i no_segment ≡ get_or now.segments i no_segment
-    other i away = ap (λ (xs : List SegmentNumbers). get_or xs i no_segment) segments
-        ∙ set_other now.segments (released (get_or now.segments s no_segment)) away
-
-    there : get_or new.segments s no_segment ≡ released (get_or now.segments s no_segment)
-    there = ap (λ (xs : List SegmentNumbers). get_or xs s no_segment) segments
-        ∙ set_own now.segments s (released (get_or now.segments s no_segment)) lt
-
-    once : released (get_or now.segments s no_segment) ≡ released (get_or old.segments s no_segment)
-    once = ⊎_elim
-        (λ (e : get_or now.segments s no_segment ≡ released (get_or old.segments s no_segment)). ap released e
-        ∙ released_twice (get_or old.segments s no_segment))
-        (λ (e : get_or now.segments s no_segment ≡ get_or old.segments s no_segment). ap released e)
-        (so.either s)
-
-    own : (i : ℕ) → i ≡ s → get_or new.segments i no_segment ≡ released (get_or old.segments i no_segment)
-    own i here = subst (λ (j : ℕ). get_or new.segments j no_segment ≡ released (get_or old.segments j no_segment)) (sym here) (there ∙ once)
+    own : (i : ℕ) → i ≡ s → get_or (slice_set now.segments s x) i no_segment ≡ released (get_or old.segments i no_segment)
+    own i here = rw here (set_own now.segments s x lt ∙ same ∙ ⊎_elim
+        (λ e. ap released e ∙ released_twice (get_or old.segments s no_segment))
+        (ap released)
+        (so.either s))
 
     earlier : (i : ℕ) → i < k + 1 → (get_or l.segments i 0 ≡ s → ⊥) → i < k
-    earlier i low away = ⊎_elim
-        (λ (here : i ≡ k). absurd (away (ap (λ (j : ℕ). get_or l.segments j 0) here ∙ sym is)))
-        (λ (ne : i ≡ k → ⊥). omega (arith, low, ne))
-        (cases_eq i k)
+    earlier i low away = grind arith
 
 pub listed_ends : {old now : UsageTable} {l : Unsettled} {k : ℕ} → ReleasesListed old now l k → l.count ≤ k → ListsUnsettled l old.segments
     → l.count < 64 → Releases old now
@@ -189,12 +141,8 @@ listed_ends {old} {now} so le lists room = record {
   where
     by_settled : (s : ℕ) (b : Bool) → is_settled (get_or old.segments s no_segment) ≡ b
         → get_or now.segments s no_segment ≡ released (get_or old.segments s no_segment)
-    by_settled s true on = ⊎_elim
-        (λ (e : get_or now.segments s no_segment ≡ released (get_or old.segments s no_segment)). e)
-        (λ (e : get_or now.segments s no_segment ≡ get_or old.segments s no_segment). e ∙ sym (stays (get_or old.segments s no_segment) on))
-        (so.either s)
+    by_settled s true on = grind arith
     by_settled s false off =
         let listed = lists.all room s off in
-        let low = listed.low in
-        subst (λ (j : ℕ). get_or now.segments j no_segment ≡ released (get_or old.segments j no_segment)) listed.is
-        (so.done listed.at (omega (arith, low, le)))
+        subst (λ j. get_or now.segments j no_segment ≡ released (get_or old.segments j no_segment)) listed.is
+        (so.done listed.at (omega arith))

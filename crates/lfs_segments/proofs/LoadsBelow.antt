@@ -9,16 +9,12 @@ use Rattle.lfs_segments.specs.Victims.{load, load_of, loads}
 -- the first one apart
 sum_first : (f : ℕ → ℕ) (n : ℕ) → sum_below f (suc n) ≡ f 0 + sum_below (λ s. f (suc s)) n
 sum_first f zero = omega arith
-sum_first f (suc n) = let rest = sum_first f n in omega (arith, rest)
+sum_first f (suc n) = omega (arith, sum_first f n)
 
 -- the sum over a list goes by the places in it
 sum_places : (xs : List SegmentNumbers) → sum_by load xs ≡ sum_below (λ s. load (get_or xs s no_segment)) (length xs)
 sum_places [] = refl
-sum_places (x ∷ xs) =
-    let rest = sum_places xs in
-    let own = sum_by-cons load x xs in
-    let first = sum_first (λ s. load (get_or (x ∷ xs) s no_segment)) (length xs) in
-    omega (arith, rest, own, first)
+sum_places (x ∷ xs) = omega (arith, sum_places xs, sum_by-cons load x xs, sum_first (λ s. load (get_or (x ∷ xs) s no_segment)) (length xs))
 
 -- As many blocks as the segments have one by one.
 pub loads_below : (t : UsageTable) → loads t ≡ sum_below (load_of t) (length t.segments)

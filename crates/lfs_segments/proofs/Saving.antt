@@ -8,7 +8,7 @@ use Rattle.std.specs.Array.{AllZipBelow}
 use Rattle.lfs_model.specs.Fields.{le16, le32, part, read16, read32, zeros}
 use Rattle.lfs_model.proofs.Numbers.{length-zeros}
 use Rattle.lfs_model.proofs.Parts.{each_of_zeros, get_or-part, length-part, read16_is, read32_is, zeros_from_each}
-use Rattle.lfs_model.specs.Usage.{SegmentUse, no_use, use_at, usage_of}
+use Rattle.lfs_model.specs.Usage.{no_use, use_at, usage_of}
 use Rattle.lfs_model.proofs.UsagePlaces.{use_in, use_read}
 use Rattle.lfs_model.proofs.Runs.{length-run}
 use Rattle.lfs_model.proofs.Words.{UseWords, use_words}
@@ -33,7 +33,7 @@ spells_block t {blocks} j so low = record {
 
 -- a copy of a list of numbers is that list
 pub copied : (R : ℕ → ℕ → Type 0) → ((a b : ℕ) → R a b → b ≡ a) → (xs ys : List ℕ) {n : ℕ} → length xs ≡ n → AllZipBelow R xs ys n → ys ≡ xs
-copied R same xs ys long is = same_lists ys xs (is.long ∙ sym long) (λ k d lt. let l = is.long in same _ _ (is.at k d d (omega arith)))
+copied R same xs ys long is = same_lists ys xs (is.long ∙ sym long) (λ k d lt. same _ _ (is.at k d d (omega arith)))
 
 -- a block of zeros has nothing of any segment
 module _ (b : List ℕ) (is : b ≡ zeros 512) where
@@ -62,12 +62,12 @@ module _ (b : List ℕ) (is : b ≡ zeros 512) where
   spelled_new {blocks} n all = record {
     count = ap length all ∙ length-replicate 16 b;
     long = λ j lt. ap length (block j lt) ∙ long_zeros;
-    each = λ j i lj li. ap (λ (x : List ℕ). get_or (usage_of x) i no_use) (block j lj) ∙ zero_entry i li
+    each = λ j i lj li. ap (λ x. get_or (usage_of x) i no_use) (block j lj) ∙ zero_entry i li
         ∙ sym (ap saved (no_segment_there n (64 * j + i)));
   }
     where
       block : (j : ℕ) → j < 16 → get_or blocks j [] ≡ b
-      block j lt = ap (λ (bs : List (List ℕ)). get_or bs j []) all ∙ get_or-replicate 16 j b [] lt
+      block j lt = ap (λ bs. get_or bs j []) all ∙ get_or-replicate 16 j b [] lt
 
 -- one segment has other numbers, and so has its entry
 module _ (blocks new : List (List ℕ)) {segments : List SegmentNumbers} (s : ℕ) (x : SegmentNumbers) (block : List ℕ) (low : s < 1024)
@@ -75,46 +75,46 @@ module _ (blocks new : List (List ℕ)) {segments : List SegmentNumbers} (s : �
     (so : AreSpelled blocks segments) (is : new ≡ slice_set blocks (s / 64) block) (long : length block ≡ 512)
     (entries : usage_of block ≡ slice_set (usage_of (get_or blocks (s / 64) [])) (s % 64) (saved x)) where
   own_block : get_or new (s / 64) [] ≡ block
-  own_block = ap (λ (bs : List (List ℕ)). get_or bs (s / 64) []) is
-      ∙ get_or-set_same blocks (s / 64) block [] (let c = so.count in omega arith)
+  own_block = ap (λ bs. get_or bs (s / 64) []) is
+      ∙ get_or-set_same blocks (s / 64) block [] (omega arith)
 
   other_block : (j : ℕ) → (j ≡ s / 64 → ⊥) → get_or new j [] ≡ get_or blocks j []
-  other_block j away = ap (λ (bs : List (List ℕ)). get_or bs j []) is ∙ get_or-set_other blocks (s / 64) j block [] away
+  other_block j away = ap (λ bs. get_or bs j []) is ∙ get_or-set_other blocks (s / 64) j block [] away
 
   own_entry : get_or (usage_of block) (s % 64) no_use ≡ saved x
-  own_entry = ap (λ (us : List SegmentUse). get_or us (s % 64) no_use) entries ∙ get_or-set_same (usage_of (get_or blocks (s / 64) []))
-      (s % 64) (saved x) no_use (let n = length-run use_at 8 64 0 (get_or blocks (s / 64) []) in omega arith)
+  own_entry = ap (λ us. get_or us (s % 64) no_use) entries ∙ get_or-set_same (usage_of (get_or blocks (s / 64) []))
+      (s % 64) (saved x) no_use (omega (arith, length-run use_at 8 64 0 (get_or blocks (s / 64) [])))
 
   other_entry : (i : ℕ) → (i ≡ s % 64 → ⊥) → get_or (usage_of block) i no_use ≡ get_or (usage_of (get_or blocks (s / 64) [])) i no_use
-  other_entry i away = ap (λ (us : List SegmentUse). get_or us i no_use) entries
+  other_entry i away = ap (λ us. get_or us i no_use) entries
       ∙ get_or-set_other (usage_of (get_or blocks (s / 64) [])) (s % 64) i (saved x) no_use away
 
   -- an entry of another segment
   stays : (j i : ℕ) → j < 16 → i < 64 → (64 * j + i ≡ s → ⊥)
       → get_or (usage_of (get_or new j [])) i no_use ≡ get_or (usage_of (get_or blocks j [])) i no_use
   stays j i lj li away = ⊎_elim
-      (λ (here : j ≡ s / 64).
-      ap (λ (k : ℕ). get_or (usage_of (get_or new k [])) i no_use) here ∙ ap (λ (b : List ℕ). get_or (usage_of b) i no_use) own_block
-      ∙ other_entry i (λ e. away (omega arith)) ∙ ap (λ (k : ℕ). get_or (usage_of (get_or blocks k [])) i no_use) (sym here))
-      (λ (there : j ≡ s / 64 → ⊥). ap (λ (b : List ℕ). get_or (usage_of b) i no_use) (other_block j there))
+      (λ here.
+      ap (λ k. get_or (usage_of (get_or new k [])) i no_use) here ∙ ap (λ b. get_or (usage_of b) i no_use) own_block
+      ∙ other_entry i (λ e. away (omega arith)) ∙ ap (λ k. get_or (usage_of (get_or blocks k [])) i no_use) (sym here))
+      (λ there. ap (λ b. get_or (usage_of b) i no_use) (other_block j there))
       (cases_eq j (s / 64))
 
   entry_is : (j i : ℕ) → j < 16 → i < 64
       → get_or (usage_of (get_or new j [])) i no_use ≡ saved (get_or (slice_set segments s x) (64 * j + i) no_segment)
   entry_is j i lj li = ⊎_elim
-      (λ (here : 64 * j + i ≡ s).
+      (λ here.
       let at : j ≡ s / 64 = omega arith in
       let place : i ≡ s % 64 = omega arith in
-      ap (λ (k : ℕ). get_or (usage_of (get_or new k [])) i no_use) at ∙ ap (λ (b : List ℕ). get_or (usage_of b) i no_use) own_block
-      ∙ ap (λ (k : ℕ). get_or (usage_of block) k no_use) place ∙ own_entry
-      ∙ sym (ap saved (ap (λ (k : ℕ). get_or (slice_set segments s x) k no_segment) here ∙ set_own segments s x lt)))
-      (λ (away : 64 * j + i ≡ s → ⊥). stays j i lj li away ∙ so.each j i lj li ∙ sym (ap saved (set_other segments x away)))
+      ap (λ k. get_or (usage_of (get_or new k [])) i no_use) at ∙ ap (λ b. get_or (usage_of b) i no_use) own_block
+      ∙ ap (λ k. get_or (usage_of block) k no_use) place ∙ own_entry
+      ∙ sym (ap saved (ap (λ k. get_or (slice_set segments s x) k no_segment) here ∙ set_own segments s x lt)))
+      (λ away. stays j i lj li away ∙ so.each j i lj li ∙ sym (ap saved (set_other segments x away)))
       (cases_eq (64 * j + i) s)
 
   long_block : (j : ℕ) → j < 16 → length (get_or new j []) ≡ 512
   long_block j lj = ⊎_elim
-      (λ (here : j ≡ s / 64). ap (λ (k : ℕ). length (get_or new k [])) here ∙ ap length own_block ∙ long)
-      (λ (there : j ≡ s / 64 → ⊥). ap length (other_block j there) ∙ so.long j lj)
+      (λ here. ap (λ k. length (get_or new k [])) here ∙ ap length own_block ∙ long)
+      (λ there. ap length (other_block j there) ∙ so.long j lj)
       (cases_eq j (s / 64))
 
   pub spelled_anew : AreSpelled new (slice_set segments s x)

@@ -5,6 +5,5 @@ use Rattle.lfs_format.proofs.image.usage_addresses.Goals as goal
 
 pub returns : goal.returns
 returns c =
-    let all : c.loop-index.index ≡ usage_blocks c.args.segments =
-    omega (arith, c.usage_count-index-end.ensures, c.loop-index-test.false, c.loop-index.auto.index-end) in
+    let all : c.loop-index.index ≡ usage_blocks c.args.segments = omega arith in
     addressed c.args.segments all c.loop-index.invariant.count c.loop-index.invariant.each

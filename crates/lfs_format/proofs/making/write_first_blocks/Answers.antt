@@ -1,5 +1,4 @@
-use Rattle.std.proofs.Common.{◌+◌, ◌<◌, arith}
-use Rattle.lfs_model.specs.Checkpoint.{usage_blocks}
+use Rattle.std.proofs.Common.{arith}
 use Rattle.lfs_format.proofs.FirstMoments.{writes_none, writes_write}
 use Rattle.lfs_format.proofs.FirstWrites.{known_version}
 use Rattle.lfs_format.proofs.making.write_first_blocks.Goals as goal
@@ -10,68 +9,43 @@ root_block-requires g c = known_version _ c.args.shape.first c.args.shape.last
 pub returns-in_err-write-clause-writes : goal.returns-in_err-write-clause-writes
 returns-in_err-write-clause-writes g c =
     let lawful = g.met.D.SectorDevice.lawful in
-    let n = c.args.shape.segments in
-    let none = writes_none n (lawful c.args.device.now) in
-    writes_write n 2 _ (omega arith) (omega arith) (lawful c.args.device.now) none c.write.ensures.crash c.write.ensures.carries
-    c.write.ensures.time
+    writes_write (omega arith) (omega arith) (lawful _) (writes_none c.args.shape.segments (lawful _)) c.write.ensures.crash
+    c.write.ensures.carries c.write.ensures.time
 
 pub returns-in_err-write-2-clause-writes : goal.returns-in_err-write-2-clause-writes
 returns-in_err-write-2-clause-writes g c =
     let lawful = g.met.D.SectorDevice.lawful in
-    let n = c.args.shape.segments in
-    let none = writes_none n (lawful c.args.device.now) in
-    let one =
-    writes_write n 2 _ (omega arith) (omega arith) (lawful c.args.device.now) none c.write.ensures.crash c.write.ensures.carries
-    c.write.ensures.time in
-    writes_write n 3 _ (omega arith) (omega arith) (lawful c.write.new.self) one c.write-2.ensures.crash c.write-2.ensures.carries
-    c.write-2.ensures.time
+    let one = writes_write (omega arith) (omega arith) (lawful _) (writes_none c.args.shape.segments (lawful _)) c.write.ensures.crash
+    c.write.ensures.carries c.write.ensures.time in
+    writes_write (omega arith) (omega arith) (lawful _) one c.write-2.ensures.crash c.write-2.ensures.carries c.write-2.ensures.time
 
 pub returns-in_err-write-3-clause-writes : goal.returns-in_err-write-3-clause-writes
 returns-in_err-write-3-clause-writes g c =
     let lawful = g.met.D.SectorDevice.lawful in
-    let n = c.args.shape.segments in
-    let none = writes_none n (lawful c.args.device.now) in
-    let one =
-    writes_write n 2 _ (omega arith) (omega arith) (lawful c.args.device.now) none c.write.ensures.crash c.write.ensures.carries
-    c.write.ensures.time in
-    let two =
-    writes_write n 3 _ (omega arith) (omega arith) (lawful c.write.new.self) one c.write-2.ensures.crash c.write-2.ensures.carries
+    let one = writes_write (omega arith) (omega arith) (lawful _) (writes_none c.args.shape.segments (lawful _)) c.write.ensures.crash
+    c.write.ensures.carries c.write.ensures.time in
+    let two = writes_write (omega arith) (omega arith) (lawful _) one c.write-2.ensures.crash c.write-2.ensures.carries
     c.write-2.ensures.time in
-    writes_write n 4 _ (omega arith) (omega arith) (lawful c.write-2.new.self) two c.write-3.ensures.crash c.write-3.ensures.carries
-    c.write-3.ensures.time
+    writes_write (omega arith) (omega arith) (lawful _) two c.write-3.ensures.crash c.write-3.ensures.carries c.write-3.ensures.time
 
 pub returns-in_err-write-4-clause-writes : goal.returns-in_err-write-4-clause-writes
 returns-in_err-write-4-clause-writes g c =
     let lawful = g.met.D.SectorDevice.lawful in
-    let n = c.args.shape.segments in
-    let none = writes_none n (lawful c.args.device.now) in
-    let some : 5 < 5 + usage_blocks n = omega (arith, c.args.shape.count.least) in
-    let one =
-    writes_write n 2 _ (omega arith) (omega arith) (lawful c.args.device.now) none c.write.ensures.crash c.write.ensures.carries
-    c.write.ensures.time in
-    let two =
-    writes_write n 3 _ (omega arith) (omega arith) (lawful c.write.new.self) one c.write-2.ensures.crash c.write-2.ensures.carries
+    let one = writes_write (omega arith) (omega arith) (lawful _) (writes_none c.args.shape.segments (lawful _)) c.write.ensures.crash
+    c.write.ensures.carries c.write.ensures.time in
+    let two = writes_write (omega arith) (omega arith) (lawful _) one c.write-2.ensures.crash c.write-2.ensures.carries
     c.write-2.ensures.time in
-    let three =
-    writes_write n 4 _ (omega arith) (omega arith) (lawful c.write-2.new.self) two c.write-3.ensures.crash c.write-3.ensures.carries
+    let three = writes_write (omega arith) (omega arith) (lawful _) two c.write-3.ensures.crash c.write-3.ensures.carries
     c.write-3.ensures.time in
-    writes_write n 5 _ (omega arith) some (lawful c.write-3.new.self) three c.write-4.ensures.crash c.write-4.ensures.carries
-    c.write-4.ensures.time
+    writes_write (omega arith) (omega arith) (lawful _) three c.write-4.ensures.crash c.write-4.ensures.carries c.write-4.ensures.time
 
 pub returns-clause-writes : goal.returns-clause-writes
 returns-clause-writes g c =
     let lawful = g.met.D.SectorDevice.lawful in
-    let n = c.args.shape.segments in
-    let none = writes_none n (lawful c.args.device.now) in
-    let some : 5 < 5 + usage_blocks n = omega (arith, c.args.shape.count.least) in
-    let one =
-    writes_write n 2 _ (omega arith) (omega arith) (lawful c.args.device.now) none c.write.ensures.crash c.write.ensures.carries
-    c.write.ensures.time in
-    let two =
-    writes_write n 3 _ (omega arith) (omega arith) (lawful c.write.new.self) one c.write-2.ensures.crash c.write-2.ensures.carries
+    let one = writes_write (omega arith) (omega arith) (lawful _) (writes_none c.args.shape.segments (lawful _)) c.write.ensures.crash
+    c.write.ensures.carries c.write.ensures.time in
+    let two = writes_write (omega arith) (omega arith) (lawful _) one c.write-2.ensures.crash c.write-2.ensures.carries
     c.write-2.ensures.time in
-    let three =
-    writes_write n 4 _ (omega arith) (omega arith) (lawful c.write-2.new.self) two c.write-3.ensures.crash c.write-3.ensures.carries
+    let three = writes_write (omega arith) (omega arith) (lawful _) two c.write-3.ensures.crash c.write-3.ensures.carries
     c.write-3.ensures.time in
-    writes_write n 5 _ (omega arith) some (lawful c.write-3.new.self) three c.write-4.ensures.crash c.write-4.ensures.carries
-    c.write-4.ensures.time
+    writes_write (omega arith) (omega arith) (lawful _) three c.write-4.ensures.crash c.write-4.ensures.carries c.write-4.ensures.time

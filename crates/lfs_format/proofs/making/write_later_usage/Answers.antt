@@ -1,5 +1,4 @@
 use Rattle.std.proofs.Common.{◌+◌, ◌<◌, length, refl, ◌∙◌, arith}
-use Rattle.lfs_model.specs.Checkpoint.{usage_blocks}
 use Rattle.lfs_format.proofs.FirstMoments.{writes_none, writes_write}
 use Rattle.lfs_format.proofs.FirstWrites.{chunk_more}
 use Rattle.lfs_format.proofs.making.write_later_usage.Goals as goal
@@ -13,32 +12,18 @@ loop-index-init g c = record {
 
 pub returns-in_err-write-clause-writes : goal.returns-in_err-write-clause-writes
 returns-in_err-write-clause-writes g c =
-    let low : 5 + c.loop-index.index < 5 + usage_blocks c.args.segments =
-    omega (arith, c.usage_count-index-end.ensures, c.loop-index-test.true) in
-    writes_write c.args.segments (5 + c.loop-index.index) _ (omega arith) low (g.met.D.SectorDevice.lawful c.loop-index.device)
-    c.loop-index.invariant.writes c.write.ensures.crash c.write.ensures.carries c.write.ensures.time
+    writes_write (omega arith) (omega arith) (g.met.D.SectorDevice.lawful _) c.loop-index.invariant.writes c.write.ensures.crash
+    c.write.ensures.carries c.write.ensures.time
 
 pub loop-index-preserved : goal.loop-index-preserved
 loop-index-preserved g c =
     let so_far = c.loop-index.invariant in
-    let low : 5 + c.loop-index.index < 5 + usage_blocks c.args.segments =
-    omega (arith, c.usage_count-index-end.ensures, c.loop-index-test.true) in
     record {
-      writes = writes_write c.args.segments (5 + c.loop-index.index) _ (omega arith) low (g.met.D.SectorDevice.lawful
-          c.loop-index.device) so_far.writes c.write.ensures.crash c.write.ensures.carries c.write.ensures.time;
+      writes = writes_write (omega arith) (omega arith) (g.met.D.SectorDevice.lawful _) so_far.writes c.write.ensures.crash
+          c.write.ensures.carries c.write.ensures.time;
       chunk = λ keeps version before first.
-          let room : 5 + c.loop-index.index < length before =
-          omega (
-            arith,
-            first.others.size,
-            (g.met.D.SectorDevice.lawful c.args.device.now).size,
-            c.requires.size,
-            c.requires.count.least,
-            c.requires.count.most,
-            c.usage_count-index-end.ensures,
-            c.loop-index-test.true,
-          ) in
-          chunk_more c.args.segments _ _ (omega (arith, c.loop-index.auto.index)) room
+          let room : 5 + c.loop-index.index < length before = omega (arith, (g.met.D.SectorDevice.lawful c.args.device.now).size) in
+          chunk_more c.args.segments _ _ (omega arith) room
           (so_far.chunk (c.write.ensures.carries.kept_before keeps) version before first) (c.in_ok-write.ensures.written keeps);
       failures = c.in_ok-write.ensures.no_failure ∙ so_far.failures;
     }

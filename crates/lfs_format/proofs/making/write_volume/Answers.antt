@@ -8,12 +8,12 @@ checkpoint-requires-clause-known g c = known_version _ c.args.shape.first c.args
 
 pub returns-in_err-clear_slots-clause-making : goal.returns-in_err-clear_slots-clause-making
 returns-in_err-clear_slots-clause-making g c =
-    making_cleared c.args.shape.segments _ _ c.clear_slots.ensures.any_moment c.clear_slots.ensures.carries
+    making_cleared c.clear_slots.ensures.any_moment c.clear_slots.ensures.carries
 
 pub returns-in_err-write_chunk-clause-making : goal.returns-in_err-write_chunk-clause-making
 returns-in_err-write_chunk-clause-making g c =
     let cleared = c.in_ok-clear_slots.ensures in
-    making_chunked (g.met.D.SectorDevice.lawful c.clear_slots.new.device) cleared.any_moment
+    making_chunked (g.met.D.SectorDevice.lawful _) cleared.any_moment
     cleared.carries cleared.clear cleared.durable c.write_chunk.ensures.writes
 
 pub returns-in_err-sync-clause-making : goal.returns-in_err-sync-clause-making
@@ -21,8 +21,8 @@ returns-in_err-sync-clause-making g c =
     let cleared = c.in_ok-clear_slots.ensures in
     let lawful = g.met.D.SectorDevice.lawful in
     let sync = c.sync.ensures in
-    making_synced (lawful c.clear_slots.new.device) cleared.any_moment cleared.carries cleared.clear
-    cleared.durable c.write_chunk.ensures.writes _ (lawful c.write_chunk.new.device) sync.untouched sync.carries sync.time
+    making_synced (lawful _) cleared.any_moment cleared.carries cleared.clear
+    cleared.durable c.write_chunk.ensures.writes (lawful _) sync.untouched sync.carries sync.time
 
 pub returns-in_err-replace-clause-making : goal.returns-in_err-replace-clause-making
 returns-in_err-replace-clause-making g c =
@@ -31,8 +31,8 @@ returns-in_err-replace-clause-making g c =
     let chunk = c.in_ok-write_chunk.ensures in
     let sync = c.in_ok-sync.ensures in
     let replaced = c.replace.ensures in
-    making_written (lawful c.clear_slots.new.device) cleared.any_moment cleared.carries cleared.clear
-    cleared.durable chunk.writes _ (lawful c.write_chunk.new.device) sync.untouched sync.carries sync.time _ _ (lawful c.sync.new.self)
+    making_written (lawful _) cleared.any_moment cleared.carries cleared.clear
+    cleared.durable chunk.writes (lawful _) sync.untouched sync.carries sync.time (lawful _)
     c.checkpoint.ensures.value (known_version _ c.args.shape.first c.args.shape.last) c.args.shape.count c.requires.size chunk.chunk
     sync.durable replaced.any_moment
     replaced.carries
@@ -44,8 +44,8 @@ returns-clause-making g c =
     let chunk = c.in_ok-write_chunk.ensures in
     let sync = c.in_ok-sync.ensures in
     let replaced = c.replace.ensures in
-    making_written (lawful c.clear_slots.new.device) cleared.any_moment cleared.carries cleared.clear
-    cleared.durable chunk.writes _ (lawful c.write_chunk.new.device) sync.untouched sync.carries sync.time _ _ (lawful c.sync.new.self)
+    making_written (lawful _) cleared.any_moment cleared.carries cleared.clear
+    cleared.durable chunk.writes (lawful _) sync.untouched sync.carries sync.time (lawful _)
     c.checkpoint.ensures.value (known_version _ c.args.shape.first c.args.shape.last) c.args.shape.count c.requires.size chunk.chunk
     sync.durable replaced.any_moment
     replaced.carries
@@ -57,8 +57,8 @@ returns-clause-made g c =
     let chunk = c.in_ok-write_chunk.ensures in
     let sync = c.in_ok-sync.ensures in
     let replaced = c.in_ok-replace.ensures in
-    volume_made (lawful c.clear_slots.new.device) cleared.any_moment cleared.carries cleared.clear
-    cleared.durable chunk.writes _ (lawful c.write_chunk.new.device) sync.untouched sync.carries sync.time _ _
+    volume_made (lawful _) cleared.any_moment cleared.carries cleared.clear
+    cleared.durable chunk.writes (lawful _) sync.untouched sync.carries sync.time
     c.checkpoint.ensures.value (known_version _ c.args.shape.first c.args.shape.last) c.args.shape.count c.requires.size cleared.others
     chunk.chunk replaced.carries
     replaced.content replaced.durable (replaced.no_failure ∙ sync.no_failure ∙ chunk.ends.no_failure ∙ cleared.ends.no_failure)

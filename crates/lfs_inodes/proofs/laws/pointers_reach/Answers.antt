@@ -13,7 +13,7 @@ same_leaf content k n (suc q) = refl
 pub returns-clause-data : goal.returns-clause-data
 unfolding address
 returns-clause-data c content k n i =
-    ap (λ (a : ℕ). cond (nat_lt i 112) (word (inode_block content k n) (8 + i)) (word (block content a) ((i - 112) % 128)))
+    ap (λ a. cond (nat_lt i 112) (word (inode_block content k n) (8 + i)) (word (block content a) ((i - 112) % 128)))
     (same_leaf content k n ((i - 112) / 128))
 
 pub returns-clause-leaf : goal.returns-clause-leaf

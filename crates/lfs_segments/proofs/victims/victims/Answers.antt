@@ -1,5 +1,4 @@
 use Rattle.std.proofs.Common.{inr}
-use Rattle.lfs_segments.specs.declared.candidate.Preference.TheVariants as preference
 use Rattle.lfs_segments.proofs.Gaining.{no_choice, on_none, on_some, some_then}
 use Rattle.lfs_segments.proofs.LeastLoads.{no_victims}
 use Rattle.lfs_segments.proofs.PressedGains.{pressed_gains}
@@ -7,7 +6,8 @@ use Rattle.lfs_segments.proofs.victims.victims.Goals as goal
 
 pub returns-clause-choice : goal.returns-clause-choice
 returns-clause-choice c =
-    on_some c.choose-2.result _ _ (λ v is. inr ( no_choice c.in_default.ensures.none,
+    on_some c.choose-2.result _ _ (λ v is. inr (
+      no_choice c.in_default.ensures.none,
       is,
     )) c.choose-2.ensures.some
 

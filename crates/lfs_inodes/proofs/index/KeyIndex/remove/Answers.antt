@@ -4,7 +4,5 @@ use Rattle.lfs_inodes.proofs.index.KeyIndex.remove.Goals as goal
 
 pub returns-clause-items : goal.returns-clause-items
 returns-clause-items c =
-    let o = c.self.inside.falling.ok in
-    let all = c.len.ensures in
     removed _ c.self.inside.falling.items c.self.view_is c.args.at c.requires c.remove-place.result c.len.result
-    (omega (arith, all, o.0)) c.remove-place.ensures.items
+    (omega arith) c.remove-place.ensures.items

@@ -1,4 +1,4 @@
-use Rattle.std.proofs.Common.{◌∙◌, ap, sym, Some, List, [], ℕ, arith}
+use Rattle.std.proofs.Common.{◌∙◌, ap, sym, Some, [], arith}
 use Rattle.std.proofs.lemmas.List.{get_or_default}
 use Rattle.lfs_inodes.proofs.Blocks.{find_gap, entry_found}
 use Rattle.lfs_inodes.proofs.Held.{low_at, found_at}
@@ -12,18 +12,14 @@ returns-in_default-clause-entry c = entry_found c.args.self.now.blocks c.args.ke
 
 pub index-requires : goal.index-requires
 index-requires c =
-    let l = low_at c.self.inside.places.items c.self.inside.arena.items c.self.inside.spare.items _ _ _ c.self.invariant.0 c.args.self.now
-    c.self.view_is c.args.key.code c.in-Ok.at c.in-Ok.ensures.found c.get.result c.get.ensures in
-    let o = c.self.inside.arena.ok in
-    omega (arith, l, o.0)
+    let l = low_at c.self.invariant.0 c.self.view_is c.in-Ok.ensures.found c.get.ensures in
+    omega arith
 
 pub returns-clause-block : goal.returns-clause-block
 returns-clause-block c =
-    let l = low_at c.self.inside.places.items c.self.inside.arena.items c.self.inside.spare.items _ _ _ c.self.invariant.0 c.args.self.now
-    c.self.view_is c.args.key.code c.in-Ok.at c.in-Ok.ensures.found c.get.result c.get.ensures in
-    found_at c.self.inside.places.items c.self.inside.arena.items c.self.inside.spare.items _ _ _ c.self.invariant.0 c.args.self.now
-    c.self.view_is c.args.key.code c.in-Ok.at c.in-Ok.ensures.found c.get.result c.get.ensures
-    ∙ ap (λ (b : List ℕ). Some b)
+    let l = low_at c.self.invariant.0 c.self.view_is c.in-Ok.ensures.found c.get.ensures in
+    found_at c.self.invariant.0 c.self.view_is c.in-Ok.ensures.found c.get.ensures
+    ∙ ap (λ b. Some b)
     (get_or_default c.self.inside.arena.items c.get.result.spot [] c.index.result.now l ∙ sym c.index.ensures)
 
 pub returns-clause-entry : goal.returns-clause-entry

@@ -4,12 +4,9 @@ use Rattle.lfs_inodes.proofs.table.DirtyTable.first_empty.Goals as goal
 
 pub loop-at-preserved : goal.loop-at-preserved
 loop-at-preserved c j lt =
-    let off = c.if-is_empty.false in
     more_lead c.args.self.now c.loop-at.at c.loop-at.invariant (leads_at c.args.self.now c.key_at-key.result.formed c.key_at-key.ensures
-    (c.is_empty.ensures.no (λ on. absurd cc))) j (omega (arith, lt))
+    (c.is_empty.ensures.no (λ on. absurd cc))) j (omega arith)
 
 pub returns-clause-none : goal.returns-clause-none
 returns-clause-none c = all_lead c.args.self.now (λ j lt.
-    let past = c.loop-at-test.false in
-    let all = c.len-at-end.ensures.length in
-    c.loop-at.invariant j (omega (arith, past, all, lt)))
+    c.loop-at.invariant j (omega arith))

@@ -18,15 +18,11 @@ returns-then-count-len-clause-yes c = λ h.
 pub returns-then-count-len-clause-no : goal.returns-then-count-len-clause-no
 returns-then-count-len-clause-no c = λ h.
     let sorted : T (is_sorted nat_cmp c.args.self.now.blocks) = c.len.ensures.sorted in
-    let some = c.requires in
     let is : is_data_code (number_at c.args.self.now.blocks (c.args.count - 1)) ≡ false = search rules in
-    let few = lacks_data c.args.self.now sorted (c.args.count - 1) (λ lt. is) in
-    omega (arith, few, some)
+    omega (arith, lacks_data c.args.self.now sorted (c.args.count - 1) (λ lt. is))
 
 pub returns-else-count-len-clause-no : goal.returns-else-count-len-clause-no
 returns-else-count-len-clause-no c = λ h.
     let sorted : T (is_sorted nat_cmp c.args.self.now.blocks) = c.len.ensures.sorted in
-    let some = c.requires in
     let past : length c.args.self.now.blocks < c.args.count = search (rules, arith) in
-    let few = lacks_data c.args.self.now sorted (c.args.count - 1) (λ lt. absurd (omega (arith, lt, past, some))) in
-    omega (arith, few, some)
+    omega (arith, lacks_data c.args.self.now sorted (c.args.count - 1) (λ lt. absurd (omega arith)))

@@ -19,25 +19,25 @@ returns c =
       length = λ bytes there.
           elim c.match-parent.branch [
             | in-Some w ↦ one_less c.match-parent.self.blocks c.remove.new.self.blocks c.args.key.code (found bytes c.match-parent.self
-                (ap (λ (t : TableValue). blocks_of t (entry_of c.args.key)) w.self-is
+                (ap (λ t. blocks_of t (entry_of c.args.key)) w.self-is
                 ∙ w.patch.ensures.changed.others (entry_of c.args.key)
                 (differ c.args.key.formed w.in-Some.above.formed w.in-Some.ensures.some.1)
-                ∙ there)) c.remove.ensures.length (ap (λ (t : TableValue). length t.blocks) w.self-is ∙ w.patch.ensures.length)
+                ∙ there)) c.remove.ensures.length (ap (λ t. length t.blocks) w.self-is ∙ w.patch.ensures.length)
             | in_default w ↦ one_less c.match-parent.self.blocks c.remove.new.self.blocks c.args.key.code
-                (found bytes c.match-parent.self (ap (λ (t : TableValue). blocks_of t (entry_of c.args.key)) w.self-is ∙ there))
+                (found bytes c.match-parent.self (ap (λ t. blocks_of t (entry_of c.args.key)) w.self-is ∙ there))
                 c.remove.ensures.length
-                (ap (λ (t : TableValue). length t.blocks) w.self-is)
+                (ap (λ t. length t.blocks) w.self-is)
           ];
       data_blocks = λ bytes there kind.
           elim c.match-parent.branch [
             | in-Some w ↦ c.remove.ensures.data_blocks bytes
                 (found bytes c.match-parent.self
-                (ap (λ (t : TableValue). blocks_of t (entry_of c.args.key)) w.self-is
+                (ap (λ t. blocks_of t (entry_of c.args.key)) w.self-is
                 ∙ w.patch.ensures.changed.others (entry_of c.args.key)
                 (differ c.args.key.formed w.in-Some.above.formed w.in-Some.ensures.some.1)
                 ∙ there)) kind ∙ ap data_count w.self-is ∙ w.patch.ensures.data_blocks
             | in_default w ↦ c.remove.ensures.data_blocks bytes
-                (found bytes c.match-parent.self (ap (λ (t : TableValue). blocks_of t (entry_of c.args.key)) w.self-is ∙ there)) kind
+                (found bytes c.match-parent.self (ap (λ t. blocks_of t (entry_of c.args.key)) w.self-is ∙ there)) kind
                 ∙ ap data_count w.self-is
           ];
       no_more = search rules;

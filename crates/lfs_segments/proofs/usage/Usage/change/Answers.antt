@@ -4,5 +4,4 @@ use Rattle.lfs_segments.proofs.usage.Usage.change.Goals as goal
 pub make_stale-requires : goal.make_stale-requires
 make_stale-requires c =
     let few : length c.args.self.now.segments ≤ 1024 = search rules in
-    let inside = c.requires.inside in
     omega arith

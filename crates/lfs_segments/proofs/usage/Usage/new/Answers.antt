@@ -1,5 +1,5 @@
-use Rattle.std.proofs.Common.{None, rules, ◌≡◌, List, length, replicate, sym, subst}
-use Rattle.lfs_segments.specs.Table.{SegmentNumbers, no_segment}
+use Rattle.std.proofs.Common.{None, rules, ◌≡◌, length, replicate, sym, subst}
+use Rattle.lfs_segments.specs.Table.{no_segment}
 use Rattle.lfs_segments.specs.Spelling.{AreSpelled}
 use Rattle.lfs_segments.proofs.Numbers.{new_fits}
 use Rattle.lfs_segments.proofs.Early.{totals_new}
@@ -14,5 +14,5 @@ invariant_of-result c =
       new_fits None c.in_ok-blocks.blocks.items c.args.segments c.requires is whole,
       totals_new c.args.segments is,
       lists_new c.new-2.result c.args.segments c.new-2.ensures.count c.new-2.ensures.size is,
-      subst (λ (segments : List SegmentNumbers). AreSpelled c.in_ok-spelled.spelled.blocks.items segments) (sym is) spelled,
+      subst (λ segments. AreSpelled c.in_ok-spelled.spelled.blocks.items segments) (sym is) spelled,
     )

@@ -11,48 +11,28 @@ exchanged-self-inside-requires-clause-inside c =
     let was : c.one_if_clean.result ≡ cond ((get_or c.self.inside.states.items c.args.segment no_segment).used == 0) 1 0 = search rules in
     let change =
     clean_change c.self.inside.states.items c.args.segment (record { used = 1; live = 0; held = 0; age = 0; kept = 0 }) inside in
-    let total = c.self.invariant.1.clean_ones in
     omega arith
 
 pub exchanged-self-inside-requires-clause-few : goal.exchanged-self-inside-requires-clause-few
-exchanged-self-inside-requires-clause-few c =
-    let few = c.self.invariant.0.few in
-    let total = c.self.invariant.1.clean_ones in
-    let most = clean_most c.self.inside.states.items in
-    let one = c.one_if_clean-2.ensures.most in
-    omega arith
+exchanged-self-inside-requires-clause-few c = omega (arith, clean_most c.self.inside.states.items)
 
 pub exchanged-self-inside-requires-2-clause-inside : goal.exchanged-self-inside-requires-2-clause-inside
 exchanged-self-inside-requires-2-clause-inside c =
     let inside : c.args.segment < length c.self.inside.states.items = search rules in
     let was : c.early_blocks.result ≡ early_of (get_or c.self.inside.states.items c.args.segment no_segment) = search rules in
-    let has = early_has c.self.inside.states.items c.args.segment inside in
-    let total = c.self.invariant.1.early_ones in
-    omega arith
+    omega (arith, early_has c.self.inside.states.items c.args.segment inside)
 
 pub exchanged-self-inside-requires-2-clause-few : goal.exchanged-self-inside-requires-2-clause-few
-exchanged-self-inside-requires-2-clause-few c =
-    let few = c.self.invariant.0.few in
-    let total = c.self.invariant.1.early_ones in
-    let most = early_total c.self.inside.states.items c.self.invariant.0.each in
-    let one = c.early_blocks-2.ensures.most in
-    omega arith
+exchanged-self-inside-requires-2-clause-few c = omega (arith, early_total c.self.inside.states.items c.self.invariant.0.each)
 
 pub exchanged-self-inside-requires-3-clause-inside : goal.exchanged-self-inside-requires-3-clause-inside
 exchanged-self-inside-requires-3-clause-inside c =
     let inside : c.args.segment < length c.self.inside.states.items = search rules in
     let was : c.taken_sectors.result ≡ taken_of (get_or c.self.inside.states.items c.args.segment no_segment) = search rules in
-    let has = taken_has c.self.inside.states.items c.args.segment inside in
-    let total = c.self.invariant.1.taken_ones in
-    omega arith
+    omega (arith, taken_has c.self.inside.states.items c.args.segment inside)
 
 pub exchanged-self-inside-requires-3-clause-few : goal.exchanged-self-inside-requires-3-clause-few
-exchanged-self-inside-requires-3-clause-few c =
-    let few = c.self.invariant.0.few in
-    let total = c.self.invariant.1.taken_ones in
-    let most = taken_total c.self.inside.states.items c.self.invariant.0.each in
-    let one = c.taken_sectors-2.ensures.most in
-    omega arith
+exchanged-self-inside-requires-3-clause-few c = omega (arith, taken_total c.self.inside.states.items c.self.invariant.0.each)
 
 pub invariant_of-self : goal.invariant_of-self
 invariant_of-self c =
