@@ -9,26 +9,16 @@ use Rattle.lfs_model.specs.Reach.{View, address, view}
 use Rattle.lfs_model.specs.Stands.{Reached}
 use Rattle.lfs_model.proofs.Reach.{address_linked}
 use Rattle.lfs_verify.specs.Walk.{Walked, InBounds, step_of}
-use Rattle.lfs_verify.specs.Take.{Advances}
 use Rattle.lfs_verify.proofs.Bounds.{cond_not}
-use Rattle.lfs_verify.proofs.Steps.{skip_to, inside_marks}
-use Rattle.lfs_verify.proofs.Takes.{no_word}
+use Rattle.lfs_verify.proofs.Steps.{skip_to}
+use Rattle.lfs_verify.proofs.RootSteps.{single_none, double_none}
+use Rattle.lfs_verify.proofs.Takes.{walked_as}
 use Rattle.lfs_verify.proofs.Words.{word_none}
 
--- the same steps, written in another way
-pub goes_as : (v : View) (old new : List ℕ) (r r2 s s2 : ℕ) (stage : Type 0) (x : Bool) → r2 ≡ r → s2 ≡ s → Advances v old new r s stage x
-    → Advances v old new r2 s2 stage x
-goes_as v old new r r2 s s2 stage x first last goes =
-    subst (λ (a : ℕ). Advances v old new a s2 stage x) (sym first) (subst (λ (b : ℕ). Advances v old new r b stage x) (sym last) goes)
-
--- blocks of addresses come before data
-pub leaf_before : (n q : ℕ) → n < 4096 → q < 129 → step_of (Leaf n q) < 536624
+-- blocks of addresses are in bounds, and come before data
+pub leaf_before : (n q : ℕ) → n < 4096 → q < 129 → InBounds (Leaf n q) × (step_of (Leaf n q) < 536624)
 leaf_before n zero low few = omega arith
 leaf_before n (suc q) low few = omega arith
-
-pub leaf_bounds : (n q : ℕ) → n < 4096 → q < 129 → InBounds (Leaf n q)
-leaf_bounds n zero low few = low
-leaf_bounds n (suc q) low few = (low, omega arith)
 
 module _ (c : Content) (k : CheckpointValue) (n : ℕ) where
   -- the address of a block to which the inode leads by itself
@@ -45,21 +35,17 @@ module _ (c : Content) (k : CheckpointValue) (n : ℕ) where
       let place : (i - 112) % 128 ≡ j = omega (arith, lt, is) in
       address_linked c k (Data n i)
       ∙ cond_not (nat_lt i 112) (word (block c (address c k (Inode n))) (8 + i))
-      (word (block c (address c k (Leaf n ((i - 112) / 128)))) ((i - 112) % 128)) (λ on. let x = ltb-true i 112 on in omega arith)
+      (word (block c (address c k (Leaf n ((i - 112) / 128)))) ((i - 112) % 128)) (λ on. omega (arith, ltb-true i 112 on))
       ∙ ap₂ (λ (x y : ℕ). word (block c (address c k (Leaf n x))) y) here place
 
   module _ (low : n < 4096) (a b : ℕ) (few : b ≤ 16624) (none : (i : ℕ) → a ≤ i → i < b → address c k (Data n i) ≡ 0) where
     none_there : (e : Entry) → InBounds e → 536624 + 16624 * n + a ≤ step_of e → step_of e < 536624 + 16624 * n + b → Reached (view c k) e
         → ⊥
-    none_there (Usage j) bounds le lt reached = absurd (omega arith)
-    none_there (Map j) bounds le lt reached = absurd (omega arith)
-    none_there (Inode j) bounds le lt reached = absurd (omega arith)
-    none_there (Double j) bounds le lt reached = absurd (omega arith)
-    none_there (Leaf m zero) bounds le lt reached = absurd (omega arith)
-    none_there (Leaf m (suc q)) bounds le lt reached = absurd (omega arith)
     none_there (Data m i) bounds le lt reached =
         let same : m ≡ n = omega arith in
         let z = ap (λ (x : ℕ). address c k (Data x i)) same ∙ none i (omega arith) (omega arith) in omega arith
+    none_there (Leaf m zero) bounds le lt reached = omega arith
+    none_there e bounds le lt reached = omega arith
 
     -- blocks that aren't there are passed by
     pub pass_to : (m : List ℕ) → a ≤ b → Walked (view c k) m (536624 + 16624 * n + a) → Walked (view c k) m (536624 + 16624 * n + b)
@@ -77,22 +63,6 @@ module _ (c : Content) (k : CheckpointValue) (n : ℕ) where
   pub leaf_passed : n < 4096 → (q : ℕ) → q < 129 → address c k (Leaf n q) ≡ 0 → {m : List ℕ}
       → Walked (view c k) m (536624 + 16624 * n + (112 + 128 * q)) → Walked (view c k) m (536624 + 16624 * n + (112 + 128 * (q + 1)))
   leaf_passed low q few none {m} w = pass_to low (112 + 128 * q) (112 + 128 * (q + 1)) (omega arith) (behind_none q none) m (omega arith) w
-
-  -- a leaf that was reached is marked, and so has a sector
-  pub leaf_inside : n < 4096 → (q : ℕ) → q < 129 → {m : List ℕ} (r : ℕ) → 536624 ≤ r → {p : ℕ} → p ≡ address c k (Leaf n q) → (p ≡ 0 → ⊥)
-      → Walked (view c k) m r → p < length m
-  leaf_inside low q few {m} r past is some w =
-      let reached : Reached (view c k) (Leaf n q) = omega arith in
-      let before = leaf_before n q low few in
-      let x = inside_marks m (address c k (Leaf n q))
-      (w.marked (Leaf n q) (omega (arith, before, past)) (leaf_bounds n q low few) reached) in omega (arith, x, is)
-
-  pub leaf_readable : n < 4096 → (q : ℕ) → q < 129 → {m : List ℕ} (r : ℕ) → 536624 ≤ r → {p : ℕ} → p ≡ address c k (Leaf n q) → (p ≡ 0 → ⊥)
-      → Walked (view c k) m r → block c p ≡ [] → ⊥
-  leaf_readable low q few r past is some w none =
-      let reached : Reached (view c k) (Leaf n q) = omega arith in
-      let before = leaf_before n q low few in
-      no_word (ap (block c) (sym is) ∙ none) (w.good (Leaf n q) (omega (arith, before, past)) (leaf_bounds n q low few) reached)
 
   -- the addresses that stand in a leaf
   pub leaf_words : (q : ℕ) {p : ℕ} → p ≡ address c k (Leaf n q) → (words : List ℕ) → block c p ≡ words
@@ -132,33 +102,13 @@ module _ (c : Content) (k : CheckpointValue) (n : ℕ) where
       behind_none ((i - 112) / 128) (under_none none ((i - 112) / 128) (omega (arith, le))) i (omega (arith, le)) (omega (arith, le)))
       m (omega arith) w
 
-  -- a double root that was reached is marked, and so has a sector
-  pub root_inside : n < 4096 → {m : List ℕ} (r : ℕ) → 536624 ≤ r → {p : ℕ} → p ≡ address c k (Double n) → (p ≡ 0 → ⊥)
-      → Walked (view c k) m r → p < length m
-  root_inside low {m} r past is some w =
-      let reached : Reached (view c k) (Double n) = omega arith in
-      let x = inside_marks m (address c k (Double n)) (w.marked (Double n) (omega arith) low reached) in omega (arith, x, is)
-
-  pub root_readable : n < 4096 → {m : List ℕ} (r : ℕ) → 536624 ≤ r → {p : ℕ} → p ≡ address c k (Double n) → (p ≡ 0 → ⊥)
-      → Walked (view c k) m r → block c p ≡ [] → ⊥
-  root_readable low r past is some w none =
-      let reached : Reached (view c k) (Double n) = omega arith in
-      no_word (ap (block c) (sym is) ∙ none) (w.good (Double n) (omega arith) low reached)
-
   -- ---- the whole file
   pub inode_word : {at : ℕ} → at ≡ address c k (Inode n) → {inode : List ℕ} → block c at ≡ inode → block c (address c k (Inode n)) ≡ inode
   inode_word is read = ap (block c) (sym is) ∙ read
 
-  pub first_leaf_at : {inode : List ℕ} → block c (address c k (Inode n)) ≡ inode → {p : ℕ} → p ≡ word inode 120 → p ≡ address c k (Leaf n 0)
-  first_leaf_at read is = is ∙ ap (λ (b : List ℕ). word b 120) (sym read) ∙ sym (address_linked c k (Leaf n 0))
-
-  pub root_at : {inode : List ℕ} → block c (address c k (Inode n)) ≡ inode → {p : ℕ} → p ≡ word inode 121 → p ≡ address c k (Double n)
-  root_at read is = is ∙ ap (λ (b : List ℕ). word b 121) (sym read) ∙ sym (address_linked c k (Double n))
-
   any_none : address c k (Inode n) ≡ 0 → (q : ℕ) → address c k (Leaf n q) ≡ 0
-  any_none none zero = address_linked c k (Leaf n 0) ∙ ap (λ (x : ℕ). word (block c x) 120) none ∙ word_none 120
-  any_none none (suc q) =
-      under_none (address_linked c k (Double n) ∙ ap (λ (x : ℕ). word (block c x) 121) none ∙ word_none 121) (suc q) (omega arith)
+  any_none none zero = single_none c k n none
+  any_none none (suc q) = under_none (double_none c k n none) (suc q) (omega arith)
 
   data_none : address c k (Inode n) ≡ 0 → (i : ℕ) → 0 ≤ i → i < 16624 → address c k (Data n i) ≡ 0
   data_none none i le lt = ⊎_elim
@@ -170,7 +120,4 @@ module _ (c : Content) (k : CheckpointValue) (n : ℕ) where
   pub file_passed : n < 4096 → address c k (Inode n) ≡ 0 → (m : List ℕ)
       → Walked (view c k) m (536624 + 16624 * n) → Walked (view c k) m (536624 + 16624 * (n + 1))
   file_passed low none m w =
-      let first : 536624 + 16624 * n ≡ 536624 + 16624 * n + 0 = omega arith in
-      let last : 536624 + 16624 * n + 16624 ≡ 536624 + 16624 * (n + 1) = omega arith in
-      subst (Walked (view c k) m) last
-      (pass_to low 0 16624 (omega arith) (data_none none) m (omega arith) (subst (Walked (view c k) m) first w))
+      walked_as (omega arith) (pass_to low 0 16624 (omega arith) (data_none none) m (omega arith) (walked_as (omega arith) w))

@@ -23,7 +23,7 @@ cond_not false x y off = refl
 
 bytes_short : (o : Option (List ℕ)) → ((bytes : List ℕ) → o ≡ Some bytes → length bytes ≡ 512) → length (bytes_of o) ≤ 512
 bytes_short None sized = omega arith
-bytes_short (Some bytes) sized = let e = sized bytes refl in omega arith
+bytes_short (Some bytes) sized = omega (arith, sized bytes refl)
 
 short : (c : Content) → IsSized c → (a : ℕ) → length (block c a) ≤ 512
 short c sized zero = omega arith
@@ -51,7 +51,7 @@ module _ (c : Content) (sized : IsSized c) (k : CheckpointValue) (maps : length 
 
   leaf_place_none : (n q : ℕ) → 128 ≤ q → address c k (Leaf n (suc q)) ≡ 0
   leaf_place_none n q le = address_linked c k (Leaf n (suc q))
-      ∙ word_past (block c (address c k (Double n))) q (let s = short c sized (address c k (Double n)) in omega arith)
+      ∙ word_past (block c (address c k (Double n))) q (omega (arith, short c sized (address c k (Double n))))
 
   any_leaf_none : (n q : ℕ) → 4096 ≤ n → address c k (Leaf n q) ≡ 0
   any_leaf_none n zero le = single_none n le
@@ -73,7 +73,7 @@ module _ (c : Content) (sized : IsSized c) (k : CheckpointValue) (maps : length 
   data_place_none n i le =
       address_linked c k (Data n i)
       ∙ cond_not (nat_lt i 112) (word (block c (address c k (Inode n))) (8 + i))
-      (word (block c (address c k (Leaf n ((i - 112) / 128)))) ((i - 112) % 128)) (λ on. let x = ltb-true i 112 on in omega arith)
+      (word (block c (address c k (Leaf n ((i - 112) / 128)))) ((i - 112) % 128)) (λ on. omega (arith, ltb-true i 112 on))
       ∙ ap (λ (a : ℕ). word (block c a) ((i - 112) % 128)) (far_leaf_none n ((i - 112) / 128) (omega arith))
       ∙ word_none ((i - 112) % 128)
 
@@ -81,14 +81,14 @@ module _ (c : Content) (sized : IsSized c) (k : CheckpointValue) (maps : length 
   below x n no_more = ⊎_elim (λ (lt : x < n). lt) (λ (le : n ≤ x). absurd (no_more le)) (cases_lt x n)
 
   pub bounded_of : IsBounded (view c k)
-  bounded_of (Usage j) reached = below j 16 (λ le. let z = usage_none j le in omega arith)
-  bounded_of (Map j) reached = below j 32 (λ le. let z = map_none j le in omega arith)
-  bounded_of (Inode n) reached = below n 4096 (λ le. let z = inode_none n le in omega arith)
-  bounded_of (Double n) reached = below n 4096 (λ le. let z = double_none n le in omega arith)
-  bounded_of (Leaf n zero) reached = below n 4096 (λ le. let z = single_none n le in omega arith)
+  bounded_of (Usage j) reached = below j 16 (λ le. omega (arith, usage_none j le))
+  bounded_of (Map j) reached = below j 32 (λ le. omega (arith, map_none j le))
+  bounded_of (Inode n) reached = below n 4096 (λ le. omega (arith, inode_none n le))
+  bounded_of (Double n) reached = below n 4096 (λ le. omega (arith, double_none n le))
+  bounded_of (Leaf n zero) reached = below n 4096 (λ le. omega (arith, single_none n le))
   bounded_of (Leaf n (suc q)) reached =
-      (below n 4096 (λ le. let z = leaf_file_none n q le in omega arith), below q 128 (λ le. let z = leaf_place_none n q le in omega arith))
+      (below n 4096 (λ le. omega (arith, leaf_file_none n q le)), below q 128 (λ le. omega (arith, leaf_place_none n q le)))
   bounded_of (Data n i) reached = (
-    below n 4096 (λ le. let z = data_file_none n i le in omega arith),
-    below i 16624 (λ le. let z = data_place_none n i le in omega arith),
+    below n 4096 (λ le. omega (arith, data_file_none n i le)),
+    below i 16624 (λ le. omega (arith, data_place_none n i le)),
   )

@@ -1,4 +1,5 @@
 -- Clean segments, counted one by one.
+use Rattle.lfs_verify.proofs.Occurrences.{count_on, count_stays}
 use Rattle.std.proofs.Common.{◌≡◌, ◌≤◌, ◌↔◌, ◌+◌, ◌*◌, ◌==◌, ℕ, suc, Bool, cond, List, length, get_or, ◌∙◌, ap, arith, eq-eqb, eqb-true}
 use Rattle.std.proofs.lemmas.Bool.{false_from_ne_true}
 use Rattle.lfs_model.specs.Reach.{View}
@@ -10,22 +11,15 @@ pub clean_none : (used : List ℕ) → clean_count used 0 ≡ 0
 unfolding clean_count
 clean_none used = count_up_none (is_unused used)
 
-clean_more : (used : List ℕ) (n m : ℕ) → m ≡ n + 1 → clean_count used m ≡ clean_count used n + cond (is_unused used n) 1 0
-unfolding clean_count
-clean_more used n m is =
-    let e : m ≡ suc n = omega arith in
-    ap (λ (x : ℕ). clean_count used x) e ∙ count_up_more (is_unused used) n
-
 -- one more segment: clean, and not
-pub clean_on : (used : List ℕ) (n m : ℕ) → m ≡ n + 1 → get_or used n 0 ≡ 0 → clean_count used m ≡ clean_count used n + 1
-clean_on used n m is none =
-    let z = ap {B = ℕ} (λ (b : Bool). cond b 1 0) (eq-eqb (get_or used n 0) 0 none) in
-    let h = clean_more used n m is in omega (arith, h, z)
+pub clean_on : (used : List ℕ) (n : ℕ) → get_or used n 0 ≡ 0 → clean_count used (n + 1) ≡ clean_count used n + 1
+unfolding clean_count
+clean_on used n none = count_on (is_unused used) n (eq-eqb (get_or used n 0) 0 none)
 
-pub clean_off : (used : List ℕ) (n m : ℕ) → m ≡ n + 1 → (get_or used n 0 ≡ 0 → ⊥) → clean_count used m ≡ clean_count used n
-clean_off used n m is some =
-    let z = ap {B = ℕ} (λ (b : Bool). cond b 1 0) (false_from_ne_true (is_unused used n) (λ on. some (eqb-true (get_or used n 0) 0 on))) in
-    let h = clean_more used n m is in omega (arith, h, z)
+pub clean_off : (used : List ℕ) (n : ℕ) → (get_or used n 0 ≡ 0 → ⊥) → clean_count used (n + 1) ≡ clean_count used n
+unfolding clean_count
+clean_off used n some =
+    count_stays (is_unused used) n (false_from_ne_true (is_unused used n) (λ on. some (eqb-true (get_or used n 0) 0 on)))
 
 -- the count by the table is that of the volume
 clean_is : (v : View) (used : List ℕ) → IsUsedTable v used → clean_count used (length used) ≡ count_up (is_clean v) v.checkpoint.segments

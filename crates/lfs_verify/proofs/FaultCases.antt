@@ -11,9 +11,7 @@ pub fault_on : (failed lacking failed' lacking' : Type 0) → (failed → failed
     → IsFault failed lacking f → IsFault failed' lacking' f
 fault_on failed lacking failed' lacking' rise lack fault.NoMemory is = is
 fault_on failed lacking failed' lacking' rise lack fault.Device is = rise is
-fault_on failed lacking failed' lacking' rise lack fault.TooSmall is = lack is
-fault_on failed lacking failed' lacking' rise lack fault.NoCheckpoint is = lack is
-fault_on failed lacking failed' lacking' rise lack (fault.Damaged code) is = lack is
+fault_on failed lacking failed' lacking' rise lack f is = lack is
 
 -- a fault that a `?` passes on
 pub same_fault : {T E : Type 0} (r : Result T E) (e : E) → IsErr r × IsErrAnd r (λ y. y ≡ e) → r ≡ Err e

@@ -1,4 +1,5 @@
 -- Labels of a row against the marks, one chunk at a time.
+use Rattle.lfs_verify.proofs.Places.{put_own, put_before, put_after}
 use Rattle.std.proofs.Common.{◌≡◌, ◌<◌, ◌≤◌, ⊎_elim, ◌+◌, ◌-◌, ◌*◌, ℕ, zero, suc, List, [], length, get_or, drop, map, Option, Some}
 use Rattle.std.proofs.Common.{None, refl, sym, ◌∙◌, ap, subst, arith, ◌⊎◌, ◌/◌, ◌%◌, inl, inr, pred, set, length-set}
 use Rattle.std.proofs.Common.{get_or-set_other, get_or-set_same}
@@ -25,13 +26,8 @@ use Rattle.lfs_verify.proofs.RowSteps.{from_start, row_is}
 -- what a summary may name is in bounds
 bounds_of : (k : BlockKind) (file index : ℕ) → IsPlaced k file index → InBounds (entry_by k file index)
 unfolding IsPlaced
-bounds_of kind.Data file index p = (let x = p.0 in omega arith, let x = p.1 in omega arith)
-bounds_of kind.Leaf file zero p = let x = p.0 in omega arith
-bounds_of kind.Leaf file (suc q) p = (let x = p.0 in omega arith, let x = p.1 in omega arith)
-bounds_of kind.Double file index p = let x = p.0 in omega arith
-bounds_of kind.Inode file index p = let x = p.0 in omega arith
-bounds_of kind.Map file index p = let x = p.1 in omega arith
-bounds_of kind.Usage file index p = let x = p.1 in omega arith
+bounds_of kind.Leaf file zero p = omega arith
+bounds_of k file index p = omega arith
 
 -- Up to a place of a row that begins a chunk, what is marked has its label.
 pub record NamedTo (c : Content) (used segment : ℕ) (marks : List ℕ) (at : ℕ) : Type 0 where
@@ -44,7 +40,7 @@ AllNamed c used segment marks = (o : ℕ) → o < 64 → IsNamedIn (row_by c use
 pub named_start : (c : Content) (used : ℕ) {segment : ℕ} {marks : List ℕ} → HasRow (row_by c used segment) → NamedTo c used segment marks 0
 named_start c used {segment} h =
     record {
-      whole = rows.row_start (row_by c used segment) (from c used segment) (from_start c used segment) h;
+      whole = rows.row_start _ _ (from_start c used segment) h;
       named = λ o lt. absurd (omega arith);
     }
 
@@ -52,16 +48,28 @@ named_start c used {segment} h =
 unlabelled : (row : Option Row) (marks : List ℕ) (s o m : ℕ) → get_or marks (2 + 64 * s + o) 0 ≡ m → place_in row o ≡ None
     → IsNamedIn row marks s o → m ≡ 0
 unlabelled row marks s o zero is none named = refl
-unlabelled row marks s o (suc p) is none named = let h = named p is in let z = sym none ∙ h.1 in absurd (cc)
+unlabelled row marks s o (suc p) is none named = let h = named p is in absurd (cc (sym none ∙ h.1))
 
 unmarked_named : (row : Option Row) (marks : List ℕ) (s o : ℕ) → get_or marks (2 + 64 * s + o) 0 ≡ 0 → IsNamedIn row marks s o
 unmarked_named row marks s o none p is = absurd (omega arith)
+
+-- a place before the one at which a chunk begins, that place, or one of the chunk
+by_place : (P : ℕ → Type 0) (at n : ℕ) {next : ℕ} → next ≡ at + 1 + n → ((o : ℕ) → o < at → P o) → P at
+    → ((i : ℕ) → i < n → P (at + 1 + i)) → (o : ℕ) → o < next → P o
+by_place P at n is before here after o lt = ⊎_elim (before o)
+    (λ (later : at ≤ o). ⊎_elim
+    (λ (same : o ≡ at). subst P (sym same) here)
+    (λ (other : o ≡ at → ⊥).
+    let e : at + 1 + (o - (at + 1)) ≡ o = omega (arith, later, other) in
+    subst P e (after (o - (at + 1)) (omega (arith, is, lt, later, other))))
+    (cases_eq o at))
+    (cases_lt o at)
 
 module _ (c : Content) {used segment at : ℕ} {marks : List ℕ} (long : 2 + 64 * segment + used ≤ length c) (few : used ≤ 64) (lt : at < used)
     (to : NamedTo c used segment marks at) where
   summary_place : place_in (row_by c used segment) at ≡ None
   summary_place =
-      rows.summary_place (row_by c used segment) (from c used segment) at to.whole (entries_in (bytes_of (here c used segment at long lt)))
+      rows.summary_place _ _ at to.whole (entries_in (bytes_of (here c used segment at long lt)))
       (λ es. chunks es (behind c used segment at long lt)) (opens c used segment at long lt)
 
   module _ {bytes : List ℕ} (there : block c (2 + 64 * segment + at) ≡ bytes) (bs : List BlockNameValue) (is : Some bs ≡ summary_in bytes)
@@ -74,20 +82,17 @@ module _ (c : Content) {used segment at : ℕ} {marks : List ℕ} (long : 2 + 64
 
     label_is : (i : ℕ) → i < length bs → place_in (row_by c used segment) (at + 1 + i) ≡ Some (entry_of (get_or bs i no_block))
     label_is i small =
-        rows.label_is (row_by c used segment) (from c used segment) at to.whole (map entry_of bs) (behind c used segment at long lt)
-        opened_row (entry_of no_block) i (let x = length-map bs entry_of in omega arith)
+        rows.label_is _ _ at to.whole _ _ opened_row (entry_of no_block) i (omega (arith, length-map bs entry_of))
         ∙ ap Some (get_or-map entry_of bs i no_block (entry_of no_block) small)
 
-    abbrev AreSteps : ℕ → Type 0
-    AreSteps first = (i : ℕ) → i < length bs → HasStep (get_or marks (first + i) 0) (entry_of (get_or bs i no_block))
+    abbrev AreSteps : Type 0
+    AreSteps = (i : ℕ) → i < length bs → HasStep (get_or marks (2 + 64 * segment + (at + 1 + i)) 0) (entry_of (get_or bs i no_block))
 
     -- where all are named, a chunk's blocks have the marks of their names
-    pub steps_of : (first : ℕ) → first ≡ 2 + 64 * segment + at + 1 → AllNamed c used segment marks → AreSteps first
-    steps_of first is_first all i small p marked =
-        let there : 2 + 64 * segment + (at + 1 + i) ≡ first + i = omega arith in
-        let h = all (at + 1 + i) (omega arith) p (ap (λ (x : ℕ). get_or marks x 0) there ∙ marked) in
-        let both : Some h.0 ≡ Some (entry_of (get_or bs i no_block)) = sym h.1 ∙ label_is i small in
-        let same : h.0 ≡ entry_of (get_or bs i no_block) = cc in
+    steps_of : AllNamed c used segment marks → AreSteps
+    steps_of all i small p marked =
+        let h = all (at + 1 + i) (omega arith) p marked in
+        let same : h.0 ≡ entry_of (get_or bs i no_block) = cc (sym h.1 ∙ label_is i small) in
         sym (ap step_of same) ∙ h.2
 
     next_is : (next : ℕ) → next ≡ at + 1 + length bs
@@ -98,61 +103,39 @@ module _ (c : Content) {used segment at : ℕ} {marks : List ℕ} (long : 2 + 64
         ∙ ap (λ (x : List Cell). chunks [] x) (sym (rest_is c used segment at long lt (length bs) known))
 
     -- one chunk more is named
-    pub chunk_taken : FitsSummary bs → get_or marks (2 + 64 * segment + at) 0 ≡ 0 → (first next : ℕ) → first ≡ 2 + 64 * segment + at + 1
-        → next ≡ at + 1 + length bs → AreSteps first
+    chunk_taken : FitsSummary bs → get_or marks (2 + 64 * segment + at) 0 ≡ 0 → (next : ℕ) → next ≡ at + 1 + length bs → AreSteps
         → NamedTo c used segment marks next
-    chunk_taken fits clear first next is_first is_next steps = record {
-      whole = rows.row_next (row_by c used segment) (from c used segment) at to.whole (map entry_of bs) (behind c used segment at long lt)
-          opened_row next (let l = length-map bs entry_of in omega arith) (enough_behind c used segment at long lt (length bs) known room)
-          (next_is next is_next) (subst (λ (x : ℕ). HasRow (from c used segment x)) (sym is_next)
+    chunk_taken fits clear next is_next steps = record {
+      whole = rows.row_next _ _ at to.whole _ _ opened_row next (omega (arith, length-map bs entry_of))
+          (enough_behind c used segment at long lt (length bs) known room) (next_is next is_next)
+          (subst (λ (x : ℕ). HasRow (from c used segment x)) (sym is_next)
           ((next_chunk c used segment at long lt (length bs) known room).0 to.whole.rest));
-      named = λ o small. ⊎_elim
-          (λ (before : o < at). to.named o before)
-          (λ (later : at ≤ o). ⊎_elim
-          (λ (same : o ≡ at).
-          unmarked_named (row_by c used segment) marks segment o (ap (λ (x : ℕ). get_or marks (2 + 64 * segment + x) 0) same ∙ clear))
-          (λ (other : o ≡ at → ⊥).
-          let i = o - (at + 1) in
-          let e : o ≡ at + 1 + (o - (at + 1)) = omega arith in
-          let there : first + (o - (at + 1)) ≡ 2 + 64 * segment + o = omega arith in
-          let low : o - (at + 1) < length bs = omega arith in
-          λ p is_marked. (
-            entry_of (get_or bs (o - (at + 1)) no_block),
-            ap (place_in (row_by c used segment)) e ∙ label_is (o - (at + 1)) low,
-            steps (o - (at + 1)) low p (ap (λ (x : ℕ). get_or marks x 0) there ∙ is_marked),
-            bounds_of (get_or bs (o - (at + 1)) no_block).kind (get_or bs (o - (at + 1)) no_block).file
-                (get_or bs (o - (at + 1)) no_block).index (fits.each (o - (at + 1)) low),
-          ))
-          (cases_eq o at))
-          (cases_lt o at);
+      named = by_place (IsNamedIn (row_by c used segment) marks segment) at (length bs) is_next to.named
+          (unmarked_named _ marks segment at clear)
+          (λ i low p marked. (
+            entry_of (get_or bs i no_block),
+            label_is i low,
+            steps i low p marked,
+            bounds_of _ _ _ (fits.each i low),
+          ));
     }
 
 -- ---- the end of a row
-module _ (c : Content) {used segment : ℕ} {marks : List ℕ} (long : 2 + 64 * segment + used ≤ length c) (few : used ≤ 64)
-    (to : NamedTo c used segment marks used) where
-  abbrev AreClear : ℕ → ℕ → Type 0
-  AreClear a b = (i : ℕ) → a ≤ i → i < b → get_or marks i 0 ≡ 0
-
-  pub all_named : (a b : ℕ) → a ≡ 2 + 64 * segment + used → b ≡ 2 + 64 * segment + 64 → AreClear a b → AllNamed c used segment marks
-  all_named a b is_a is_b clear o small = ⊎_elim
-      (λ (before : o < used). to.named o before)
-      (λ (later : used ≤ o).
-      unmarked_named (row_by c used segment) marks segment o (clear (2 + 64 * segment + o) (omega arith) (omega arith)))
+module _ (c : Content) {used segment : ℕ} {marks : List ℕ} (to : NamedTo c used segment marks used) where
+  all_named : ((i : ℕ) → 2 + 64 * segment + used ≤ i → get_or marks i 0 ≡ 0) → AllNamed c used segment marks
+  all_named clear o small = ⊎_elim (to.named o)
+      (λ (later : used ≤ o). unmarked_named _ marks segment o (clear (2 + 64 * segment + o) (omega (arith, later))))
       (cases_lt o used)
 
-  pub all_clear : (a b : ℕ) → a ≡ 2 + 64 * segment + used → b ≡ 2 + 64 * segment + 64 → AllNamed c used segment marks → AreClear a b
-  all_clear a b is_a is_b all i le lt =
-      let o = i - (2 + 64 * segment) in
-      let e : i ≡ 2 + 64 * segment + (i - (2 + 64 * segment)) = omega arith in
-      let none = rows.row_end (row_by c used segment) (from c used segment) used (end_is c used segment long) to.whole
-      (i - (2 + 64 * segment)) (omega arith) in
-      unlabelled (row_by c used segment) marks segment (i - (2 + 64 * segment)) (get_or marks i 0)
-      (ap (λ (x : ℕ). get_or marks x 0) (sym e)) none (all (i - (2 + 64 * segment)) (omega arith))
+  all_clear : 2 + 64 * segment + used ≤ length c → AllNamed c used segment marks → (o : ℕ) → used ≤ o → o < 64
+      → get_or marks (2 + 64 * segment + o) 0 ≡ 0
+  all_clear long all o le lt = unlabelled _ marks segment o _ refl
+      (rows.row_end _ _ used (end_is c used segment long) to.whole o le) (all o lt)
 
 -- ---- the rows of all segments
 module _ (c : Content) (k : CheckpointValue) {used : List ℕ} (table : IsUsedTable (view c k) used) (s : ℕ) (lt : s < length used) where
   same_row : row_by c (get_or used s 0) s ≡ (view c k).row s
-  same_row = ap (λ (u : ℕ). row_by c u s) (table.each s (let n = table.size in omega arith)) ∙ sym (row_is c k s)
+  same_row = ap (λ (u : ℕ). row_by c u s) (table.each s (omega (arith, table.size))) ∙ sym (row_is c k s)
 
   pub labels_there : {labels : List ℕ} → HasLabels (row_by c (get_or used s 0) s) labels s → HasLabels ((view c k).row s) labels s
   labels_there {labels} = subst (λ (r : Option Row). HasLabels r labels s) same_row
@@ -178,46 +161,40 @@ step_label : (mark : ℕ) {label step : ℕ} → label ≡ suc step → ((p : �
 step_label zero is has = inl refl
 step_label (suc p) is has = inr (ap suc (sym (has p refl)) ∙ sym is)
 
+-- a label that stays
+agree_as : (marks old new : List ℕ) (a : ℕ) → get_or new a 0 ≡ get_or old a 0 → Agrees marks old a → Agrees marks new a
+agree_as marks old new a same = ⊎_elim inl (λ mark. inr (mark ∙ sym same))
+
 module _ (c : Content) (used segment at : ℕ) (old new : List ℕ) (long : 2 + 64 * segment + used ≤ length c) (few : used ≤ 64)
     (lt : at < used) (to : LabelledTo c used segment old at)
     (bytes : List ℕ) (there : block c (2 + 64 * segment + at) ≡ bytes) (bs : List BlockNameValue) (is : Some bs ≡ summary_in bytes)
-    (room : at + length bs < used)
-    (first next : ℕ) (is_first : first ≡ 2 + 64 * segment + at + 1) (is_next : next ≡ at + 1 + length bs)
-    (labelled : (i : ℕ) → i < length bs → get_or new (first + i) 0 ≡ suc (step_of (entry_of (get_or bs i no_block))))
-    (before : (i : ℕ) → i < first → get_or new i 0 ≡ get_or old i 0) (empty : get_or old (2 + 64 * segment + at) 0 ≡ 0) where
+    (room : at + length bs < used) (next : ℕ) (is_next : next ≡ at + 1 + length bs)
+    (labelled : (i : ℕ) → i < length bs → get_or new (2 + 64 * segment + at + 1 + i) 0 ≡ suc (step_of (entry_of (get_or bs i no_block))))
+    (before : (i : ℕ) → i < 2 + 64 * segment + at + 1 → get_or new i 0 ≡ get_or old i 0)
+    (empty : get_or old (2 + 64 * segment + at) 0 ≡ 0) where
   same : (o : ℕ) → o < at → get_or new (2 + 64 * segment + o) 0 ≡ get_or old (2 + 64 * segment + o) 0
-  same o small = before (2 + 64 * segment + o) (omega (arith, small, is_first))
+  same o small = before (2 + 64 * segment + o) (omega (arith, small))
 
   so_far : NamedTo c used segment new at
   so_far = named_as new to.named (λ o small p marked. to.named.named o small p (sym (same o small) ∙ marked))
 
-  steps : (i : ℕ) → i < length bs → HasStep (get_or new (first + i) 0) (entry_of (get_or bs i no_block))
-  steps i small p marked = ap pred (sym (labelled i small) ∙ marked)
+  own : (i : ℕ) → i < length bs → get_or new (2 + 64 * segment + (at + 1 + i)) 0 ≡ suc (step_of (entry_of (get_or bs i no_block)))
+  own i small =
+      let e : 2 + 64 * segment + (at + 1 + i) ≡ 2 + 64 * segment + at + 1 + i = omega arith in
+      ap (λ (x : ℕ). get_or new x 0) e ∙ labelled i small
 
   agree_next : (marks : List ℕ) → AllNamed c used segment marks → (o : ℕ) → o < next → Agrees marks new (2 + 64 * segment + o)
-  agree_next marks all o small = ⊎_elim
-      (λ (low : o < at). ⊎_elim
-      (λ (none : get_or marks (2 + 64 * segment + o) 0 ≡ 0). inl none)
-      (λ (mark : get_or marks (2 + 64 * segment + o) 0 ≡ get_or old (2 + 64 * segment + o) 0). inr (mark ∙ sym (same o low)))
-      (to.agree marks all o low))
-      (λ (later : at ≤ o). ⊎_elim
-      (λ (here : o ≡ at).
-      inl (unlabelled (row_by c used segment) marks segment o (get_or marks (2 + 64 * segment + o) 0) refl
-      (ap (place_in (row_by c used segment)) here ∙ summary_place c long few lt so_far) (all o (omega (arith, small, is_next, room, few)))))
-      (λ (other : o ≡ at → ⊥).
-      let i = o - (at + 1) in
-      let e : first + (o - (at + 1)) ≡ 2 + 64 * segment + o = omega (arith, is_first, later, other) in
-      let low : o - (at + 1) < length bs = omega (arith, small, is_next, later, other) in
-      let own = named_as marks to.named (λ x lower. all x (omega (arith, lower, lt, few))) in
-      let has = steps_of c long few lt own there bs is room first is_first all (o - (at + 1)) low in
-      subst (Agrees marks new) e (step_label (get_or marks (first + (o - (at + 1))) 0) (labelled (o - (at + 1)) low) has)) (cases_eq o at))
-      (cases_lt o at)
+  agree_next marks all = by_place (λ o. Agrees marks new (2 + 64 * segment + o)) at (length bs) is_next
+      (λ o low. agree_as marks old new (2 + 64 * segment + o) (same o low) (to.agree marks all o low))
+      (inl (unlabelled _ marks segment at _ refl (summary_place c long few lt so_far) (all at (omega (arith, lt, few)))))
+      (λ i low. step_label (get_or marks (2 + 64 * segment + (at + 1 + i)) 0) (own i low) (steps_of c long few lt
+      (named_as marks to.named (λ x lower. all x (omega (arith, lower, lt, few)))) there bs is room all i low))
 
   pub chunk_labelled : FitsSummary bs → LabelledTo c used segment new next
   chunk_labelled fits = record {
     named =
-        chunk_taken c long few lt so_far there bs is room fits
-        (before (2 + 64 * segment + at) (omega (arith, is_first)) ∙ empty) first next is_first is_next steps;
+        chunk_taken c long few lt so_far there bs is room fits (before (2 + 64 * segment + at) (omega arith) ∙ empty) next is_next
+        (λ i small p marked. ap pred (sym (own i small) ∙ marked));
     agree = agree_next;
   }
 
@@ -225,15 +202,11 @@ module _ (c : Content) (used segment at : ℕ) (old new : List ℕ) (long : 2 + 
 pub row_labelled : (c : Content) {used segment : ℕ} {labels : List ℕ} → 2 + 64 * segment + used ≤ length c → used ≤ 64
     → LabelledTo c used segment labels used → ((i : ℕ) → 2 + 64 * segment + used ≤ i → get_or labels i 0 ≡ 0)
     → HasLabels (row_by c used segment) labels segment
-row_labelled c {used} {segment} {labels} long few to empty = record {
-  named = all_named c long few to.named (2 + 64 * segment + used) (2 + 64 * segment + 64) refl refl
-      (λ i le lt. empty i le);
-  all = λ marks all o small. ⊎_elim
-      (λ (before : o < used). to.agree marks all o before)
+row_labelled c {used} long few to empty = record {
+  named = all_named c to.named empty;
+  all = λ marks all o small. ⊎_elim (to.agree marks all o)
       (λ (later : used ≤ o).
-      let own = named_as marks to.named (λ x lower. all x (omega (arith, lower, few))) in
-      inl (all_clear c long few own (2 + 64 * segment + used) (2 + 64 * segment + 64) refl refl all
-      (2 + 64 * segment + o) (omega (arith, later)) (omega (arith, small))))
+      inl (all_clear c (named_as marks to.named (λ x lower. all x (omega (arith, lower, few)))) long all o later small))
       (cases_lt o used);
 }
 
@@ -242,10 +215,7 @@ pub labels_stay : {row : Option Row} {old : List ℕ} (new : List ℕ) (s : ℕ)
     → ((o : ℕ) → o < 64 → get_or new (2 + 64 * s + o) 0 ≡ get_or old (2 + 64 * s + o) 0) → HasLabels row old s → HasLabels row new s
 labels_stay {old} new s same has = record {
   named = λ o small p is. has.named o small p (sym (same o small) ∙ is);
-  all = λ marks each o small. ⊎_elim
-      (λ (none : get_or marks (2 + 64 * s + o) 0 ≡ 0). inl none)
-      (λ (mark : get_or marks (2 + 64 * s + o) 0 ≡ get_or old (2 + 64 * s + o) 0). inr (mark ∙ sym (same o small)))
-      (has.all marks each o small);
+  all = λ marks each o small. agree_as marks old new (2 + 64 * s + o) (same o small) (has.all marks each o small);
 }
 
 -- ---- the labels of all segments against the marks of the walk
@@ -254,7 +224,7 @@ module _ (v : View) {labels marks : List ℕ} (has : HasAllLabels v labels) (w :
   all_agree agree = (named_by_marks v marks w bounded).1 (λ s o lt small p is. ⊎_elim
       (λ (none : get_or marks (2 + 64 * s + o) 0 ≡ 0). absurd (omega (arith, none, is)))
       (λ (same : get_or marks (2 + 64 * s + o) 0 ≡ get_or labels (2 + 64 * s + o) 0). (has.each s lt).named o small p (sym same ∙ is))
-      (agree (2 + 64 * s + o) (let n = w.size in omega (arith, n, lt, small))))
+      (agree (2 + 64 * s + o) (omega (arith, w.size, lt, small))))
 
   -- no checkpoint slot is marked
   slot_unmarked : (i m : ℕ) → i < 2 → get_or marks i 0 ≡ m → m ≡ 0
@@ -262,16 +232,14 @@ module _ (v : View) {labels marks : List ℕ} (has : HasAllLabels v labels) (w :
   slot_unmarked i (suc p) low is =
       let h = w.held i p is in
       let two = w.low h.0 (omega (arith, h.1, h.2)) h.3 h.4 in
-      let e = h.5 in
-      absurd (omega (arith, two, e, low))
+      absurd (omega (arith, two, h.5, low))
 
   pub each_agrees : AreNamed v → (i : ℕ) → i < length marks → Agrees marks labels i
   each_agrees named i lt = ⊎_elim
       (λ (low : i < 2). inl (slot_unmarked i (get_or marks i 0) low refl))
       (λ (le : 2 ≤ i).
-      let n = w.size in
       let e : 2 + 64 * ((i - 2) / 64) + (i - 2) % 64 ≡ i = omega (arith, le) in
-      let inside : (i - 2) / 64 < v.checkpoint.segments = omega (arith, n, lt, le) in
+      let inside : (i - 2) / 64 < v.checkpoint.segments = omega (arith, w.size, lt, le) in
       let small : (i - 2) % 64 < 64 = omega arith in
       subst (Agrees marks labels) e ((has.each ((i - 2) / 64) inside).all marks
       (λ o few. (named_by_marks v marks w bounded).0 named ((i - 2) / 64) o inside few) ((i - 2) % 64) small))
@@ -284,12 +252,8 @@ puts_none = record { own = λ i lt. absurd (omega (arith, lt)); before = λ j lt
 pub puts_more : {names : List BlockNameValue} {old mid : List ℕ} {at n x : ℕ} → at + n < length mid → x ≡ suc
     (step_of (entry_of (get_or names n no_block))) → PutsLabels names old mid at n → PutsLabels names old (set mid (at + n) x) at (n + 1)
 puts_more {names} {mid} {at} {n} {x} inside is was = record {
-  own = λ i lt. ⊎_elim
-      (λ (here : i ≡ n). ap (λ (a : ℕ). get_or (set mid (at + n) x) (at + a) 0) here ∙ get_or-set_same mid (at + n) x 0 inside ∙ is
-      ∙ ap (λ (a : ℕ). suc (step_of (entry_of (get_or names a no_block)))) (sym here))
-      (λ (ne : i ≡ n → ⊥). get_or-set_other mid (at + n) (at + i) x 0 (λ h. ne (omega (arith, h))) ∙ was.own i (omega (arith, lt, ne)))
-      (cases_eq i n);
-  before = λ j lt. get_or-set_other mid (at + n) j x 0 (λ h. omega (arith, h, lt)) ∙ was.before j lt;
-  after = λ j le. get_or-set_other mid (at + n) j x 0 (λ h. omega (arith, h, le)) ∙ was.after j (omega (arith, le));
+  own = λ i lt. put_own mid at n x (λ a. suc (step_of (entry_of (get_or names a no_block)))) inside is i lt (was.own i);
+  before = λ j lt. put_before mid at n x j lt ∙ was.before j lt;
+  after = λ j le. put_after mid at n x j le ∙ was.after j (omega (arith, le));
   size = length-set mid (at + n) x ∙ was.size;
 }

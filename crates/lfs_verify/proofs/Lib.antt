@@ -1,4 +1,6 @@
 pub mod Words
+pub mod Tests
+pub mod Places
 pub mod Steps
 pub mod Takes
 pub mod Keeping

@@ -1,5 +1,6 @@
 -- What a mount takes in of the inode map.
 use Rattle.std.proofs.Common.{◌≡◌, ◌<◌, ◌≤◌, ⊎_elim, ◌+◌, ◌*◌, ℕ, Bool, false, List, length, get_or, refl, sym, ◌∙◌, ap, subst, arith}
+use Rattle.std.proofs.Common.{below_more}
 use Rattle.std.proofs.lemmas.Bool.{cases_eq}
 use Rattle.lfs_model.specs.Checkpoint.{CheckpointValue}
 use Rattle.lfs_model.specs.Content.{Content, block}
@@ -14,7 +15,6 @@ use Rattle.lfs_model.specs.Stands.{LogMap, HoldsAt}
 use Rattle.lfs_model.proofs.Encodes.{word_nil}
 use Rattle.lfs_model.proofs.Words.{pointers_are}
 use Rattle.lfs_inodes.specs.MapValue.{MapValue, IsLoaded, address_in, block_in}
-use Rattle.lfs_verify.specs.Take.{Looks}
 use Rattle.lfs_verify.specs.Faults.{LacksBlock, LacksTables}
 use Rattle.lfs_verify.specs.Loading.{IsMapUpTo, SaysMap}
 
@@ -25,15 +25,10 @@ says_no_map c k map = record { addresses = λ i l lt low. absurd (omega (arith, 
 module _ {j : ℕ} {map : MapValue} (is : IsMapUpTo j map) where
   pub says_skipped : {c : Content} {k : CheckpointValue} → get_or k.map j 0 ≡ 0 → SaysMap c k j map → SaysMap c k (j + 1) map
   says_skipped {c} {k} none says = record {
-    addresses = λ i l lt low. ⊎_elim
-        (λ (here : i ≡ j). is.past (128 * i + l) (omega (arith, here))
-        ∙ sym (ap (λ (a : ℕ). word (block c a) l) (ap (λ (x : ℕ). get_or k.map x 0) here ∙ none) ∙ word_nil l))
-        (λ (ne : i ≡ j → ⊥). says.addresses i l (omega (arith, lt, ne)) low)
-        (cases_eq i j);
-    blocks = λ i lt. ⊎_elim
-        (λ (here : i ≡ j). is.none i (omega (arith, here)) ∙ sym (ap (λ (x : ℕ). get_or k.map x 0) here ∙ none))
-        (λ (ne : i ≡ j → ⊥). says.blocks i (omega (arith, lt, ne)))
-        (cases_eq i j);
+    addresses = λ i l lt low. below_more (λ i. address_in map (128 * i + l) ≡ word (map_block c k i) l) j
+        (λ i before. says.addresses i l before low)
+        (is.past (128 * j + l) (omega arith) ∙ sym (ap (λ (a : ℕ). word (block c a) l) none ∙ word_nil l)) i lt;
+    blocks = below_more _ _ says.blocks (is.none j (omega arith) ∙ sym none);
   }
 
 -- one that is
@@ -58,18 +53,11 @@ module _ {j at : ℕ} {map mid : MapValue} (new : MapValue) {addresses : List �
       → FitsPointers addresses → bytes ≡ pointer_sector addresses
       → SaysMap c k j map → SaysMap c k (j + 1) new
   says_map_more {c} {k} bytes there points fits spelt says = record {
-    addresses = λ i l lt low. ⊎_elim
-        (λ (here : i ≡ j).
-        subst (λ (x : ℕ). address_in new (128 * x + l) ≡ word (map_block c k x) l) (sym here)
+    addresses = λ i l lt low. below_more (λ i. address_in new (128 * i + l) ≡ word (map_block c k i) l) j
+        (λ i before. address_same (128 * i + l) ∙ loaded.before (128 * i + l) (omega (arith, before, low)) ∙ says.addresses i l before low)
         (address_same (128 * j + l) ∙ loaded.own l low ∙ sym (pointers_are bytes addresses fits spelt l low)
-        ∙ ap (λ (b : List ℕ). word b l) (sym (ap (block c) points ∙ there))))
-        (λ (ne : i ≡ j → ⊥). address_same (128 * i + l) ∙ loaded.before (128 * i + l) (omega (arith, lt, ne, low))
-        ∙ says.addresses i l (omega (arith, lt, ne)) low)
-        (cases_eq i j);
-    blocks = λ i lt. ⊎_elim
-        (λ (here : i ≡ j). subst (λ (x : ℕ). block_in new x ≡ get_or k.map x 0) (sym here) (set.own ∙ sym points))
-        (λ (ne : i ≡ j → ⊥). block_same i ne ∙ says.blocks i (omega (arith, lt, ne)))
-        (cases_eq i j);
+        ∙ ap (λ (b : List ℕ). word b l) (sym (ap (block c) points ∙ there))) i lt;
+    blocks = below_more _ _ (λ i lt. block_same i (λ h. omega (arith, h, lt)) ∙ says.blocks i lt) (set.own ∙ sym points);
   }
 
 -- ---- where the content holds a log map, its inode map can be read
@@ -89,9 +77,3 @@ map_fault d d' k j all points some lacks m keeps st =
     let range = map_range k m st j stored in
     lacks keeps (subst (λ (a : ℕ). 2 ≤ a) points range.0) (subst (λ (a : ℕ). a < 2 + 64 * k.segments) points range.1)
     (subst (λ (a : ℕ). length (block d.content a) ≡ 512) points (map_long k m st j stored all))
-
-pub says_map_then : {a b : DeviceState} {k : CheckpointValue} {j l : ℕ} {t u : MapValue} → Looks a b → SaysMap a.content k j t
-    → (SaysMap b.content k j t → SaysMap b.content k l u) → SaysMap a.content k l u
-says_map_then {k} {j} {l} {t} {u} looks says more =
-    subst (λ (x : Content). SaysMap x k l u) looks.untouched.content
-    (more (subst (λ (x : Content). SaysMap x k j t) (sym looks.untouched.content) says))

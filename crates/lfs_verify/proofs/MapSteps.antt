@@ -1,6 +1,7 @@
 -- The blocks of the inode map, and the table of inode addresses.
+use Rattle.lfs_verify.proofs.Places.{put_own, put_before, put_after}
 use Rattle.std.proofs.Common.{◌≡◌, ◌<◌, ◌≤◌, ◌↔◌, ⊎_elim, inr, ◌+◌, ◌-◌, ◌*◌, ◌/◌, ◌%◌, ℕ, suc, true, false, List, [], length, get_or, set}
-use Rattle.std.proofs.Common.{refl, sym, ◌∙◌, ap, ap₂, subst, arith}
+use Rattle.std.proofs.Common.{refl, sym, ◌∙◌, ap, ap₂, subst, arith, Bool}
 use Rattle.std.proofs.lemmas.Bool.{cases_eq, cases_lt}
 use Rattle.std.proofs.lemmas.List.{get_or-set_same, get_or-set_other, length-set}
 use Rattle.lfs_model.specs.Checkpoint.{CheckpointValue}
@@ -10,10 +11,8 @@ use Rattle.lfs_model.specs.Reach.{address, view}
 use Rattle.lfs_model.specs.Stands.{Maps, Reached}
 use Rattle.lfs_model.proofs.Reach.{address_linked}
 use Rattle.lfs_verify.specs.MapTables.{Copies, ListsUpTo, IsEmptyFrom}
-use Rattle.lfs_verify.specs.Take.{SomeWord, Lists}
-use Rattle.lfs_verify.specs.Walk.{Walked, IsUnmarked}
-use Rattle.lfs_verify.proofs.Steps.{skip}
-use Rattle.lfs_verify.proofs.Takes.{took, refused, no_word}
+use Rattle.lfs_verify.specs.Take.{SomeWord, Lists, Advances, TakesAddress}
+use Rattle.lfs_verify.proofs.Takes.{step_goes, as_it_is}
 use Rattle.lfs_verify.proofs.Words.{word_none}
 
 pub copies_none : {bytes old : List ℕ} {at : ℕ} → Copies bytes old old at 0
@@ -22,13 +21,9 @@ copies_none = record { own = λ i lt. absurd (omega (arith, lt)); before = λ j 
 pub copies_more : {bytes old mid : List ℕ} {at n x : ℕ} → at + n < length mid → x ≡ word bytes n → Copies bytes old mid at n
     → Copies bytes old (set mid (at + n) x) at (n + 1)
 copies_more {bytes} {mid} {at} {n} {x} inside is was = record {
-  own = λ i lt. ⊎_elim
-      (λ (here : i ≡ n). ap (λ (a : ℕ). get_or (set mid (at + n) x) (at + a) 0) here ∙ get_or-set_same mid (at + n) x 0 inside ∙ is
-      ∙ ap (word bytes) (sym here))
-      (λ (ne : i ≡ n → ⊥). get_or-set_other mid (at + n) (at + i) x 0 (λ h. ne (omega (arith, h))) ∙ was.own i (omega (arith, lt, ne)))
-      (cases_eq i n);
-  before = λ j lt. get_or-set_other mid (at + n) j x 0 (λ h. omega (arith, h, lt)) ∙ was.before j lt;
-  after = λ j le. get_or-set_other mid (at + n) j x 0 (λ h. omega (arith, h, le)) ∙ was.after j (omega (arith, le));
+  own = λ i lt. put_own mid at n x (word bytes) inside is i lt (was.own i);
+  before = λ j lt. put_before mid at n x j lt ∙ was.before j lt;
+  after = λ j le. put_after mid at n x j le ∙ was.after j (omega (arith, le));
   size = length-set mid (at + n) x ∙ was.size;
 }
 
@@ -57,9 +52,6 @@ module _ (c : Content) (k : CheckpointValue) (j : ℕ) (low : j < 32) {p : ℕ} 
       (own (n - 128 * j) few ∙ ap (λ (a : ℕ). word (block c a) (n - 128 * j)) map_at ∙ sym (entry_at c k j (n - 128 * j) few)))
       (cases_lt n (128 * j))
 
-  pub map_passed : p ≡ 0 → {m : List ℕ} → Walked (view c k) m (16 + j) → Walked (view c k) m (16 + (j + 1))
-  map_passed none {m} w = subst (Walked (view c k) m) (omega arith) (skip w (Map j) refl low (sym map_at ∙ none))
-
   pub lists_passed : p ≡ 0 → (map : List ℕ) → IsEmptyFrom map j → ListsUpTo (view c k) map j → ListsUpTo (view c k) map (j + 1)
   lists_passed none map empty was = lists_with map map (λ n lt. refl)
       (λ i lt. empty (128 * j + i) (omega arith) ∙ sym (ap (λ (a : ℕ). word (block c a) i) none ∙ word_none i)) was
@@ -69,47 +61,27 @@ module _ (c : Content) (k : CheckpointValue) (j : ℕ) (low : j < 32) {p : ℕ} 
   lists_taken {old} {new} read copies was =
       lists_with old new copies.before (λ i lt. copies.own i lt ∙ ap (λ (b : List ℕ). word b i) (sym read)) was
 
-  there : SomeWord (block c p) ↔ SomeWord (block c (address c k (Map j)))
-  there = (subst SomeWord (ap (block c) map_at), subst SomeWord (sym (ap (block c) map_at)))
-
-  -- a block that can't be taken
-  map_refused : (p ≡ 0 → ⊥) → (m m1 : List ℕ) → (IsUnmarked m p → SomeWord (block c p) → ⊥) → Walked (view c k) m (16 + j)
-      → Maps (view c k) → ⊥
-  map_refused some m m1 not w maps = refused m1 w (Map j) refl low map_at c SomeWord there false refl
-      (omega arith, not) maps.fresh (maps.nonempty j)
-
-  pub map_missed : (p ≡ 0 → ⊥) → {m : List ℕ} (m1 : List ℕ) → (IsUnmarked m p → block c p ≡ []) → Walked (view c k) m (16 + j)
-      → Maps (view c k)
-      → ⊥
-  map_missed some {m} m1 none = map_refused some m m1 (λ o is. no_word {bytes = block c p} (none o) is)
-
-  pub map_empty : (p ≡ 0 → ⊥) → (m m1 : List ℕ) {out : List ℕ} → block c p ≡ out → (SomeWord out → ⊥) → Walked (view c k) m (16 + j)
-      → Maps (view c k)
-      → ⊥
-  map_empty some m m1 read not = map_refused some m m1 (λ o is. not (subst SomeWord read is))
-
-  pub map_taken : {m m1 out : List ℕ} → IsUnmarked m p → block c p ≡ out → SomeWord out → m1 ≡ set m p (suc (16 + j))
-      → Walked (view c k) m (16 + j) → Walked (view c k) m1 (16 + (j + 1))
-  map_taken {m} {m1} o read is marked w =
-      subst (Walked (view c k) m1) (omega arith)
-      (took m1 w (Map j) refl low map_at c SomeWord there true refl (inr (o, subst SomeWord (sym read) is, marked)))
+  pub map_goes : (m m1 : List ℕ) (x : Bool) → TakesAddress SomeWord c m m1 p (16 + j) x
+      → Advances (view c k) m m1 (16 + j) (16 + (j + 1)) (Maps (view c k)) x
+  map_goes m m1 = step_goes (view c k) m m1 (Map j) refl (omega arith) low map_at c SomeWord as_it_is (Maps (view c k))
+      (λ maps. maps.fresh) (λ maps. maps.nonempty j)
 
 pub empty_taken : {out old new : List ℕ} (j : ℕ) → Copies out old new (128 * j) 128 → IsEmptyFrom old j → IsEmptyFrom new (j + 1)
 empty_taken j copies was n le = copies.after n (omega (arith, le)) ∙ was n (omega (arith, le))
 
 -- number 0 has no inode, number 1 has one
-module _ (c : Content) (k : CheckpointValue) (map : List ℕ) (lists : ListsUpTo (view c k) map 32) where
+module _ (c : Content) (k : CheckpointValue) (map : List ℕ) {j : ℕ} (all : 32 ≤ j) (lists : ListsUpTo (view c k) map j) where
   pub lists_all : Lists (view c k) map
-  lists_all n lt = lists n (omega arith)
+  lists_all n lt = lists n (omega (arith, all, lt))
 
   pub none_fails : (get_or map 0 0 ≡ 0 → ⊥) → Maps (view c k) → ⊥
-  none_fails some maps = some (lists 0 (omega arith) ∙ maps.none)
+  none_fails some maps = some (lists 0 (omega (arith, all)) ∙ maps.none)
 
   pub root_fails : get_or map 1 0 ≡ 0 → Maps (view c k) → ⊥
-  root_fails none maps = let e = lists 1 (omega arith) in let some = maps.root in omega arith
+  root_fails none maps = let e = lists 1 (omega (arith, all)) in omega (arith, maps.root)
 
   pub none_holds : get_or map 0 0 ≡ 0 → address c k (Inode 0) ≡ 0
-  none_holds none = sym (lists 0 (omega arith)) ∙ none
+  none_holds none = sym (lists 0 (omega (arith, all))) ∙ none
 
   pub root_reached : (get_or map 1 0 ≡ 0 → ⊥) → Reached (view c k) (Inode 1)
-  root_reached some = let e = lists 1 (omega arith) in omega arith
+  root_reached some = let e = lists 1 (omega (arith, all)) in omega arith

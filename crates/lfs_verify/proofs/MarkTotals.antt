@@ -20,7 +20,7 @@ use Rattle.lfs_verify.specs.Totals.{above_count, CountsByMarks}
 use Rattle.lfs_verify.specs.Walk.{Walked, InBounds, step_of}
 use Rattle.lfs_verify.proofs.Occurrences.{above, above_is, above_next, above_none, above_range, above_ranges, count_off, occurrences}
 use Rattle.lfs_verify.proofs.Occurrences.{occurs_never, occurs_once, sum_both}
-use Rattle.lfs_verify.proofs.Steps.{same_step, inside_marks, within_7, stage_low}
+use Rattle.lfs_verify.proofs.Steps.{same_step, inside_marks, within}
 
 -- ---- files of a log map, as counts
 stored_count : (m : LogMap) (n end : ℕ) → length (stored_below m n end) ≡ count_up (is_stored m n) end
@@ -68,7 +68,7 @@ module _ {m : LogMap} (is : IsLogMap m) where
       ∙ count_off (is_stored m n) 16624 (λ i lt. false_from_ne_true (is_stored m n i) (λ on. no_data n none i ((stored_test m n i).0 on)))
 
   no_roots : (n : ℕ) → m.header n ≡ None → roots_of m n ≡ 0
-  no_roots n none = let a = ap one_if (no_leaf n 0 none) in let b = ap one_if (no_double n none) in omega (arith, a, b)
+  no_roots n none = omega (arith, ap one_if (no_leaf n 0 none), ap one_if (no_double n none))
 
   no_leaves : (n : ℕ) → m.header n ≡ None → leaves_of m n ≡ 0
   no_leaves n none = count_off (λ q. has_leaf m n (suc q)) 128 (λ q lt. no_leaf n (suc q) none)
@@ -107,7 +107,7 @@ module _ (c : Content) (k : CheckpointValue) (sized : IsSized c) (m : LogMap) (s
   map_is = formed c k m sized st
 
   at_end : (e : Entry) → InBounds e → step_of e < 68628528
-  at_end e b = within_7 e b (stage_low e)
+  at_end e b = (within e b).5
 
   -- the mark of an entry stands once where the log map has that entry, and nowhere else
   once : (e : Entry) → InBounds e → Has m k.segments e → occurrences marks (suc (step_of e)) ≡ 1
@@ -129,48 +129,35 @@ module _ (c : Content) (k : CheckpointValue) (sized : IsSized c) (m : LogMap) (s
 
   -- the marks of one file
   inode_marks : (n : ℕ) → n ≤ 4095 → above marks (48 + n) ≡ above marks (48 + suc n) + inodes_of m n
-  inode_marks n le =
-      let own : occurrences marks (suc (48 + n)) ≡ inodes_of m n =
-      counted (Inode n) (omega (arith, le)) (has_inode m n) (inode_test m n (m.header n) refl) in
-      let next = above_next marks (48 + n) in
-      let same : suc (48 + n) ≡ 48 + suc n = omega arith in
-      let e = ap (above marks) same in
-      omega (arith, own, next, e)
+  inode_marks n le = omega (
+    arith,
+    counted (Inode n) (omega (arith, le)) (has_inode m n) (inode_test m n (m.header n) refl),
+    above_next marks (48 + n) (48 + suc n) (omega arith),
+  )
 
   root_marks : (n : ℕ) → n ≤ 4095 → above marks (4144 + 2 * n) ≡ above marks (4144 + 2 * suc n) + roots_of m n
-  root_marks n le =
-      let single : occurrences marks (suc (4144 + 2 * n)) ≡ one_if (has_leaf m n 0) =
-      counted (Leaf n zero) (omega (arith, le)) (has_leaf m n 0) ((leaf_tests m n).0 0) in
-      let double : occurrences marks (suc (4145 + 2 * n)) ≡ one_if (has_double m n) =
-      counted (Double n) (omega (arith, le)) (has_double m n) (leaf_tests m n).1 in
-      let next = above_next marks (4144 + 2 * n) in
-      let middle : suc (4144 + 2 * n) ≡ 4145 + 2 * n = omega arith in
-      let e = ap (above marks) middle in
-      let last = above_next marks (4145 + 2 * n) in
-      let same : suc (4145 + 2 * n) ≡ 4144 + 2 * suc n = omega arith in
-      let f = ap (above marks) same in
-      omega (arith, single, double, next, e, last, f)
+  root_marks n le = omega (
+    arith,
+    counted (Leaf n zero) (omega (arith, le)) (has_leaf m n 0) ((leaf_tests m n).0 0),
+    counted (Double n) (omega (arith, le)) (has_double m n) (leaf_tests m n).1,
+    above_next marks (4144 + 2 * n) (4145 + 2 * n) (omega arith),
+    above_next marks (4145 + 2 * n) (4144 + 2 * suc n) (omega arith),
+  )
 
   leaf_marks : (n : ℕ) → n ≤ 4095 → above marks (12336 + 128 * n) ≡ above marks (12336 + 128 * suc n) + leaves_of m n
-  leaf_marks n le =
-      let all = above_range marks (λ q. has_leaf m n (suc q)) (12336 + 128 * n) 128
-      (λ q lt. counted (Leaf n (suc q)) (omega (arith, le), lt) (has_leaf m n (suc q)) ((leaf_tests m n).0 (suc q))) in
-      let same : 12336 + 128 * n + 128 ≡ 12336 + 128 * suc n = omega arith in
-      let e = ap (above marks) same in
-      omega (arith, all, e)
+  leaf_marks n le = above_range marks (λ q. has_leaf m n (suc q)) (12336 + 128 * n) 128 (12336 + 128 * suc n) (omega arith)
+      (λ q lt. counted (Leaf n (suc q)) (omega (arith, le), lt) (has_leaf m n (suc q)) ((leaf_tests m n).0 (suc q)))
 
   data_marks : (n : ℕ) → n ≤ 4095 → above marks (536624 + 16624 * n) ≡ above marks (536624 + 16624 * suc n) + data_of_file m n
   data_marks n le =
-      let all = above_range marks (is_stored m n) (536624 + 16624 * n) 16624
+      let all = above_range marks (is_stored m n) (536624 + 16624 * n) 16624 (536624 + 16624 * suc n) (omega arith)
       (λ i lt. counted (Data n i) (omega (arith, le), lt) (is_stored m n i) (stored_test m n i)) in
-      let same : 536624 + 16624 * n + 16624 ≡ 536624 + 16624 * suc n = omega arith in
-      let e = ap (above marks) same in
-      omega (arith, all, e, stored_count m n 16624)
+      omega (arith, all, stored_count m n 16624)
 
   -- no mark is above the last step's
   last_mark : (a x : ℕ) → get_or marks a 0 ≡ x → x ≤ 68628528
   last_mark a zero is = omega arith
-  last_mark a (suc p) is = let lt = (w.held a p is).2 in omega (arith, lt)
+  last_mark a (suc p) is = omega (arith, (w.held a p is).2)
 
   none_above : above marks 68628528 ≡ 0
   none_above = above_none marks 68628528 (λ a. last_mark a (get_or marks a 0) refl)

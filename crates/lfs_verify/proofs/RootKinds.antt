@@ -36,8 +36,7 @@ module _ (c : Content) (k : CheckpointValue) (map : List ℕ) (lists : Lists (vi
   pub other_kind : (p : ℕ) → p ≡ get_or map 1 0 → (p ≡ 0 → ⊥) → (out : List ℕ) → block c p ≡ out → (IsDirectoryInode out → ⊥)
       → Inodes (view c k) → ⊥
   other_kind p is some out read not inodes =
-      let at = root_at is in
-      let here : block c (address c k (Inode 1)) ≡ out = ap (block c) (sym at) ∙ read in
+      let here : block c (address c k (Inode 1)) ≡ out = ap (block c) (sym (root_at is)) ∙ read in
       let reached : Reached (view c k) (Inode 1) = omega arith in
       not (subst IsDirectoryInode here (directory_from 1 (inodes.formed 1 reached) inodes.root))
 

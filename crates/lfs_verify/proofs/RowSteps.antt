@@ -23,22 +23,26 @@ abbrev Sectors : Type 0
 Sectors = List Cell
 
 has_after : (e : Option Entry) (x : Option Row) → HasRow (after e x) ↔ HasRow x
-has_after e None = (λ h. let z = h.1 in absurd (cc), λ h. let z = h.1 in absurd (cc))
+has_after e None = (λ h. absurd (cc (h.1)), λ h. absurd (cc (h.1)))
 has_after e (Some row) = (λ h. (row, refl), λ h. (e ∷ row, refl))
+
+pub both_then : {A B C : Type 0} → A ↔ B → B ↔ C → A ↔ C
+both_then one two = (λ a. two.0 (one.0 a), λ c. one.1 (two.1 c))
+
+pub same_rows : {x y : Option Row} → x ≡ y → HasRow x ↔ HasRow y
+same_rows e = (subst HasRow e, subst HasRow (sym e))
 
 -- the blocks of a chunk are passed by
 wait : (es : List Entry) (ss : Sectors) → length es ≤ length ss → HasRow (chunks es ss) ↔ HasRow (chunks [] (drop (length es) ss))
 wait [] ss le = (λ h. h, λ h. h)
 wait (e ∷ es) [] le = absurd (omega arith)
 wait (e ∷ es) (s ∷ ss) le =
-    let a = has_after (Some e) (chunks es ss) in
-    let b = wait es ss (omega arith) in
-    (λ h. b.0 (a.0 h), λ h. a.1 (b.1 h))
+    both_then (has_after (Some e) (chunks es ss)) (wait es ss (omega arith))
 
 -- too few blocks
 too_few : (es : List Entry) (ss : Sectors) → length ss < length es → HasRow (chunks es ss) → ⊥
 too_few [] ss lt h = absurd (omega arith)
-too_few (e ∷ es) [] lt h = let z = h.1 in absurd (cc)
+too_few (e ∷ es) [] lt h = absurd (cc (h.1))
 too_few (e ∷ es) (s ∷ ss) lt h = too_few es ss (omega arith) ((has_after (Some e) (chunks es ss)).0 h)
 
 -- a chunk at the front
@@ -47,20 +51,17 @@ front_is s ss {es} is = ap (λ (o : Option (List Entry)). opened o (λ es. chunk
 
 front : (s : Cell) (ss : Sectors) {es : List Entry} → entries_in (bytes_of s) ≡ Some es
     → HasRow (chunks [] (s ∷ ss)) ↔ HasRow (chunks es ss)
-front s ss {es} is =
-    let e = front_is s ss is in
-    let a = has_after None (chunks es ss) in
-    (λ h. a.0 (subst HasRow e h), λ h. subst HasRow (sym e) (a.1 h))
+front s ss {es} is = both_then (same_rows (front_is s ss is)) (has_after None (chunks es ss))
 
 no_front : (s : Cell) (ss : Sectors) → entries_in (bytes_of s) ≡ None → HasRow (chunks [] (s ∷ ss)) → ⊥
 no_front s ss is h =
     let e : chunks [] (s ∷ ss) ≡ None = ap (λ (o : Option (List Entry)). opened o (λ es. chunks es ss)) is in
-    let z = sym e ∙ h.1 in absurd (cc)
+    absurd (cc (sym e ∙ h.1))
 
 module _ (c : Content) (used segment at : ℕ) (long : 2 + 64 * segment + used ≤ length c) (lt : at < used) where
   part_length : length (part c used segment) ≡ used
   unfolding part
-  part_length = let a = length-take used (drop (2 + 64 * segment) c) in let b = length-drop (2 + 64 * segment) c in omega arith
+  part_length = omega (arith, length-drop (2 + 64 * segment) c, length-take used (drop (2 + 64 * segment) c))
 
   -- the sector at a place, and those behind it
   pub here : Cell
@@ -71,7 +72,7 @@ module _ (c : Content) (used segment at : ℕ) (long : 2 + 64 * segment + used �
 
   pub opens : from c used segment at ≡ chunks [] (here ∷ behind)
   unfolding from here behind
-  opens = ap (chunks []) (drop-cons (part c used segment) at None (let x = part_length in omega arith))
+  opens = ap (chunks []) (drop-cons (part c used segment) at None (omega (arith, part_length)))
 
   sector_is : here ≡ cell_at c (2 + 64 * segment + at)
   unfolding part here
@@ -92,28 +93,22 @@ module _ (c : Content) (used segment at : ℕ) (long : 2 + 64 * segment + used �
     opens_names = opens ∙ front_is here behind (ap entries_in bytes_is ∙ names.1)
 
     first : HasRow (from c used segment at) ↔ HasRow (chunks names.0 behind)
-    first = let f = front here behind (ap entries_in bytes_is ∙ names.1) in
-        (λ h. f.0 (subst HasRow opens h), λ h. subst HasRow (sym opens) (f.1 h))
+    first = both_then (same_rows opens) (front here behind (ap entries_in bytes_is ∙ names.1))
 
     pub cut_chunk : used ≤ at + n → HasRow (from c used segment at) → ⊥
-    cut_chunk le h = too_few names.0 behind (let x = rest_length in let y = names.2 in omega arith) (first.0 h)
+    cut_chunk le h = too_few names.0 behind (omega (arith, names.2, rest_length)) (first.0 h)
 
     pub enough_behind : at + n < used → length names.0 ≤ length behind
-    enough_behind few = let x = rest_length in let y = names.2 in omega arith
+    enough_behind few = omega (arith, names.2, rest_length)
 
     pub rest_is : drop (length names.0) behind ≡ drop (at + 1 + n) (part c used segment)
     unfolding behind
     rest_is = drop-drop (length names.0) (suc at) (part c used segment)
-        ∙ ap (λ (x : ℕ). drop x (part c used segment)) (let y = names.2 in omega arith)
+        ∙ ap (λ (x : ℕ). drop x (part c used segment)) (omega (arith, names.2))
 
     pub next_chunk : at + n < used → HasRow (from c used segment at) ↔ HasRow (from c used segment (at + 1 + n))
     unfolding from
-    next_chunk few =
-        let f = wait names.0 behind (enough_behind few) in (
-          λ h. subst (λ (x : Sectors). HasRow (chunks [] x)) rest_is (f.0 (first.0 h)),
-          λ h.
-              first.1 (f.1 (subst (λ (x : Sectors). HasRow (chunks [] x)) (sym rest_is) h)),
-        )
+    next_chunk few = both_then first (both_then (wait names.0 behind (enough_behind few)) (same_rows (ap (chunks []) rest_is)))
 
 -- at the end
 pub end_is : (c : Content) (used segment : ℕ) → 2 + 64 * segment + used ≤ length c → from c used segment used ≡ Some []
@@ -132,7 +127,7 @@ from_start c used segment = refl
 
 pub long_enough : {d d' : DeviceState} {c : Content} (used segment : ℕ) → IsLawful d → ReadsContent d d' c → 66 + 64 * segment ≤ d.size
     → used ≤ 64 → 2 + 64 * segment + used ≤ length c
-long_enough used segment lawful reads inside few = let e = ap length reads.content in let s = lawful.size in omega arith
+long_enough used segment lawful reads inside few = omega (arith, lawful.size, ap length reads.content)
 
 pub no_entries : entries_in [] ≡ None
 unfolding entries_in summary_in read16 fields.part run
@@ -152,6 +147,10 @@ pub names_of : (bytes : List ℕ) {names : List BlockNameValue} {n : ℕ} → So
     → IsSummaryOf bytes n
 names_of bytes {names} is long = (map entry_of names, entries_some bytes is, length-map names entry_of ∙ sym long)
 
+pub names_at : {b : List ℕ} (bytes : List ℕ) → b ≡ bytes → {names : List BlockNameValue} {n : ℕ} → Some names ≡ summary_in bytes
+    → n ≡ length names → IsSummaryOf b n
+names_at bytes there {n = n} is long = subst (λ (b : List ℕ). IsSummaryOf b n) (sym there) (names_of bytes is long)
+
 -- a segment's row, by its table
 pub row_is : (c : Content) (k : CheckpointValue) (s : ℕ) → (view c k).row s ≡ row_by c (used_in (view c k) s) s
 unfolding address
@@ -162,9 +161,9 @@ pub rows_of : (c : Content) (k : CheckpointValue) {used : List ℕ} → IsUsedTa
     → ((s : ℕ) → s < length used → HasRow (row_by c (get_or used s 0) s)) → IsRows (view c k)
 rows_of c k table rows s some = ⊎_elim
     (λ (lt : s < k.segments).
-    let h = rows s (let n = table.size in omega arith) in
+    let h = rows s (omega (arith, table.size)) in
     (h.0, row_is c k s ∙ ap (λ (u : ℕ). row_by c u s) (sym (table.each s lt)) ∙ h.1))
-    (λ (le : k.segments ≤ s). let z = table.past s le in absurd (omega arith))
+    (λ (le : k.segments ≤ s). absurd (omega (arith, table.past s le)))
     (cases_lt s k.segments)
 
 -- no sector at all is a row
@@ -177,15 +176,12 @@ pub no_rows : (c : Content) (k : CheckpointValue) {used : List ℕ} → IsUsedTa
 no_rows c k {used} table s lt none rows = ⊎_elim
     (λ (clean : get_or used s 0 ≡ 0). none (no_sectors c s clean))
     (λ (some : get_or used s 0 ≡ 0 → ⊥).
-    let inside : s < k.segments = let n = table.size in omega arith in
-    let e = table.each s inside in
+    let inside : s < k.segments = omega (arith, table.size) in
     let h = rows s (omega arith) in
-    none (h.0, ap (λ (u : ℕ). row_by c u s) e ∙ sym (row_is c k s) ∙ h.1))
+    none (h.0, ap (λ (u : ℕ). row_by c u s) (table.each s inside) ∙ sym (row_is c k s) ∙ h.1))
     (cases_eq (get_or used s 0) 0)
 
 pub too_many : {v : View} {used : List ℕ} → IsUsedTable v used → (s : ℕ) → s < length used → 64 < get_or used s 0 → ⊥
 too_many {v} table s lt many =
-    let inside : s < v.checkpoint.segments = let n = table.size in omega arith in
-    let e = table.each s inside in
-    let f = table.fit s in
-    omega arith
+    let inside : s < v.checkpoint.segments = omega (arith, table.size) in
+    omega (arith, table.fit s, table.each s inside)

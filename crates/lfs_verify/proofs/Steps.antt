@@ -7,167 +7,47 @@ use Rattle.lfs_model.specs.declared.Kind.TheVariants.{Directory}
 use Rattle.lfs_model.specs.Entry.{Entry, Data, Leaf, Double, Inode, Map, Usage, header}
 use Rattle.lfs_model.specs.Reach.{View}
 use Rattle.lfs_model.specs.Stands.{Reached, Fresh, stage_of, Roots, Leaves, Blocks, Inodes, Maps}
-use Rattle.lfs_verify.specs.Walk.{step_of, InBounds, IsGood, IsData, Walked, IsBounded, IsUnmarked}
+use Rattle.lfs_verify.specs.Walk.{step_of, InBounds, IsGood, Walked, IsBounded, IsUnmarked}
 
 -- two entries at one step are one
 pub same_step : (e f : Entry) → InBounds e → InBounds f → step_of e ≡ step_of f → e ≡ f
 same_step (Usage j) (Usage l) b c h = ap Usage h
-same_step (Usage j) (Map l) b c h = absurd (omega arith)
-same_step (Usage j) (Inode m) b c h = absurd (omega arith)
-same_step (Usage j) (Double m) b c h = absurd (omega arith)
-same_step (Usage j) (Leaf m zero) b c h = absurd (omega arith)
-same_step (Usage j) (Leaf m (suc p)) b c h = absurd (omega arith)
-same_step (Usage j) (Data m k) b c h = absurd (omega arith)
-same_step (Map j) (Usage l) b c h = absurd (omega arith)
 same_step (Map j) (Map l) b c h = let x : j ≡ l = omega arith in ap Map x
-same_step (Map j) (Inode m) b c h = absurd (omega arith)
-same_step (Map j) (Double m) b c h = absurd (omega arith)
-same_step (Map j) (Leaf m zero) b c h = absurd (omega arith)
-same_step (Map j) (Leaf m (suc p)) b c h = absurd (omega arith)
-same_step (Map j) (Data m k) b c h = absurd (omega arith)
-same_step (Inode n) (Usage l) b c h = absurd (omega arith)
-same_step (Inode n) (Map l) b c h = absurd (omega arith)
 same_step (Inode n) (Inode m) b c h = let x : n ≡ m = omega arith in ap Inode x
-same_step (Inode n) (Double m) b c h = absurd (omega arith)
-same_step (Inode n) (Leaf m zero) b c h = absurd (omega arith)
-same_step (Inode n) (Leaf m (suc p)) b c h = absurd (omega arith)
-same_step (Inode n) (Data m k) b c h = absurd (omega arith)
-same_step (Double n) (Usage l) b c h = absurd (omega arith)
-same_step (Double n) (Map l) b c h = absurd (omega arith)
-same_step (Double n) (Inode m) b c h = absurd (omega arith)
 same_step (Double n) (Double m) b c h = let x : n ≡ m = omega arith in ap Double x
-same_step (Double n) (Leaf m zero) b c h = absurd (omega arith)
-same_step (Double n) (Leaf m (suc p)) b c h = absurd (omega arith)
-same_step (Double n) (Data m k) b c h = absurd (omega arith)
-same_step (Leaf n zero) (Usage l) b c h = absurd (omega arith)
-same_step (Leaf n zero) (Map l) b c h = absurd (omega arith)
-same_step (Leaf n zero) (Inode m) b c h = absurd (omega arith)
-same_step (Leaf n zero) (Double m) b c h = absurd (omega arith)
 same_step (Leaf n zero) (Leaf m zero) b c h = let x : n ≡ m = omega arith in ap (λ (x : ℕ). Leaf x 0) x
-same_step (Leaf n zero) (Leaf m (suc p)) b c h = absurd (omega arith)
-same_step (Leaf n zero) (Data m k) b c h = absurd (omega arith)
-same_step (Leaf n (suc q)) (Usage l) b c h = absurd (omega arith)
-same_step (Leaf n (suc q)) (Map l) b c h = absurd (omega arith)
-same_step (Leaf n (suc q)) (Inode m) b c h = absurd (omega arith)
-same_step (Leaf n (suc q)) (Double m) b c h = absurd (omega arith)
-same_step (Leaf n (suc q)) (Leaf m zero) b c h = absurd (omega arith)
 same_step (Leaf n (suc q)) (Leaf m (suc p)) b c h = let x : n ≡ m = omega arith in let y : q ≡ p = omega arith in
     ap₂ (λ (x y : ℕ). Leaf x (suc y)) x y
-same_step (Leaf n (suc q)) (Data m k) b c h = absurd (omega arith)
-same_step (Data n i) (Usage l) b c h = absurd (omega arith)
-same_step (Data n i) (Map l) b c h = absurd (omega arith)
-same_step (Data n i) (Inode m) b c h = absurd (omega arith)
-same_step (Data n i) (Double m) b c h = absurd (omega arith)
-same_step (Data n i) (Leaf m zero) b c h = absurd (omega arith)
-same_step (Data n i) (Leaf m (suc p)) b c h = absurd (omega arith)
 same_step (Data n i) (Data m k) b c h = let x : n ≡ m = omega arith in let y : i ≡ k = omega arith in ap₂ Data x y
+same_step e (Leaf m zero) b c h = absurd (omega arith)
+same_step e f b c h = absurd (omega arith)
 
 -- what was reached before isn't of a later stage
 pub stage_before : (e f : Entry) → InBounds e → InBounds f → step_of f ≤ step_of e → stage_of f ≤ stage_of e
-stage_before (Usage j) (Usage l) b c h = omega arith
-stage_before (Usage j) (Map l) b c h = absurd (omega arith)
-stage_before (Usage j) (Inode m) b c h = absurd (omega arith)
-stage_before (Usage j) (Double m) b c h = absurd (omega arith)
-stage_before (Usage j) (Leaf m zero) b c h = absurd (omega arith)
-stage_before (Usage j) (Leaf m (suc p)) b c h = absurd (omega arith)
-stage_before (Usage j) (Data m k) b c h = absurd (omega arith)
-stage_before (Map j) (Usage l) b c h = omega arith
-stage_before (Map j) (Map l) b c h = omega arith
-stage_before (Map j) (Inode m) b c h = absurd (omega arith)
-stage_before (Map j) (Double m) b c h = absurd (omega arith)
-stage_before (Map j) (Leaf m zero) b c h = absurd (omega arith)
-stage_before (Map j) (Leaf m (suc p)) b c h = absurd (omega arith)
-stage_before (Map j) (Data m k) b c h = absurd (omega arith)
-stage_before (Inode n) (Usage l) b c h = omega arith
-stage_before (Inode n) (Map l) b c h = omega arith
-stage_before (Inode n) (Inode m) b c h = omega arith
-stage_before (Inode n) (Double m) b c h = absurd (omega arith)
-stage_before (Inode n) (Leaf m zero) b c h = absurd (omega arith)
-stage_before (Inode n) (Leaf m (suc p)) b c h = absurd (omega arith)
-stage_before (Inode n) (Data m k) b c h = absurd (omega arith)
-stage_before (Double n) (Usage l) b c h = omega arith
-stage_before (Double n) (Map l) b c h = omega arith
-stage_before (Double n) (Inode m) b c h = omega arith
-stage_before (Double n) (Double m) b c h = omega arith
-stage_before (Double n) (Leaf m zero) b c h = omega arith
-stage_before (Double n) (Leaf m (suc p)) b c h = absurd (omega arith)
-stage_before (Double n) (Data m k) b c h = absurd (omega arith)
-stage_before (Leaf n zero) (Usage l) b c h = omega arith
-stage_before (Leaf n zero) (Map l) b c h = omega arith
-stage_before (Leaf n zero) (Inode m) b c h = omega arith
-stage_before (Leaf n zero) (Double m) b c h = omega arith
 stage_before (Leaf n zero) (Leaf m zero) b c h = omega arith
-stage_before (Leaf n zero) (Leaf m (suc p)) b c h = absurd (omega arith)
-stage_before (Leaf n zero) (Data m k) b c h = absurd (omega arith)
-stage_before (Leaf n (suc q)) (Usage l) b c h = omega arith
-stage_before (Leaf n (suc q)) (Map l) b c h = omega arith
-stage_before (Leaf n (suc q)) (Inode m) b c h = omega arith
-stage_before (Leaf n (suc q)) (Double m) b c h = omega arith
-stage_before (Leaf n (suc q)) (Leaf m zero) b c h = omega arith
-stage_before (Leaf n (suc q)) (Leaf m (suc p)) b c h = omega arith
-stage_before (Leaf n (suc q)) (Data m k) b c h = absurd (omega arith)
-stage_before (Data n i) (Usage l) b c h = omega arith
-stage_before (Data n i) (Map l) b c h = omega arith
-stage_before (Data n i) (Inode m) b c h = omega arith
-stage_before (Data n i) (Double m) b c h = omega arith
-stage_before (Data n i) (Leaf m zero) b c h = omega arith
-stage_before (Data n i) (Leaf m (suc p)) b c h = omega arith
-stage_before (Data n i) (Data m k) b c h = omega arith
+stage_before e (Leaf m zero) b c h = omega arith
+stage_before e f b c h = omega arith
 
 -- where each stage's steps end
-pub within_1 : (e : Entry) → InBounds e → stage_of e ≤ 1 → step_of e < 16
-within_1 (Usage j) b h = omega arith
-within_1 (Map j) b h = absurd (omega arith)
-within_1 (Inode n) b h = absurd (omega arith)
-within_1 (Double n) b h = absurd (omega arith)
-within_1 (Leaf n zero) b h = absurd (omega arith)
-within_1 (Leaf n (suc q)) b h = absurd (omega arith)
-within_1 (Data n i) b h = absurd (omega arith)
+pub within : (e : Entry) → InBounds e → (stage_of e ≤ 1 → step_of e < 16) × (stage_of e ≤ 3 → step_of e < 48)
+    × (stage_of e ≤ 4 → step_of e < 4144) × (stage_of e ≤ 5 → step_of e < 12336) × (stage_of e ≤ 6 → step_of e < 536624)
+    × (step_of e < 68628528)
+within (Leaf n zero) b = omega arith
+within e b = omega arith
 
-pub within_3 : (e : Entry) → InBounds e → stage_of e ≤ 3 → step_of e < 48
-within_3 (Usage j) b h = omega arith
-within_3 (Map j) b h = omega arith
-within_3 (Inode n) b h = absurd (omega arith)
-within_3 (Double n) b h = absurd (omega arith)
-within_3 (Leaf n zero) b h = absurd (omega arith)
-within_3 (Leaf n (suc q)) b h = absurd (omega arith)
-within_3 (Data n i) b h = absurd (omega arith)
-
-pub within_4 : (e : Entry) → InBounds e → stage_of e ≤ 4 → step_of e < 4144
-within_4 (Usage j) b h = omega arith
-within_4 (Map j) b h = omega arith
-within_4 (Inode n) b h = omega arith
-within_4 (Double n) b h = absurd (omega arith)
-within_4 (Leaf n zero) b h = absurd (omega arith)
-within_4 (Leaf n (suc q)) b h = absurd (omega arith)
-within_4 (Data n i) b h = absurd (omega arith)
-
-pub within_5 : (e : Entry) → InBounds e → stage_of e ≤ 5 → step_of e < 12336
-within_5 (Usage j) b h = omega arith
-within_5 (Map j) b h = omega arith
-within_5 (Inode n) b h = omega arith
-within_5 (Double n) b h = omega arith
-within_5 (Leaf n zero) b h = omega arith
-within_5 (Leaf n (suc q)) b h = absurd (omega arith)
-within_5 (Data n i) b h = absurd (omega arith)
-
-pub within_6 : (e : Entry) → InBounds e → stage_of e ≤ 6 → step_of e < 536624
-within_6 (Usage j) b h = omega arith
-within_6 (Map j) b h = omega arith
-within_6 (Inode n) b h = omega arith
-within_6 (Double n) b h = omega arith
-within_6 (Leaf n zero) b h = omega arith
-within_6 (Leaf n (suc q)) b h = omega arith
-within_6 (Data n i) b h = absurd (omega arith)
-
-pub within_7 : (e : Entry) → InBounds e → stage_of e ≤ 7 → step_of e < 68628528
-within_7 (Usage j) b h = omega arith
-within_7 (Map j) b h = omega arith
-within_7 (Inode n) b h = omega arith
-within_7 (Double n) b h = omega arith
-within_7 (Leaf n zero) b h = omega arith
-within_7 (Leaf n (suc q)) b h = omega arith
-within_7 (Data n i) b h = omega arith
+-- an entry of which none is reached is passed by
+pub skip_to : {v : View} {marks : List ℕ} {r s : ℕ} → Walked v marks r → r ≤ s
+    → ((e : Entry) → InBounds e → r ≤ step_of e → step_of e < s → Reached v e → ⊥) → Walked v marks s
+skip_to {v} {r} {s} w le none =
+    let now : (f : Entry) → InBounds f → step_of f < s → Reached v f → step_of f < r = λ f c lt reached.
+    ⊎_elim (λ (x : step_of f < r). x) (λ (x : r ≤ step_of f). absurd (none f c x lt reached)) (cases_lt (step_of f) r) in
+    record {
+      size = w.size;
+      held = λ a p is. let h = w.held a p is in (h.0, h.1, omega (arith, h.2), h.3, h.4, h.5);
+      marked = λ f lt c reached. w.marked f (now f c lt reached) c reached;
+      low = λ f lt c reached. w.low f (now f c lt reached) c reached;
+      good = λ f lt c reached. w.good f (now f c lt reached) c reached;
+    }
 
 module _ {v : View} {marks : List ℕ} {r : ℕ} (w : Walked v marks r) (e : Entry) (here : step_of e ≡ r) (b : InBounds e) where
   earlier : (f : Entry) → InBounds f → step_of f < suc r → (f ≡ e) ⊎ (step_of f < r)
@@ -176,16 +56,8 @@ module _ {v : View} {marks : List ℕ} {r : ℕ} (w : Walked v marks r) (e : Ent
 
   -- an entry without an address is passed by
   pub skip : v.address e ≡ 0 → Walked v marks (suc r)
-  skip none = record {
-    size = w.size;
-    held = λ a p is. let h = w.held a p is in (h.0, h.1, omega (arith, h.2), h.3, h.4, h.5);
-    marked = λ f lt c reached. ⊎_elim (λ (x : f ≡ e). let y = ap v.address x in absurd (omega (arith, y, reached)))
-        (λ (x : step_of f < r). w.marked f x c reached) (earlier f c lt);
-    low = λ f lt c reached. ⊎_elim (λ (x : f ≡ e). let y = ap v.address x in absurd (omega (arith, y, reached)))
-        (λ (x : step_of f < r). w.low f x c reached) (earlier f c lt);
-    good = λ f lt c reached. ⊎_elim (λ (x : f ≡ e). let y = ap v.address x in absurd (omega (arith, y, reached)))
-        (λ (x : step_of f < r). w.good f x c reached) (earlier f c lt);
-  }
+  skip none = skip_to w (omega arith) (λ f c le lt reached.
+      let y = ap v.address (same_step f e c b (omega arith)) in omega (arith, y, reached, none))
 
   -- an entry whose address is open, and whose block is good, is taken
   pub take_one : IsUnmarked marks (v.address e) → IsGood v e → Walked v (set marks (v.address e) (suc r)) (suc r)
@@ -204,12 +76,11 @@ module _ {v : View} {marks : List ℕ} {r : ℕ} (w : Walked v marks r) (e : Ent
         marked = λ f lt c reached. ⊎_elim
             (λ (x : f ≡ e). ap (λ (y : Entry). get_or (set marks a (suc r)) (v.address y) 0) x ∙ there
             ∙ ap suc (sym here ∙ ap step_of (sym x)))
-            (λ (x : step_of f < r). let m = w.marked f x c reached in
-            get_or-set_other marks a (v.address f) (suc r) 0
-            (λ same. let z = ap (λ (y : ℕ). get_or marks y 0) same in let u = o.unmarked in omega arith) ∙ m)
+            (λ (x : step_of f < r). get_or-set_other marks a (v.address f) (suc r) 0
+            (λ same. let z = ap (λ (y : ℕ). get_or marks y 0) same in omega (arith, o.unmarked)) ∙ w.marked f x c reached)
             (earlier f c lt);
         low = λ f lt c reached. ⊎_elim
-            (λ (x : f ≡ e). let y = ap v.address x in let n = o.low in omega arith)
+            (λ (x : f ≡ e). omega (arith, o.low, ap v.address x))
             (λ (x : step_of f < r). w.low f x c reached) (earlier f c lt);
         good = λ f lt c reached. ⊎_elim
             (λ (x : f ≡ e). subst (IsGood v) (sym x) is)
@@ -221,9 +92,8 @@ module _ {v : View} {marks : List ℕ} {r : ℕ} (w : Walked v marks r) (e : Ent
   unmarked_from fresh reached (suc p) is =
       let h = w.held (v.address e) p is in
       let f = fresh e refl reached in
-      let same = f.2 h.0 (stage_before e h.0 b h.3 (let x = h.1 in let y = h.2 in omega arith)) h.5 in
-      let x = h.1 in let y = h.2 in let z = ap step_of same in
-      absurd (omega arith)
+      let same = f.2 h.0 (stage_before e h.0 b h.3 (omega (arith, h.2, h.1))) h.5 in
+      absurd (omega (arith, ap step_of same, h.2, h.1))
 
   -- where the stage's addresses are fresh, the entry's is open
   pub is_open : Fresh v (stage_of e) → Reached v e → IsUnmarked marks (v.address e)
@@ -231,13 +101,13 @@ module _ {v : View} {marks : List ℕ} {r : ℕ} (w : Walked v marks r) (e : Ent
       let f = fresh e refl reached in
       record {
         low = f.0;
-        within = let x = f.1 in let y = w.size in omega arith;
+        within = omega (arith, w.size, f.1);
         unmarked = unmarked_from fresh reached (get_or marks (v.address e) 0) refl;
       }
 
 pub inside_marks : (marks : List ℕ) (a : ℕ) {p : ℕ} → get_or marks a 0 ≡ suc p → a < length marks
 inside_marks marks a is = ⊎_elim (λ (lt : a < length marks). lt)
-    (λ (le : length marks ≤ a). let z = get_or_past marks a 0 le in absurd (omega arith)) (cases_lt a (length marks))
+    (λ (le : length marks ≤ a). absurd (omega (arith, get_or_past marks a 0 le))) (cases_lt a (length marks))
 
 pub fresh_of : {v : View} {marks : List ℕ} {r : ℕ} → Walked v marks r → IsBounded v → (k : ℕ)
     → ((f : Entry) → InBounds f → stage_of f ≤ k → step_of f < r) → Fresh v k
@@ -246,7 +116,7 @@ fresh_of {v} {marks} {r} w bounded k before = λ e is reached.
     let lt : step_of e < r = before e b (omega arith) in
     let m = w.marked e lt b reached in (
       w.low e lt b reached,
-      let x = inside_marks marks (v.address e) m in let y = w.size in omega arith,
+      omega (arith, w.size, inside_marks marks (v.address e) m),
       λ f le same.
           let c = bounded f (omega arith) in
           let n = w.marked f (before f c le) c (omega arith) in
@@ -254,39 +124,29 @@ fresh_of {v} {marks} {r} w bounded k before = λ e is reached.
           same_step f e c b (omega arith),
     )
 
--- an entry of which none is reached is passed by
-pub skip_to : {v : View} {marks : List ℕ} {r s : ℕ} → Walked v marks r → r ≤ s
-    → ((e : Entry) → InBounds e → r ≤ step_of e → step_of e < s → Reached v e → ⊥) → Walked v marks s
-skip_to {v} {r} {s} w le none =
-    let now : (f : Entry) → InBounds f → step_of f < s → Reached v f → step_of f < r = λ f c lt reached.
-    ⊎_elim (λ (x : step_of f < r). x) (λ (x : r ≤ step_of f). absurd (none f c x lt reached)) (cases_lt (step_of f) r) in
-    record {
-      size = w.size;
-      held = λ a p is. let h = w.held a p is in (h.0, h.1, omega (arith, h.2), h.3, h.4, h.5);
-      marked = λ f lt c reached. w.marked f (now f c lt reached) c reached;
-      low = λ f lt c reached. w.low f (now f c lt reached) c reached;
-      good = λ f lt c reached. w.good f (now f c lt reached) c reached;
-    }
+-- what was reached before is good
+good_at : {v : View} {marks : List ℕ} {r : ℕ} → Walked v marks r → IsBounded v → (e : Entry) → (InBounds e → step_of e < r) → Reached v e
+    → IsGood v e
+good_at w bounded e before reached = let b = bounded e reached in w.good e (before b) b reached
 
 pub roots_of : (v : View) (marks : List ℕ) → Walked v marks 12336 → IsBounded v → Roots v
 roots_of v marks w bounded = record {
-  fresh = fresh_of w bounded 5 within_5;
-  single = λ n reached. let b = bounded (Leaf n 0) reached in w.good (Leaf n 0) (omega arith) b reached;
-  double = λ n reached. let b = bounded (Double n) reached in w.good (Double n) (omega arith) b reached;
+  fresh = fresh_of w bounded 5 (λ e b. (within e b).3);
+  single = λ n. good_at w bounded (Leaf n 0) (λ b. omega arith);
+  double = λ n. good_at w bounded (Double n) (λ b. omega arith);
 }
 
 pub leaves_of : (v : View) (marks : List ℕ) → Walked v marks 536624 → IsBounded v → Leaves v
 leaves_of v marks w bounded = record {
-  fresh = fresh_of w bounded 6 within_6;
-  nonempty = λ n q reached. let b = bounded (Leaf n (suc q)) reached in w.good (Leaf n (suc q)) (omega arith) b reached;
+  fresh = fresh_of w bounded 6 (λ e b. (within e b).4);
+  nonempty = λ n q. good_at w bounded (Leaf n (suc q)) (λ b. omega arith);
 }
 
 pub blocks_of : (v : View) (marks : List ℕ) → Walked v marks 68628528 → IsBounded v → Blocks v
 blocks_of v marks w bounded =
-    let good : (n i : ℕ) → Reached v (Data n i) → IsData v n i = λ n i reached. let b = bounded (Data n i) reached in
-    w.good (Data n i) (omega arith) b reached in
+    let good = λ (n i : ℕ). good_at w bounded (Data n i) (λ b. omega arith) in
     record {
-      fresh = fresh_of w bounded 7 within_7;
+      fresh = fresh_of w bounded 7 (λ e b le. (within e b).5);
       nonzero = λ n i reached. (good n i reached).nonzero;
       within = λ n i reached. (good n i reached).within;
       past = λ n i reached. (good n i reached).past;
@@ -294,34 +154,25 @@ blocks_of v marks w bounded =
 
 pub inodes_of : {v : View} (marks : List ℕ) → Walked v marks 4144 → IsBounded v → (header (v.block (Inode 1))).kind ≡ Directory → Inodes v
 inodes_of {v} marks w bounded root = record {
-  fresh = fresh_of w bounded 4 within_4;
-  formed = λ n reached. let b = bounded (Inode n) reached in w.good (Inode n) (omega arith) b reached;
+  fresh = fresh_of w bounded 4 (λ e b. (within e b).2);
+  formed = λ n. good_at w bounded (Inode n) (λ b. omega arith);
   root = root;
 }
 
 pub maps_of : (v : View) {marks : List ℕ} → Walked v marks 48 → IsBounded v → v.address (Inode 0) ≡ 0 → Reached v (Inode 1) → Maps v
 maps_of v {marks} w bounded none root = record {
-  fresh = fresh_of w bounded 3 within_3;
-  nonempty = λ n reached. let b = bounded (Map n) reached in w.good (Map n) (omega arith) b reached;
+  fresh = fresh_of w bounded 3 (λ e b. (within e b).1);
+  nonempty = λ n. good_at w bounded (Map n) (λ b. omega arith);
   none = none;
   root = root;
 }
-
-pub stage_low : (e : Entry) → stage_of e ≤ 7
-stage_low (Usage j) = omega arith
-stage_low (Map j) = omega arith
-stage_low (Inode n) = omega arith
-stage_low (Double n) = omega arith
-stage_low (Leaf n zero) = omega arith
-stage_low (Leaf n (suc q)) = omega arith
-stage_low (Data n i) = omega arith
 
 -- nothing is marked before the first step
 pub walked_start : (v : View) {marks : List ℕ} → length marks ≡ 2 + 64 * v.checkpoint.segments → ((a : ℕ) → get_or marks a 0 ≡ 0)
     → Walked v marks 0
 walked_start v long clear = record {
   size = long;
-  held = λ a p is. let z = clear a in absurd (omega arith);
+  held = λ a p is. absurd (omega (arith, clear a));
   marked = λ e lt b reached. absurd (omega arith);
   low = λ e lt b reached. absurd (omega arith);
   good = λ e lt b reached. absurd (omega arith);

@@ -12,7 +12,7 @@ use Rattle.lfs_verify.specs.Take.{Looks, TakesAddress, TakesBlock, ReadsContent,
 use Rattle.lfs_model.proofs.Decoding.{value_found}
 use Rattle.lfs_model.proofs.Moments.{carries_none, carries_then, started, joined}
 use Rattle.lfs_verify.proofs.Words.{word_none}
-use Rattle.lfs_verify.proofs.Steps.{skip, take_one, is_open}
+use Rattle.lfs_verify.proofs.Steps.{skip, take_one, is_open, inside_marks}
 
 pub block_at : (c : Content) (at : ℕ) → 0 < at → block c at ≡ bytes_of (cell_at c at)
 block_at c zero lt = absurd (omega arith)
@@ -25,13 +25,13 @@ pub read_in : (c : Content) (at : ℕ) (out : List ℕ) {r : Bool} → block c a
 read_in c at out is holds = is ∙ ap (λ (x : Bool). cond x out []) holds
 
 pub no_word : {bytes : List ℕ} → bytes ≡ [] → SomeWord bytes → ⊥
-no_word none w = let z = ap (λ (b : List ℕ). word b w.0) none ∙ word_none w.0 in let lt = w.2 in omega arith
+no_word none w = let z = ap (λ (b : List ℕ). word b w.0) none ∙ word_none w.0 in omega (arith, w.2)
 
 pub no_inode : (version n : ℕ) (bytes : List ℕ) → bytes ≡ [] → IsInode version n bytes → ⊥
 unfolding inode_in inode_sector
 no_inode version n bytes none is =
     let spelt = (value_found inode_of may_be_inode inode_sector bytes is.value is.spelt).2 in
-    let z = ap length (sym none ∙ spelt) in absurd (cc)
+    absurd (cc (ap length (sym none ∙ spelt)))
 
 -- a block that is taken, and one that isn't
 module _ (c : Content) (old new : List ℕ) (at step : ℕ) (out : List ℕ) {r : Bool} (t : TakesBlock c old new at step out r) where
@@ -50,7 +50,7 @@ module _ (c : Content) (old new : List ℕ) (at step : ℕ) (out : List ℕ) {r 
 
   pub takes_as : (P : List ℕ → Type 0) → r ≡ true → 0 < at → (held : Bool) → (held ≡ true) ↔ P out → TakesAddress P c old new at step held
   takes_as P is some true iff = takes_good P is (iff.0 refl)
-  takes_as P is some false iff = takes_bad P is some (λ p. let e = iff.1 p in absurd (cc))
+  takes_as P is some false iff = takes_bad P is some (λ p. absurd (cc (iff.1 p)))
 
   -- what isn't read has nothing of what is asked for
   pub takes_none : (P : List ℕ → Type 0) → r ≡ false → 0 < at → (block c at ≡ [] → P (block c at) → ⊥)
@@ -87,35 +87,49 @@ looks_then {a} {b} {c} one two = record {
   any_moment = joined a.may_leave b.may_leave a.may_leave one.any_moment two.any_moment (λ x left. left) one.untouched.crash;
 }
 
-module _ {v : View} {marks : List ℕ} (new : List ℕ) {r : ℕ} (w : Walked v marks r) (e : Entry) (here : step_of e ≡ r) (b : InBounds e)
-    {at : ℕ} (is : at ≡ v.address e) (c : Content) (P : List ℕ → Type 0) (good : P (block c at) ↔ IsGood v e) where
-  took_true : TakesAddress P c marks new at r true → Walked v new (suc r)
-  took_true t = ⊎_elim
-      (λ (none : (at ≡ 0) × (new ≡ marks)).
-      subst (λ (m : List ℕ). Walked v m (suc r)) (sym none.1) (skip w e here b (sym is ∙ none.0)))
-      (λ (one : IsUnmarked marks at × P (block c at) × (new ≡ set marks at (suc r))).
-      subst (λ (m : List ℕ). Walked v m (suc r)) (ap (λ (a : ℕ). set marks a (suc r)) (sym is) ∙ sym one.2)
-      (take_one w e here b (subst (IsUnmarked marks) is one.0) (good.0 one.1))) t
+-- each of three runs reads the content that they read together
+pub reads_thrice : {a b c d : DeviceState} {content : Content} → ReadsContent a d content → Looks a b → Looks b c → Looks c d
+    → ReadsContent a b content × ReadsContent b c content × ReadsContent c d content
+reads_thrice reads one two three =
+    let both = reads_first reads three in (reads_first both two, reads_then both one, reads_then reads (looks_then one two))
 
-  refused_false : TakesAddress P c marks new at r false → Fresh v (stage_of e) → (Reached v e → IsGood v e) → ⊥
-  refused_false t fresh local =
-      let reached : Reached v e = let x = t.0 in omega arith in
-      t.1 (subst (IsUnmarked marks) (sym is) (is_open w e here b fresh reached)) (good.1 (local reached))
+-- ---- steps of the walk
+pub walked_as : {v : View} {marks : List ℕ} {r s : ℕ} → r ≡ s → Walked v marks r → Walked v marks s
+walked_as {v} {marks} = subst (Walked v marks)
 
-  pub took : (x : Bool) → x ≡ true → TakesAddress P c marks new at r x → Walked v new (suc r)
-  took x is t = took_true (subst (TakesAddress P c marks new at r) is t)
-
-  pub refused : (x : Bool) → x ≡ false → TakesAddress P c marks new at r x → Fresh v (stage_of e) → (Reached v e → IsGood v e) → ⊥
-  refused x is t = refused_false (subst (TakesAddress P c marks new at r) is t)
-
-pub goes_true : {v : View} {old : List ℕ} (new : List ℕ) {r : ℕ} (s : ℕ) (stage : Type 0) {x : Bool} → x ≡ true
-    → Advances v old new r s stage x
+pub goes_true : {v : View} {old new : List ℕ} {r s : ℕ} (stage : Type 0) {x : Bool} → x ≡ true → Advances v old new r s stage x
     → Walked v old r → Walked v new s
-goes_true {v} {old} new {r} s stage is =
-    subst (λ (y : Bool). Advances v old new r s stage y → Walked v old r → Walked v new s) (sym is) (λ h. h)
+goes_true {v} {old} {new} {r} {s} stage is = subst (Advances v old new r s stage) is
 
-pub goes_false : {v : View} {old : List ℕ} (new : List ℕ) {r : ℕ} (s : ℕ) (stage : Type 0) {x : Bool} → x ≡ false
-    → Advances v old new r s stage x
-    → Walked v old r → stage → ⊥
-goes_false {v} {old} new {r} s stage is = subst (λ (y : Bool). Advances v old new r s stage y → Walked v old r → stage → ⊥) (sym is)
-    (λ h. h)
+pub goes_false : {v : View} {old : List ℕ} (new : List ℕ) {r : ℕ} (s : ℕ) {stage : Type 0} {x : Bool} → x ≡ false
+    → Advances v old new r s stage x → Walked v old r → stage → ⊥
+goes_false {v} {old} new {r} s {stage} is = subst (Advances v old new r s stage) is
+
+-- An entry at its step: the walk goes on where its address is passed or taken; where it is refused, the stage fails that has its like
+-- at fresh addresses and finds it good.
+pub step_goes : (v : View) (marks new : List ℕ) {r s : ℕ} (e : Entry) → step_of e ≡ r → suc r ≡ s → InBounds e → {at : ℕ}
+    → at ≡ v.address e → (c : Content) (P : List ℕ → Type 0) → P (block c (v.address e)) ↔ IsGood v e
+    → (S : Type 0) → (S → Fresh v (stage_of e)) → (S → Reached v e → IsGood v e) → (x : Bool) → TakesAddress P c marks new at r x
+    → Advances v marks new r s S x
+step_goes v marks new {r} e here next b {at} is c P good S fresh local true t = λ w. walked_as next (⊎_elim
+    (λ (none : (at ≡ 0) × (new ≡ marks)). subst (λ (m : List ℕ). Walked v m (suc r)) (sym none.1) (skip w e here b (sym is ∙ none.0)))
+    (λ (one : IsUnmarked marks at × P (block c at) × (new ≡ set marks at (suc r))).
+    subst (λ (m : List ℕ). Walked v m (suc r)) (ap (λ (a : ℕ). set marks a (suc r)) (sym is) ∙ sym one.2)
+    (take_one w e here b (subst (IsUnmarked marks) is one.0) (good.0 (subst (λ (a : ℕ). P (block c a)) is one.1)))) t)
+step_goes v marks new e here next b is c P good S fresh local false t = λ w stage.
+    let reached : Reached v e = omega (arith, t.0) in
+    t.1 (subst (IsUnmarked marks) (sym is) (is_open w e here b (fresh stage) reached))
+    (subst (λ (a : ℕ). P (block c a)) (sym is) (good.1 (local stage reached)))
+
+-- where nothing else is asked of the block
+pub as_it_is : {P : Type 0} → P ↔ P
+as_it_is = (λ is. is, λ is. is)
+
+-- an entry whose step is over, and that was reached, has a sector and is good
+module _ {v : View} {marks : List ℕ} {r : ℕ} (w : Walked v marks r) (e : Entry) (before : step_of e < r) (b : InBounds e) {at : ℕ}
+    (is : at ≡ v.address e) (some : at ≡ 0 → ⊥) where
+  pub reached_inside : at < length marks
+  reached_inside = omega (arith, is, inside_marks marks (v.address e) (w.marked e before b (omega (arith, is, some))))
+
+  pub reached_good : IsGood v e
+  reached_good = w.good e before b (omega (arith, is, some))

@@ -1,6 +1,7 @@
 -- What a mount takes in of the usage table.
+use Rattle.lfs_verify.proofs.UsageSteps.{block_bytes, at_block}
 use Rattle.std.proofs.Common.{◌≡◌, ◌<◌, ◌≤◌, ⊎_elim, ◌+◌, ◌*◌, ◌-◌, ◌/◌, ◌%◌, ℕ, zero, suc, Bool, false, List, length, get_or}
-use Rattle.std.proofs.Common.{Some, None, refl, sym, ◌∙◌, ap, ap₂, subst, arith, length-set, get_or-set_other, get_or-set_same}
+use Rattle.std.proofs.Common.{Some, None, refl, sym, ◌∙◌, ap, ap₂, subst, arith, length-set, get_or-set_other, get_or-set_same, below_more}
 use Rattle.std.specs.Prelude.{slice_set}
 use Rattle.std.proofs.lemmas.Bool.{cases_eq, cases_lt}
 use Rattle.lfs_model.specs.Checkpoint.{CheckpointValue}
@@ -22,18 +23,9 @@ use Rattle.lfs_segments.specs.Steps.{PutsPlace}
 use Rattle.std.proofs.lemmas.List.{get_or_past}
 use Rattle.lfs_verify.specs.Take.{Looks}
 use Rattle.lfs_verify.specs.declared.fault.MountFault.{MountFault}
-use Rattle.lfs_verify.specs.Faults.{IsTableFault, LacksBlock, LacksTables}
+use Rattle.lfs_verify.specs.Faults.{IsTableFault, LacksBlock, LacksTables, IsBlockFault}
 use Rattle.lfs_verify.proofs.FaultCases.{fault_on}
 use Rattle.lfs_verify.specs.Loading.{IsTakenIn, loaded, numbers_in, HasNoDeadAge, IsUsageUpTo, SaysUsage}
-
--- what stands at an address are bytes
-pub block_bytes : (c : Content) → AllByRecursion IsSector c → (at : ℕ) → IsBytes (block c at)
-block_bytes c all zero = λ i. omega arith
-block_bytes c all (suc at) = go (cell_at c (suc at)) (sector_at c (suc at) all)
-  where
-    go : (x : Cell) → IsSector x → IsBytes (bytes_of x)
-    go None is = λ i. omega arith
-    go (Some bytes) is = is.each
 
 -- a sector that is lent as the device holds it
 module _ (c : Content) (at : ℕ) {bytes : List ℕ} (there : cell_at c at ≡ Some bytes) where
@@ -57,45 +49,30 @@ pub taken_more : {old mid new : UsageTable} {uses : List SegmentUse} {j n : ℕ}
     → (64 * j + n < length mid.segments → new.segments ≡ slice_set mid.segments (64 * j + n) (loaded (get_or uses n no_use)))
     → (length mid.segments ≤ 64 * j + n → new.segments ≡ mid.segments) → new.blocks ≡ mid.blocks → new.last ≡ mid.last
     → IsTakenIn old new uses j (n + 1)
-taken_more {old} {mid} {new} {uses} {j} {n} before own past blocks last = ⊎_elim inside outside
-    (cases_lt (64 * j + n) (length mid.segments))
+taken_more {old} {mid} {new} {uses} {j} {n} before own past blocks last = record {
+  own = λ i low within. ⊎_elim
+      (λ (here : i ≡ n). let size = before.size in let lt : 64 * j + n < length mid.segments = omega (arith, within, here, size) in
+      ap₂ (λ (l : List SegmentNumbers) (a : ℕ). get_or l (64 * j + a) no_segment) (own lt) here
+      ∙ get_or-set_same mid.segments (64 * j + n) x no_segment lt ∙ sym (ap (λ (a : ℕ). loaded (get_or uses a no_use)) here))
+      (λ (ne : i ≡ n → ⊥). other (64 * j + i) (λ h. ne (omega (arith, h))) ∙ before.own i (omega (arith, low, ne)) within)
+      (cases_eq i n);
+  before = λ s low. other s (λ h. omega (arith, h, low)) ∙ before.before s low;
+  after = λ s high. other s (λ h. omega (arith, h, high)) ∙ before.after s (omega (arith, high));
+  size = ⊎_elim (λ (lt : 64 * j + n < length mid.segments). ap length (own lt) ∙ length-set mid.segments (64 * j + n) x)
+      (λ (le : length mid.segments ≤ 64 * j + n). ap length (past le)) (cases_lt (64 * j + n) (length mid.segments)) ∙ before.size;
+  blocks = blocks ∙ before.blocks;
+  last = last ∙ before.last;
+}
   where
-    same_size : length mid.segments ≡ length old.segments
-    same_size = before.size
+    x : SegmentNumbers
+    x = loaded (get_or uses n no_use)
 
-    inside : 64 * j + n < length mid.segments → IsTakenIn old new uses j (n + 1)
-    inside lt =
-        let is = own lt in
-        let x = loaded (get_or uses n no_use) in
-        let other : (s : ℕ) → (s ≡ 64 * j + n → ⊥) → get_or new.segments s no_segment ≡ get_or mid.segments s no_segment =
-        λ s ne. ap (λ (l : List SegmentNumbers). get_or l s no_segment) is ∙ get_or-set_other mid.segments (64 * j + n) s x no_segment ne in
-        record {
-          own = λ i low within. ⊎_elim
-              (λ (here : i ≡ n). ap₂ (λ (l : List SegmentNumbers) (a : ℕ). get_or l (64 * j + a) no_segment) is here
-              ∙ get_or-set_same mid.segments (64 * j + n) x no_segment lt ∙ sym (ap (λ (a : ℕ). loaded (get_or uses a no_use)) here))
-              (λ (ne : i ≡ n → ⊥). other (64 * j + i) (λ h. ne (omega (arith, h))) ∙ before.own i (omega (arith, low, ne)) within)
-              (cases_eq i n);
-          before = λ s low. other s (λ h. omega (arith, h, low)) ∙ before.before s low;
-          after = λ s high. other s (λ h. omega (arith, h, high)) ∙ before.after s (omega (arith, high));
-          size = ap length is ∙ length-set mid.segments (64 * j + n) x ∙ same_size;
-          blocks = blocks ∙ before.blocks;
-          last = last ∙ before.last;
-        }
-
-    outside : length mid.segments ≤ 64 * j + n → IsTakenIn old new uses j (n + 1)
-    outside le =
-        let is = past le in
-        let same : (s : ℕ) → get_or new.segments s no_segment ≡ get_or mid.segments s no_segment =
-        λ s. ap (λ (l : List SegmentNumbers). get_or l s no_segment) is in
-        record {
-          own = λ i low within. same (64 * j + i) ∙ before.own i (let z = same_size in ⊎_elim (λ (here : i ≡ n).
-              absurd (omega (arith, z, le, within, here))) (λ (ne : i ≡ n → ⊥). omega (arith, low, ne)) (cases_eq i n)) within;
-          before = λ s low. same s ∙ before.before s low;
-          after = λ s high. same s ∙ before.after s (omega (arith, high));
-          size = ap length is ∙ same_size;
-          blocks = blocks ∙ before.blocks;
-          last = last ∙ before.last;
-        }
+    other : (s : ℕ) → (s ≡ 64 * j + n → ⊥) → get_or new.segments s no_segment ≡ get_or mid.segments s no_segment
+    other s ne = ⊎_elim
+        (λ (lt : 64 * j + n < length mid.segments). ap (λ (l : List SegmentNumbers). get_or l s no_segment) (own lt)
+        ∙ get_or-set_other mid.segments (64 * j + n) s x no_segment ne)
+        (λ (le : length mid.segments ≤ 64 * j + n). ap (λ (l : List SegmentNumbers). get_or l s no_segment) (past le))
+        (cases_lt (64 * j + n) (length mid.segments))
 
 abbrev on_device : ℕ → ℕ → ℕ → SegmentNumbers
 on_device used live age = record { used = used; live = live; held = 0; age = age; kept = used }
@@ -123,7 +100,7 @@ module _ {old mid new : UsageTable} {uses : List SegmentUse} {j segments : ℕ} 
   whole_entry i low = ⊎_elim
       (λ (within : 64 * j + i < length old.segments). subst IsWhole (sym (taken.own i low within)) refl)
       (λ (past : length old.segments ≤ 64 * j + i).
-      subst IsWhole (sym (get_or_past mid.segments (64 * j + i) no_segment (let size = taken.size in omega (arith, size, past)))) refl)
+      subst IsWhole (sym (get_or_past mid.segments (64 * j + i) no_segment (omega (arith, taken.size, past)))) refl)
       (cases_lt (64 * j + i) (length old.segments))
 
   whole_mid : (s : ℕ) → IsWhole (get_or mid.segments s no_segment)
@@ -142,10 +119,8 @@ module _ {old mid new : UsageTable} {uses : List SegmentUse} {j segments : ℕ} 
   pub usage_more : 2 ≤ at → IsUsageUpTo (j + 1) segments new
   usage_more above = record {
     size = new_size ∙ is.size;
-    own = λ i lt. ⊎_elim
-        (λ (here : i ≡ j). let own = puts.address.own in subst (λ (a : ℕ). 2 ≤ address_of new a) (sym here) (omega (arith, own, above)))
-        (λ (ne : i ≡ j → ⊥). let was = is.own i (omega (arith, lt, ne)) in let same = same_address i ne in omega (arith, was, same))
-        (cases_eq i j);
+    own = below_more _ _ (λ i lt. subst (λ (a : ℕ). 2 ≤ a) (sym (same_address i (λ h. omega (arith, h, lt)))) (is.own i lt))
+        (subst (λ (a : ℕ). 2 ≤ a) (sym puts.address.own) above);
     none = λ i le. (let ne : i ≡ j → ⊥ = λ h. omega (arith, h, le) in same_address i ne ∙ is.none i (omega (arith, le)));
     past = λ s le. same_numbers s ∙ taken.after s (omega (arith, le)) ∙ is.past s (omega (arith, le));
     last = puts.last ∙ taken.last ∙ is.last;
@@ -163,52 +138,38 @@ module _ {old mid new : UsageTable} {uses : List SegmentUse} {j segments : ℕ} 
     unfolding address
     block_is = ap (block c) points ∙ there
 
-    at_block : (P : ℕ → ℕ → Type 0) → (i : ℕ) → i < 64 → P j i → P ((64 * j + i) / 64) ((64 * j + i) % 64)
-    at_block P i lt p =
-        let a : j ≡ (64 * j + i) / 64 = omega arith in
-        let b : i ≡ (64 * j + i) % 64 = omega arith in
-        subst (λ (x : ℕ). P x ((64 * j + i) % 64)) a (subst (P j) b p)
-
     numbers_are : (i : ℕ) → i < 64 → loaded (get_or uses i no_use) ≡ numbers_in c k (64 * j + i)
     numbers_are i lt =
         let w = uses_are bytes count uses are_bytes long spelt i lt in
-        at_block (λ a b. loaded (get_or uses i no_use) ≡ on_device (half ((view c k).block (Usage a)) (4 * b))
+        at_block j (λ a b. loaded (get_or uses i no_use) ≡ on_device (half ((view c k).block (Usage a)) (4 * b))
         (half ((view c k).block (Usage a)) (4 * b + 1)) (word ((view c k).block (Usage a)) (2 * b + 1))) i lt
         (built _ _ _ _ _ _ (sym w.used ∙ ap (λ (s : List ℕ). half s (4 * i)) (sym block_is)) (sym w.live
         ∙ ap (λ (s : List ℕ). half s (4 * i + 1)) (sym block_is)) (sym w.age ∙ ap (λ (s : List ℕ). word s (2 * i + 1)) (sym block_is)))
       where
         built : (u l a u' l' a' : ℕ) → u ≡ u' → l ≡ l' → a ≡ a' → on_device u l a ≡ on_device u' l' a'
-        built u l a u' l' a' e f g = ap (λ (x : ℕ). on_device x l a) e ∙ ap (λ (x : ℕ). on_device u' x a) f
-            ∙ ap (λ (x : ℕ). on_device u' l' x) g
+        built u l a u' l' a' e f g = cc
 
     no_dead_age : stale ≡ false → HasNoDeadAge c k j
     no_dead_age off i lt none =
         let n = numbers_are i lt in
-        let f = fresh off i lt in
         let live = ap (λ (x : SegmentNumbers). x.live) n in
         let age = ap (λ (x : SegmentNumbers). x.age) n in
-        sym age ∙ f (live ∙ none)
+        sym age ∙ (fresh off i lt) (live ∙ none)
 
     pub says_more : SaysUsage c k (j + 1) new
     says_more = record {
       numbers = λ s lt inside. ⊎_elim
-          (λ (low : s < 64 * j). same_numbers s ∙ taken.before s low ∙ says.numbers s low (let z = new_size in omega (arith, inside, z)))
+          (λ (low : s < 64 * j). same_numbers s ∙ taken.before s low ∙ says.numbers s low (omega (arith, inside, new_size)))
           (λ (high : 64 * j ≤ s).
           let i = s - 64 * j in
           let here : 64 * j + i ≡ s = omega (arith, high) in
           let low : i < 64 = omega (arith, lt, high) in
           subst (λ (x : ℕ). get_or new.segments x no_segment ≡ numbers_in c k x) here
-          (same_numbers (64 * j + i) ∙ taken.own i low (let z = new_size in omega (arith, inside, z, high)) ∙ numbers_are i low))
+          (same_numbers (64 * j + i) ∙ taken.own i low (omega (arith, inside, new_size, high)) ∙ numbers_are i low))
           (cases_lt s (64 * j));
-      address = λ i lt. ⊎_elim
-          (λ (here : i ≡ j). subst (λ (a : ℕ). address_of new a ≡ get_or k.usage a 0) (sym here) (puts.address.own ∙ sym points))
-          (λ (ne : i ≡ j → ⊥). same_address i ne ∙ says.address i (omega (arith, lt, ne)))
-          (cases_eq i j);
-      stale = λ i lt off. ⊎_elim
-          (λ (here : i ≡ j).
-          subst (λ (a : ℕ). HasNoDeadAge c k a) (sym here) (no_dead_age (sym puts.stale.own ∙ ap (stale_of new) (sym here) ∙ off)))
-          (λ (ne : i ≡ j → ⊥). says.stale i (omega (arith, lt, ne)) (sym (same_stale i ne) ∙ off))
-          (cases_eq i j);
+      address = below_more _ _ (λ i lt. same_address i (λ h. omega (arith, h, lt)) ∙ says.address i lt) (puts.address.own ∙ sym points);
+      stale = below_more _ _ (λ i lt off. says.stale i lt (sym (same_stale i (λ h. omega (arith, h, lt))) ∙ off))
+          (λ off. no_dead_age (sym puts.stale.own ∙ off));
     }
 
 -- ---- where the content holds a log map, its usage blocks can be read
@@ -256,15 +217,19 @@ says_nothing c k t = record {
   stale = λ i lt off. absurd (omega (arith, lt));
 }
 
+-- a block that isn't there, where the tables need it
+pub block_fault : (d d' : DeviceState) (k : CheckpointValue) {n : ℕ} (at : ℕ) → n ≡ k.segments
+    → (LacksBlock d d' k.segments at → LacksTables d d' k) → (f : MountFault) → IsBlockFault d d' n at f → IsTableFault d d' k f
+block_fault d d' k at count lack = fault_on _ _ _ _ (λ rose. rose) (λ lacks. lack (subst (λ (n : ℕ). LacksBlock d d' n at) count lacks))
+
 pub fault_then : {a b : DeviceState} (c : DeviceState) (k : CheckpointValue) → Looks a b → (f : MountFault) → IsTableFault b c k f
     → IsTableFault a c k f
-fault_then {a} {b} c k looks f =
-    fault_on (b.failures < c.failures) (LacksTables b c k) (a.failures < c.failures) (LacksTables a c k)
-    (λ rose. let before = looks.carries.failures in omega (arith, rose, before))
-    (λ lacks m keeps st. lacks m keeps (subst (λ (x : Content). HoldsAt x k m) (sym looks.untouched.content) st)) f
+fault_then c k looks = fault_on _ _ _ _ (λ rose. omega (arith, rose, looks.carries.failures))
+    (λ lacks m keeps st. lacks m keeps (subst (λ (x : Content). HoldsAt x k m) (sym looks.untouched.content) st))
 
-pub says_then : {a b : DeviceState} {k : CheckpointValue} {j l : ℕ} {t u : UsageTable} → Looks a b → SaysUsage a.content k j t
-    → (SaysUsage b.content k j t → SaysUsage b.content k l u) → SaysUsage a.content k l u
-says_then {k} {j} {l} {t} {u} looks says more =
-    subst (λ (x : Content). SaysUsage x k l u) looks.untouched.content
-    (more (subst (λ (x : Content). SaysUsage x k j t) (sym looks.untouched.content) says))
+-- what the tables say of a content, through a call that only reads
+pub says_then : {T : Type 0} (Says : Content → ℕ → T → Type 0) {a b : DeviceState} {j l : ℕ} {t u : T} → Looks a b → Says a.content j t
+    → (Says b.content j t → Says b.content l u) → Says a.content l u
+says_then Says {j} {l} {t} {u} looks says more =
+    subst (λ (x : Content). Says x l u) looks.untouched.content
+    (more (subst (λ (x : Content). Says x j t) (sym looks.untouched.content) says))

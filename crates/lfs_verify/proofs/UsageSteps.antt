@@ -1,6 +1,7 @@
 -- The usage blocks, and the tables of what they say.
+use Rattle.lfs_verify.proofs.Places.{put_own, put_before}
 use Rattle.std.proofs.Common.{◌≡◌, ◌<◌, ◌≤◌, ◌↔◌, ◌⊎◌, ⊎_elim, inr, ◌+◌, ◌-◌, ◌*◌, ◌/◌, ◌%◌, ℕ, zero, suc, true, false, List, [], length}
-use Rattle.std.proofs.Common.{get_or, set, Some, None, refl, sym, ◌∙◌, ap, subst, arith}
+use Rattle.std.proofs.Common.{get_or, set, Some, None, refl, sym, ◌∙◌, ap, subst, arith, Bool}
 use Rattle.std.specs.List.{AllByRecursion}
 use Rattle.std.proofs.lemmas.Bool.{cases_eq, cases_lt}
 use Rattle.std.proofs.lemmas.List.{get_or-set_same, get_or-set_other, length-set}
@@ -16,15 +17,15 @@ use Rattle.lfs_model.proofs.Numbers.{IsBytes}
 use Rattle.lfs_model.proofs.Reach.{address_linked}
 use Rattle.lfs_model.proofs.UsageStage.{usages, usage_block_of}
 use Rattle.lfs_model.proofs.Words.{IsUsageBlock, usage_block_found, usage_block_some, uses_are}
-use Rattle.lfs_verify.specs.Take.{ReadsContent}
+use Rattle.lfs_verify.specs.Take.{ReadsContent, Advances, TakesAddress, TakesBlock}
 use Rattle.lfs_verify.specs.UsageTables.{CopiesUses, SaysUpTo}
 use Rattle.lfs_verify.specs.Walk as walk
-use Rattle.lfs_verify.specs.Walk.{Walked, IsUnmarked, IsBounded}
-use Rattle.lfs_verify.proofs.Steps.{skip, fresh_of, within_1}
-use Rattle.lfs_verify.proofs.Takes.{took, refused}
+use Rattle.lfs_verify.specs.Walk.{Walked, IsBounded}
+use Rattle.lfs_verify.proofs.Steps.{fresh_of, within}
+use Rattle.lfs_verify.proofs.Takes.{step_goes, takes_none, takes_bad, takes_good, block_taken}
 
 -- what a device holds are bytes
-block_bytes : (c : Content) → AllByRecursion IsSector c → (at : ℕ) → IsBytes (block c at)
+pub block_bytes : (c : Content) → AllByRecursion IsSector c → (at : ℕ) → IsBytes (block c at)
 block_bytes c all zero = λ i. omega arith
 block_bytes c all (suc at) = go (cell_at c (suc at)) (sector_at c (suc at) all)
   where
@@ -32,10 +33,10 @@ block_bytes c all (suc at) = go (cell_at c (suc at)) (sector_at c (suc at) all)
     go None is = λ i. omega arith
     go (Some bytes) is = is.each
 
-pub read_bytes : (d : DeviceState) {d' : DeviceState} {c : Content} (at : ℕ) {out : List ℕ} → AllByRecursion IsSector d.content
-    → ReadsContent d d' c
-    → block c at ≡ out → IsBytes out
-read_bytes d at all reads is = subst IsBytes (ap (λ (x : Content). block x at) reads.content ∙ is) (block_bytes d.content all at)
+pub taken_bytes : (d : DeviceState) {d' : DeviceState} (c : Content) (m m1 : List ℕ) (at step : ℕ) (out : List ℕ) {taken : Bool}
+    → AllByRecursion IsSector d.content → ReadsContent d d' c → TakesBlock c m m1 at step out taken → taken ≡ true → IsBytes out
+taken_bytes d c m m1 at step out all reads t on =
+    subst IsBytes (ap (λ (x : Content). block x at) reads.content ∙ (block_taken c m m1 at step out t on).1) (block_bytes d.content all at)
 
 pub uses_none : {uses : List SegmentUse} {used live : List ℕ} {at : ℕ} → CopiesUses uses used live used live at 0
 uses_none = record {
@@ -47,36 +48,24 @@ uses_none = record {
   live_size = refl;
 }
 
--- one number more at a place
-put : (mid : List ℕ) (at n x : ℕ) {f : ℕ → ℕ} (size : ℕ) → at + n < length mid → x ≡ f n
-    → ((i : ℕ) → i < n → at + i < size → get_or mid (at + i) 0 ≡ f i)
-    → (i : ℕ) → i < n + 1 → at + i < size → get_or (set mid (at + n) x) (at + i) 0 ≡ f i
-put mid at n x {f} size inside is was i lt within = ⊎_elim
-    (λ (here : i ≡ n). ap (λ (a : ℕ). get_or (set mid (at + n) x) (at + a) 0) here ∙ get_or-set_same mid (at + n) x 0 inside ∙ is
-    ∙ ap f (sym here))
-    (λ (ne : i ≡ n → ⊥). get_or-set_other mid (at + n) (at + i) x 0 (λ h. ne (omega (arith, h))) ∙ was i (omega (arith, lt, ne)) within)
-    (cases_eq i n)
-
 module _ {uses : List SegmentUse} {used live used_then live_then : List ℕ} {at n : ℕ}
     (was : CopiesUses uses used live used_then live_then at n) where
   pub uses_more : (x y : ℕ) → at + n < length used_then → at + n < length live_then → x ≡ (get_or uses n no_use).used
       → y ≡ (get_or uses n no_use).live
       → CopiesUses uses used live (set used_then (at + n) x) (set live_then (at + n) y) at (n + 1)
   uses_more x y inside inside_live is is_live = record {
-    used_own = put used_then at n x (length used) inside is was.used_own;
-    live_own = put live_then at n y (length used) inside_live is_live was.live_own;
-    used_before = λ s lt. get_or-set_other used_then (at + n) s x 0 (λ h. omega (arith, h, lt)) ∙ was.used_before s lt;
-    live_before = λ s lt. get_or-set_other live_then (at + n) s y 0 (λ h. omega (arith, h, lt)) ∙ was.live_before s lt;
+    used_own = λ i lt within. put_own used_then at n x (λ a. (get_or uses a no_use).used) inside is i lt (λ low. was.used_own i low within);
+    live_own = λ i lt within. put_own live_then at n y (λ a. (get_or uses a no_use).live) inside_live is_live i lt
+        (λ low. was.live_own i low within);
+    used_before = λ s lt. put_before used_then at n x s lt ∙ was.used_before s lt;
+    live_before = λ s lt. put_before live_then at n y s lt ∙ was.live_before s lt;
     used_size = length-set used_then (at + n) x ∙ was.used_size;
     live_size = length-set live_then (at + n) y ∙ was.live_size;
   }
 
   pub uses_past : length used_then ≤ at + n → CopiesUses uses used live used_then live_then at (n + 1)
   uses_past le =
-      let size = was.used_size in
-      let low : (i : ℕ) → i < n + 1 → at + i < length used → i < n = λ i lt within.
-      ⊎_elim (λ (here : i ≡ n). absurd (omega (arith, here, within, le, size))) (λ (ne : i ≡ n → ⊥). omega (arith, lt, ne))
-      (cases_eq i n) in
+      let low : (i : ℕ) → i < n + 1 → at + i < length used → i < n = λ i lt within. omega (arith, lt, within, le, was.used_size) in
       record {
         used_own = λ i lt within. was.used_own i (low i lt within) within;
         live_own = λ i lt within. was.live_own i (low i lt within) within;
@@ -98,22 +87,17 @@ uses_same {uses} {used} {live} b a' {at} n p q is =
 abbrev Says : ℕ → List ℕ → Type 0
 Says count bytes = (length bytes ≡ 512) × IsUsageBlock count bytes
 
+-- the block of a segment, and its place there
+pub at_block : (j : ℕ) (P : ℕ → ℕ → Type 0) (i : ℕ) → i < 64 → P j i → P ((64 * j + i) / 64) ((64 * j + i) % 64)
+at_block j P i lt p =
+    let a : j ≡ (64 * j + i) / 64 = omega arith in
+    let b : i ≡ (64 * j + i) % 64 = omega arith in
+    subst (λ (x : ℕ). P x ((64 * j + i) % 64)) a (subst (P j) b p)
+
+of_block : (j : ℕ) (P : ℕ → ℕ → Type 0) (i : ℕ) → i < 64 → P ((64 * j + i) / 64) ((64 * j + i) % 64) → P j i
+of_block j P i lt = at_block j (λ a b. P a b → P j i) i lt (λ p. p)
+
 module _ (c : Content) (k : CheckpointValue) (j : ℕ) where
-  bytes_at : List ℕ
-  bytes_at = block c (address c k (Usage j))
-
-  at_block : (P : ℕ → ℕ → Type 0) (i : ℕ) → i < 64 → P j i → P ((64 * j + i) / 64) ((64 * j + i) % 64)
-  at_block P i lt p =
-      let a : j ≡ (64 * j + i) / 64 = omega arith in
-      let b : i ≡ (64 * j + i) % 64 = omega arith in
-      subst (λ (x : ℕ). P x ((64 * j + i) % 64)) a (subst (P j) b p)
-
-  of_block : (P : ℕ → ℕ → Type 0) (i : ℕ) → i < 64 → P ((64 * j + i) / 64) ((64 * j + i) % 64) → P j i
-  of_block P i lt p =
-      let a : (64 * j + i) / 64 ≡ j = omega arith in
-      let b : (64 * j + i) % 64 ≡ i = omega arith in
-      subst (λ (x : ℕ). P x i) a (subst (P ((64 * j + i) / 64)) b p)
-
   abbrev used_of : ℕ → ℕ → ℕ
   used_of a b = half (block c (address c k (Usage a))) (4 * b)
 
@@ -123,43 +107,45 @@ module _ (c : Content) (k : CheckpointValue) (j : ℕ) where
   abbrev age_of : ℕ → ℕ → ℕ
   age_of a b = word (block c (address c k (Usage a))) (2 * b + 1)
 
+  -- what a block says at this place of a segment
+  abbrev IsUse : ℕ → ℕ → ℕ → Type 0
+  IsUse s a b = (used_of a b ≤ 64) × ((used_of a b ≡ 0) ⊎ ((0 < live_of a b) × (live_of a b < used_of a b)))
+      × (used_of a b ≡ 0 → live_of a b ≡ 0) × (k.segments ≤ s → (used_of a b ≡ 0) × (age_of a b ≡ 0))
+
   pub block_good : Says (k.segments - 64 * j) (block c (address c k (Usage j))) → walk.IsUsageBlock (view c k) j
   block_good says = record {
     readable = says.0;
-    each = λ i lt. record {
-      fit = at_block (λ a b. used_of a b ≤ 64) i lt (says.1.fit i lt);
-      less = at_block (λ a b. (used_of a b ≡ 0) ⊎ ((0 < live_of a b) × (live_of a b < used_of a b))) i lt (says.1.less i lt);
-      both = at_block (λ a b. used_of a b ≡ 0 → live_of a b ≡ 0) i lt (says.1.both i lt);
-      past = λ le. at_block (λ a b. (used_of a b ≡ 0) × (age_of a b ≡ 0)) i lt (says.1.past i (omega (arith, le)) lt);
-    };
+    each = λ i lt.
+        let u = at_block j (IsUse (64 * j + i)) i lt
+        (says.1.fit i lt, says.1.less i lt, says.1.both i lt, λ le. says.1.past i (omega (arith, le)) lt) in
+        record { fit = u.0; less = u.1; both = u.2; past = u.3 };
   }
 
   pub good_block : walk.IsUsageBlock (view c k) j → Says (k.segments - 64 * j) (block c (address c k (Usage j)))
-  good_block good = (
-    good.readable,
-    record {
-      fit = λ i lt. of_block (λ a b. used_of a b ≤ 64) i lt (good.each i lt).fit;
-      less = λ i lt. of_block (λ a b. (used_of a b ≡ 0) ⊎ ((0 < live_of a b) × (live_of a b < used_of a b))) i lt (good.each i lt).less;
-      both = λ i lt. of_block (λ a b. used_of a b ≡ 0 → live_of a b ≡ 0) i lt (good.each i lt).both;
-      past = λ i le lt. of_block (λ a b. (used_of a b ≡ 0) × (age_of a b ≡ 0)) i lt ((good.each i lt).past (omega (arith, le)));
-    },
-  )
+  good_block good =
+      let use_at = λ (i : ℕ) (lt : i < 64). of_block j (IsUse (64 * j + i)) i lt
+      (let u = good.each i lt in (u.fit, u.less, u.both, u.past)) in (
+        good.readable,
+        record {
+          fit = λ i lt. (use_at i lt).0;
+          less = λ i lt. (use_at i lt).1;
+          both = λ i lt. (use_at i lt).2;
+          past = λ i le lt. (use_at i lt).3 (omega (arith, le));
+        },
+      )
 
-module _ (c : Content) (k : CheckpointValue) (j : ℕ) (low : j < 16) (n : ℕ) (count : n ≡ k.segments) (p : ℕ)
+module _ (c : Content) (k : CheckpointValue) (j : ℕ) (low : j < 16) {n : ℕ} (count : n ≡ k.segments) {p : ℕ}
     (val : p ≡ get_or k.usage j 0) where
   usage_at : p ≡ address c k (Usage j)
   usage_at = val ∙ sym (address_linked c k (Usage j))
 
   -- past the last segment
-  pub usage_passed : p ≡ 0 → {m : List ℕ} → Walked (view c k) m j → Walked (view c k) m (j + 1)
-  usage_passed none {m} w = subst (Walked (view c k) m) (omega arith) (skip w (Usage j) refl low (sym usage_at ∙ none))
-
   pub says_passed : n ≤ 64 * j → (used live : List ℕ) → SaysUpTo (view c k) used live j → SaysUpTo (view c k) used live (j + 1)
   says_passed past used live was s lt within = was s (omega (arith, within, past, count)) within
 
   pub usage_extra : n ≤ 64 * j → (p ≡ 0 → ⊥) → Usages (view c k) → ⊥
   usage_extra past some stage =
-      let reached : Reached (view c k) (Usage j) = let e = usage_at in omega arith in
+      let reached : Reached (view c k) (Usage j) = omega (arith, usage_at) in
       let lt : j < (k.segments + 63) / 64 = (stage.addresses j).0 reached in
       omega arith
 
@@ -167,62 +153,56 @@ module _ (c : Content) (k : CheckpointValue) (j : ℕ) (low : j < 16) (n : ℕ) 
   usage_missing inside none stage =
       let lt : j < (k.segments + 63) / 64 = omega arith in
       let reached : Reached (view c k) (Usage j) = (stage.addresses j).1 lt in
-      let e = usage_at in omega arith
-
-  there : Says (n - 64 * j) (block c p) → walk.IsUsageBlock (view c k) j
-  there says = block_good c k j (subst (λ (x : ℕ). Says (x - 64 * j) (block c (address c k (Usage j)))) count
-      (subst (Says (n - 64 * j)) (ap (block c) usage_at) says))
-
-  back : walk.IsUsageBlock (view c k) j → Says (n - 64 * j) (block c p)
-  back good = subst (Says (n - 64 * j)) (sym (ap (block c) usage_at))
-      (subst (λ (x : ℕ). Says (x - 64 * j) (block c (address c k (Usage j)))) (sym count) (good_block c k j good))
+      omega (arith, usage_at)
 
   good_of : Usages (view c k) → Reached (view c k) (Usage j) → walk.IsUsageBlock (view c k) j
   good_of stage reached = block_good c k j (stage.readable j reached, usage_block_of (view c k) stage j)
 
-  -- a block that can't be taken
-  usage_refused : (p ≡ 0 → ⊥) → (m m1 : List ℕ) → (IsUnmarked m p → Says (n - 64 * j) (block c p) → ⊥) → Walked (view c k) m j
-      → Usages (view c k) → ⊥
-  usage_refused some m m1 not w stage =
-      refused m1 w (Usage j) refl low usage_at c (Says (n - 64 * j)) (there, back) false refl (omega arith, not) stage.fresh (good_of stage)
+  pub usage_goes : (m m1 : List ℕ) (x : Bool) → TakesAddress (Says (n - 64 * j)) c m m1 p j x
+      → Advances (view c k) m m1 j (j + 1) (Usages (view c k)) x
+  usage_goes m m1 =
+      let says_at = λ (x : ℕ). Says (x - 64 * j) (block c (address c k (Usage j))) in
+      step_goes (view c k) m m1 (Usage j) refl (omega arith) low usage_at c (Says (n - 64 * j))
+      (λ says. block_good c k j (subst says_at count says), λ good. subst says_at (sym count) (good_block c k j good))
+      (Usages (view c k)) (λ stage. stage.fresh) good_of
 
-  pub usage_missed : (p ≡ 0 → ⊥) → {m : List ℕ} (m1 : List ℕ) → (IsUnmarked m p → block c p ≡ []) → Walked (view c k) m j
-      → Usages (view c k) → ⊥
-  usage_missed some {m} m1 none = usage_refused some m m1 (λ o says. let e = sym (ap length (none o)) ∙ says.0 in absurd (cc))
+  module _ (some : p ≡ 0 → ⊥) (m m1 out : List ℕ) {taken : Bool} (t : TakesBlock c m m1 p j out taken) where
+    pub usage_missed : taken ≡ false → Advances (view c k) m m1 j (j + 1) (Usages (view c k)) false
+    usage_missed off = usage_goes m m1 false (takes_none c m m1 p j out t (Says (n - 64 * j)) off (omega (arith, some))
+        (λ none says. absurd (cc (sym (ap length none) ∙ says.0))))
 
-  module _ (out : List ℕ) (read : block c p ≡ out) (long : length out ≡ 512) (bytes : IsBytes out) where
-    pub usage_undecoded : (p ≡ 0 → ⊥) → (m m1 : List ℕ) → None ≡ usage_in (n - 64 * j) out → Walked (view c k) m j → Usages (view c k) → ⊥
-    usage_undecoded some m m1 none = usage_refused some m m1 (λ o says.
-        let e = none ∙ usage_block_some out bytes long (subst (IsUsageBlock (n - 64 * j)) read says.1) in absurd (cc))
+    module _ (on : taken ≡ true) (long : length out ≡ 512) (bytes : IsBytes out) where
+      pub usage_undecoded : None ≡ usage_in (n - 64 * j) out → Advances (view c k) m m1 j (j + 1) (Usages (view c k)) false
+      usage_undecoded none = usage_goes m m1 false (takes_bad c m m1 p j out t (Says (n - 64 * j)) on (omega (arith, some))
+          (λ says. absurd (cc (none ∙ usage_block_some out bytes long says.1))))
 
-    module _ (us : List SegmentUse) (spelt : Some us ≡ usage_in (n - 64 * j) out) where
-      pub usage_taken : {m m1 : List ℕ} → IsUnmarked m p → m1 ≡ set m p (suc j) → Walked (view c k) m j → Walked (view c k) m1 (j + 1)
-      usage_taken {m} {m1} o marked w =
-          let says : Says (n - 64 * j) out = (long, usage_block_found out (n - 64 * j) us bytes long (sym spelt)) in
-          subst (Walked (view c k) m1) (omega arith) (took m1 w (Usage j) refl low usage_at c (Says (n - 64 * j)) (there, back) true refl
-          (inr (o, subst (Says (n - 64 * j)) (sym read) says, marked)))
+      module _ (us : List SegmentUse) (spelt : Some us ≡ usage_in (n - 64 * j) out) where
+        pub usage_taken : Advances (view c k) m m1 j (j + 1) (Usages (view c k)) true
+        usage_taken = usage_goes m m1 true (takes_good c m m1 p j out t (Says (n - 64 * j)) on
+            (long, usage_block_found out (n - 64 * j) us bytes long (sym spelt)))
 
-      here : block c (address c k (Usage j)) ≡ out
-      here = sym (ap (block c) usage_at) ∙ read
+        here : block c (address c k (Usage j)) ≡ out
+        here = sym (ap (block c) usage_at) ∙ (block_taken c m m1 p j out t on).1
 
-      pub says_taken : {used live used_then live_then : List ℕ} → length used ≡ k.segments
-          → CopiesUses us used live used_then live_then (64 * j) 64
-          → SaysUpTo (view c k) used live j → SaysUpTo (view c k) used_then live_then (j + 1)
-      says_taken {used} {used_then} {live_then} size copies was s lt within = ⊎_elim
-          (λ (before : s < 64 * j). let w = was s before within in (copies.used_before s before ∙ w.0, copies.live_before s before ∙ w.1))
-          (λ (past : 64 * j ≤ s).
-          let i = s - 64 * j in
-          let e : 64 * j + i ≡ s = omega (arith, past) in
-          let few : i < 64 = omega (arith, lt, past) in
-          let inside : 64 * j + i < length used = omega (arith, e, within, size) in
-          let words = uses_are out (n - 64 * j) us bytes long (sym spelt) i few in
-          subst (λ (x : ℕ). (get_or used_then x 0 ≡ used_in (view c k) x) × (get_or live_then x 0 ≡ live_in (view c k) x)) e (
-            at_block c k j (λ a b. get_or used_then (64 * j + i) 0 ≡ used_of c k j a b) i few
-                (copies.used_own i few inside ∙ sym words.used ∙ ap (λ (b : List ℕ). half b (4 * i)) (sym here)),
-            at_block c k j (λ a b. get_or live_then (64 * j + i) 0 ≡ live_of c k j a b) i few
-                (copies.live_own i few inside ∙ sym words.live ∙ ap (λ (b : List ℕ). half b (4 * i + 1)) (sym here)),
-          ))
-          (cases_lt s (64 * j))
+        pub says_taken : {used live used_then live_then : List ℕ} → length used ≡ k.segments
+            → CopiesUses us used live used_then live_then (64 * j) 64
+            → SaysUpTo (view c k) used live j → SaysUpTo (view c k) used_then live_then (j + 1)
+        says_taken {used} {used_then} {live_then} size copies was s lt within = ⊎_elim
+            (λ (before : s < 64 * j).
+            let w = was s before within in (copies.used_before s before ∙ w.0, copies.live_before s before ∙ w.1))
+            (λ (past : 64 * j ≤ s).
+            let i = s - 64 * j in
+            let e : 64 * j + i ≡ s = omega (arith, past) in
+            let few : i < 64 = omega (arith, lt, past) in
+            let inside : 64 * j + i < length used = omega (arith, e, within, size) in
+            let words = uses_are out (n - 64 * j) us bytes long (sym spelt) i few in
+            subst (λ (x : ℕ). (get_or used_then x 0 ≡ used_in (view c k) x) × (get_or live_then x 0 ≡ live_in (view c k) x)) e (
+              at_block j (λ a b. get_or used_then (64 * j + i) 0 ≡ used_of c k j a b) i few
+                  (copies.used_own i few inside ∙ sym words.used ∙ ap (λ (b : List ℕ). half b (4 * i)) (sym here)),
+              at_block j (λ a b. get_or live_then (64 * j + i) 0 ≡ live_of c k j a b) i few
+                  (copies.live_own i few inside ∙ sym words.live ∙ ap (λ (b : List ℕ). half b (4 * i + 1)) (sym here)),
+            ))
+            (cases_lt s (64 * j))
 
 pub is_extra : (j n p : ℕ) (k : CheckpointValue) → n ≡ k.segments → p ≡ get_or k.usage j 0 → n ≤ 64 * j → p ≡ 0
     → (0 < get_or k.usage j 0) ↔ (j < (k.segments + 63) / 64)
@@ -236,7 +216,7 @@ is_needed j n p k count val inside some = (λ x. omega arith, λ x. omega arith)
 pub usages_of : (c : Content) (k : CheckpointValue) → k.segments ≤ 1024
     → ((j : ℕ) → j < 16 → (0 < get_or k.usage j 0) ↔ (j < (k.segments + 63) / 64))
     → {marks : List ℕ} → Walked (view c k) marks 16 → IsBounded (view c k) → Usages (view c k)
-usages_of c k few is_there {marks} w bounded = usages c k reached all (fresh_of w bounded 1 within_1)
+usages_of c k few is_there {marks} w bounded = usages c k reached all (fresh_of w bounded 1 (λ e b. (within e b).0))
     (λ j some. (w.good (Usage j) (bounded (Usage j) some) (bounded (Usage j) some) some).readable)
     (λ j lt. let some = all j lt in (good_block c k j (w.good (Usage j) (bounded (Usage j) some) (bounded (Usage j) some) some)).1)
   where

@@ -3,7 +3,7 @@ use Rattle.std.proofs.Common.{subst, ⊎_elim, ◌≡◌, ◌<◌, ◌≤◌, �
 use Rattle.std.proofs.Common.{◌∙◌, ap, arith}
 use Rattle.lfs_model.specs.Checkpoint.{CheckpointValue, FitsCheckpoint}
 use Rattle.lfs_model.specs.Content.{Content, newest}
-use Rattle.lfs_model.specs.Damage.{IsDamaged}
+use Rattle.lfs_model.specs.Damage.{stage, IsDamaged}
 use Rattle.lfs_model.specs.Device.{DeviceState, IsLawful, Only}
 use Rattle.lfs_model.specs.Reach.{View, view}
 use Rattle.lfs_model.specs.Slots.{IsNewest, HasNoCheckpoint}
@@ -22,8 +22,7 @@ use Rattle.lfs_verify.specs.Loading.{HasTables, HoldsTables, SaysTables}
 use Rattle.lfs_verify.specs.Totals.{CountsLog}
 use Rattle.lfs_verify.specs.Verified.{HoldsCounted, IsVerified, IsDamagedIn, IsFound, IsLogDamage, IsRefusedLog, IsRefusedWalk}
 use Rattle.lfs_verify.specs.Verified.{IsWalkDamage, LacksLogMap, StandsWhereEnough, lacks_clean, stage_fails}
-use Rattle.lfs_verify.proofs.CodeSteps.{below_1, below_next, stage_1, stage_2, stage_3, stage_4, stage_5, stage_6, stage_7, stage_8}
-use Rattle.lfs_verify.proofs.CodeSteps.{stage_9}
+use Rattle.lfs_verify.proofs.CodeSteps.{below_1, below_next}
 
 some_is : {a b : CheckpointValue} → Some a ≡ Some b → a ≡ b
 some_is e = cc
@@ -37,13 +36,13 @@ module _ {d : DeviceState} (lawful : IsLawful d) where
   no_newest none = (newest_fits d.content lawful.now).1.1 none
 
   pub below_all : d.size < 4098 → IsTooSmall d.content
-  below_all low = inl (let long = lawful.size in omega (arith, low, long))
+  below_all low = inl (omega (arith, low, lawful.size))
 
   pub too_few : {k : CheckpointValue} → IsNewest d.content k → d.size < 2 + 64 * k.segments → IsTooSmall d.content
-  too_few {k} is small = inr (k, newest_is is, (let long = lawful.size in omega (arith, small, long)))
+  too_few {k} is small = inr (k, newest_is is, omega (arith, small, lawful.size))
 
   pub without_checkpoint : 4098 ≤ d.size → HasNoCheckpoint d.content → IsWithoutCheckpoint d.content
-  without_checkpoint least none = ((let long = lawful.size in omega (arith, least, long)), no_newest none)
+  without_checkpoint least none = (omega (arith, least, lawful.size), no_newest none)
 
 -- ---- the walk
 -- where all of its stages hold, the content holds the log map that is read from it
@@ -65,7 +64,7 @@ module _ {old : DeviceState} (new : DeviceState) (lawful : IsLawful old) (k : Ch
   read_content = record { content = refl; keeps = keeps }
 
   long_enough : 2 + 64 * k.segments ≤ length old.content
-  long_enough = let long = lawful.size in omega (arith, inside, long)
+  long_enough = omega (arith, inside, lawful.size)
 
   module _ {enough : Bool}
       (says : Stages (view old.content k) × HoldsBelow (view old.content k) 10 × ((enough ≡ true) ↔ EnoughClean (view old.content k))) where
@@ -88,13 +87,14 @@ module _ {c : Content} (m : LogMap) (is : StandsLog c m) where
 
   -- none of the first nine fails
   pub none_fails : (code : ℕ) → code < 10 → IsDamagedIn c code → ⊥
+  unfolding stage
   none_fails code low fails = fails.damaged.1 (nine (view c fails.checkpoint) (stages_of fails.newest) code low)
     where
       nine : (v : View) → Stages v → HoldsBelow v 10
       nine v s = below_next v 9 (below_next v 8
           (below_next v 7 (below_next v 6 (below_next v 5 (below_next v 4 (below_next v 3 (below_next v 2 (below_next v 1 (below_1 v)
-          ((stage_1 v).1 s.usages)) ((stage_2 v).1 s.rows)) ((stage_3 v).1 s.maps)) ((stage_4 v).1 s.inodes)) (stage_5 s.roots))
-          (stage_6 s.leaves)) ((stage_7 v).1 s.blocks)) ((stage_8 v).1 s.named)) ((stage_9 v).1 s.counted)
+          s.usages) s.rows) s.maps) s.inodes) s.roots)
+          s.leaves) s.blocks) s.named) s.counted
 
 pub stands_for_none : LacksLogMap
 stands_for_none c few m is =
@@ -105,7 +105,7 @@ stands_for_none c few m is =
 -- ---- refusals
 refused_behind : {a b : DeviceState} (c : DeviceState) → Looks a b → (f : MountFault) → IsRefusedWalk b c f → IsRefusedWalk a c f
 refused_behind c looks fault.NoMemory is = tt
-refused_behind c looks fault.Device is = let before = looks.carries.failures in omega (arith, is, before)
+refused_behind c looks fault.Device is = omega (arith, is, looks.carries.failures)
 refused_behind c looks fault.TooSmall is = λ keeps. subst IsTooSmall looks.untouched.content (is keeps)
 refused_behind c looks fault.NoCheckpoint is = λ keeps. subst IsWithoutCheckpoint looks.untouched.content (is keeps)
 refused_behind c looks (fault.Damaged code) is =
@@ -116,23 +116,17 @@ table_refused : (b c : DeviceState) {k : CheckpointValue} {m : LogMap} → (c.ke
     → ((f ≡ fault.NoMemory → ⊥) → IsTableFault b c k f) → IsRefusedWalk b c f
 table_refused b c stands fault.NoMemory told = tt
 table_refused b c stands fault.Device told = told (λ e. cc)
-table_refused b c {m} stands fault.TooSmall told = λ keeps. absurd (told (λ e. cc) m keeps (stands keeps))
-table_refused b c {m} stands fault.NoCheckpoint told = λ keeps. absurd (told (λ e. cc) m keeps (stands keeps))
-table_refused b c {m} stands (fault.Damaged code) told = λ keeps. absurd (told (λ e. cc) m keeps (stands keeps))
+table_refused b c {m} stands f told = λ keeps. absurd (told (λ e. cc) m keeps (stands keeps))
 
 module _ (d : DeviceState) (lawful : IsLawful d) (m : LogMap) (is : StandsLog d.content m) where
   large : IsTooSmall d.content → ⊥
   large small = ⊎_elim
       (λ (low : length d.content < 4098).
       let held = ((newest_fits d.content lawful.now).0 is.checkpoint).0 is.newest in
-      let least = held.held.fits.segments.least in
-      let size = is.stands.holds.size in
-      omega (arith, least, size, low))
+      omega (arith, held.held.fits.segments.least, is.stands.holds.size, low))
       (λ (few : (k : CheckpointValue) × (newest d.content ≡ Some k) × (length d.content < 2 + 64 * k.segments)).
       let same = ap (λ (x : CheckpointValue). x.segments) (some_is (sym is.newest ∙ few.1)) in
-      let size = is.stands.holds.size in
-      let low = few.2 in
-      omega (arith, same, size, low))
+      omega (arith, same, is.stands.holds.size, few.2))
       small
 
   undamaged : {code : ℕ} → IsLogDamage d.content code → ⊥
@@ -147,7 +141,7 @@ open_fault new lawful fault.NoMemory is other = absurd (other refl)
 open_fault new lawful fault.Device is other = is
 open_fault {old} new lawful fault.TooSmall is other = λ m keeps stands. large old lawful m stands (is keeps)
 open_fault new lawful fault.NoCheckpoint is other =
-    λ m keeps stands. (let some = stands.newest in let none = (is keeps).1 in absurd (cc))
+    λ m keeps stands. (let some = stands.newest in absurd (cc ((is keeps).1)))
 open_fault {old} new lawful (fault.Damaged code) is other = λ m keeps stands. undamaged old lawful m stands (is keeps)
 
 -- ---- the checkpoint, the walk and the tables, one after the other
@@ -221,8 +215,5 @@ module _ (old new : DeviceState) {found : FoundLog} (holds : new.keeps_model →
 
 -- what refuses the walk refuses the log
 pub refused_log : (old new : DeviceState) (f : MountFault) → IsRefusedWalk old new f → IsRefusedLog old new f
-refused_log old new fault.NoMemory is = is
-refused_log old new fault.Device is = is
-refused_log old new fault.TooSmall is = is
-refused_log old new fault.NoCheckpoint is = is
 refused_log old new (fault.Damaged code) is = λ keeps. stage_fails (is keeps)
+refused_log old new f is = is

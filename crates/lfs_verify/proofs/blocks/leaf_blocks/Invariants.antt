@@ -1,10 +1,10 @@
+use Rattle.lfs_verify.specs.Keeping.{OfWalk}
 use Rattle.std.proofs.Common.{◌≡◌, ◌+◌, ◌*◌}
 use Rattle.lfs_model.specs.Checkpoint.{CheckpointValue}
 use Rattle.lfs_model.specs.Content.{Content, block}
 use Rattle.lfs_model.specs.Entry.{Double}
 use Rattle.lfs_model.specs.Reach.{view, address}
 use Rattle.lfs_verify.specs.Walk.{Walked}
-use Rattle.lfs_verify.specs.Take.{ReadsContent}
 use Rattle.lfs_verify.proofs.Keeping.{KeepsSoFar}
 use Rattle.lfs_verify.proofs.blocks.leaf_blocks.Given as goal
 
@@ -14,6 +14,6 @@ invariant-loop-leaf g l =
     let now = g.D.SectorDevice.state l.device in
     record {
       keeps : KeepsSoFar old now l.initial.marks l.marks;
-      walked : (c : Content) (k : CheckpointValue) → ReadsContent old now c → block c (address c k (Double l.file)) ≡ l.root
-          → Walked (view c k) l.initial.marks (12336 + 128 * l.file) → Walked (view c k) l.marks (12336 + 128 * l.file + l.leaf);
+      walked : OfWalk old now (λ c k. block c (address c k (Double l.file)) ≡ l.root
+          → Walked (view c k) l.initial.marks (12336 + 128 * l.file) → Walked (view c k) l.marks (12336 + 128 * l.file + l.leaf));
     }

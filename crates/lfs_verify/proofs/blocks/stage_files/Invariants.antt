@@ -1,3 +1,4 @@
+use Rattle.lfs_verify.specs.Keeping.{OfWalk}
 use Rattle.std.proofs.Common.{◌≡◌, ◌≤◌}
 use Rattle.lfs_model.specs.Checkpoint.{CheckpointValue}
 use Rattle.lfs_model.specs.Content.{Content}
@@ -5,7 +6,7 @@ use Rattle.lfs_model.specs.Reach.{view}
 use Rattle.lfs_verify.specs.FileStages.{file_step}
 use Rattle.lfs_verify.specs.Kept.{there_below, KeepsInodes}
 use Rattle.lfs_verify.specs.Walk.{Walked}
-use Rattle.lfs_verify.specs.Take.{ReadsContent, Lists}
+use Rattle.lfs_verify.specs.Take.{Lists}
 use Rattle.lfs_verify.proofs.Keeping.{KeepsSoFar}
 use Rattle.lfs_verify.proofs.blocks.stage_files.Given as goal
 
@@ -17,6 +18,6 @@ invariant-loop-file g l =
       keeps : KeepsSoFar old now l.initial.marks l.marks;
       few : l.place ≤ l.file;
       place : l.place ≡ there_below l.map l.file;
-      walked : (c : Content) (k : CheckpointValue) → ReadsContent old now c → Lists (view c k) l.map → KeepsInodes c l.map l.inodes
-          → Walked (view c k) l.initial.marks (file_step l.stage 0) → Walked (view c k) l.marks (file_step l.stage l.file);
+      walked : OfWalk old now (λ c k. Lists (view c k) l.map → KeepsInodes c l.map l.inodes
+          → Walked (view c k) l.initial.marks (file_step l.stage 0) → Walked (view c k) l.marks (file_step l.stage l.file));
     }

@@ -7,12 +7,10 @@ use Rattle.lfs_verify.proofs.blocks.take_data.Goals as goal
 
 pub returns-then-not-branch-clause-takes : goal.returns-then-not-branch-clause-takes
 returns-then-not-branch-clause-takes g c = λ k reads.
-    takes_none k c.args.marks.now c.take_block.new.marks c.args.address c.args.step c.take_block.new.out
-    (c.in_ok-take_block.ensures.takes k reads) (IsDataBytes c.args.index c.args.size) c.if-not-branch.true (omega arith)
-    (no_data c.args.index c.args.size (block k c.args.address))
+    takes_none k _ _ _ _ _ (c.in_ok-take_block.ensures.takes k reads) (IsDataBytes _ _) c.if-not-branch.true
+    (omega arith) (no_data _ _ (block k _))
 
 pub returns-clause-takes : goal.returns-clause-takes
 returns-clause-takes g c = λ k reads.
-    takes_as k c.args.marks.now c.take_block.new.marks c.args.address c.args.step c.take_block.new.out
-    (c.in_ok-take_block.ensures.takes k reads) (IsDataBytes c.args.index c.args.size) c.if-not-branch.false (omega arith)
-    c.is_data.result c.is_data.ensures
+    takes_as k _ _ _ _ _ (c.in_ok-take_block.ensures.takes k reads) (IsDataBytes _ _) c.if-not-branch.false
+    (omega arith) c.is_data.result c.is_data.ensures

@@ -6,10 +6,10 @@ use Rattle.lfs_verify.proofs.blocks.take_pointers.Goals as goal
 
 pub returns-then-not-branch-clause-takes : goal.returns-then-not-branch-clause-takes
 returns-then-not-branch-clause-takes g c = λ k reads.
-    takes_none k c.args.marks.now c.take_block.new.marks c.args.address c.args.step c.take_block.new.out
-    (c.in_ok-take_block.ensures.takes k reads) SomeWord c.if-not-branch.true (omega arith) (no_word {bytes = block k c.args.address})
+    takes_none k _ _ _ _ _ (c.in_ok-take_block.ensures.takes k reads) SomeWord c.if-not-branch.true (omega arith)
+    no_word
 
 pub returns-clause-takes : goal.returns-clause-takes
 returns-clause-takes g c = λ k reads.
-    takes_as k c.args.marks.now c.take_block.new.marks c.args.address c.args.step c.take_block.new.out
-    (c.in_ok-take_block.ensures.takes k reads) SomeWord c.if-not-branch.false (omega arith) c.has_word.result c.has_word.ensures
+    takes_as k _ _ _ _ _ (c.in_ok-take_block.ensures.takes k reads) SomeWord c.if-not-branch.false (omega arith)
+    c.has_word.result c.has_word.ensures

@@ -7,7 +7,7 @@ pub returns : goal.returns
 returns c = λ v table.
     let law = enough_clean v table c.count_clean.ensures.count in
     let e = c.div_ceil.ensures in (
-      λ on. law.0 (let le = leb-true c.div_ceil.result c.count_clean.result on in omega (arith, e, le)),
+      λ on. law.0 (omega (arith, e, leb-true c.div_ceil.result c.count_clean.result on)),
       λ enough.
-          le-leb c.div_ceil.result c.count_clean.result (let le = law.1 enough in omega (arith, e, le)),
+          le-leb c.div_ceil.result c.count_clean.result (omega (arith, e, law.1 enough)),
     )

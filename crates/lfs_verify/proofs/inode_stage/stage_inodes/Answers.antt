@@ -1,3 +1,4 @@
+use Rattle.lfs_verify.proofs.Tests.{fails_by}
 use Rattle.std.proofs.Common.{⊎_elim, refl, ap, arith}
 use Rattle.lfs_model.specs.Content.{block}
 use Rattle.lfs_model.specs.Reach.{view}
@@ -9,44 +10,30 @@ use Rattle.lfs_verify.proofs.inode_stage.stage_inodes.Goals as goal
 
 pub returns-then-not-branch-clause-goes : goal.returns-then-not-branch-clause-goes
 returns-then-not-branch-clause-goes g c = λ d k reads same lists w.
-    goes_false _ _ (Inodes (view d k)) c.if-not-branch.true (c.in_ok-all_inodes.ensures.goes d k reads same lists) w
+    goes_false _ _ c.if-not-branch.true (c.in_ok-all_inodes.ensures.goes d k reads same lists) w
 
 pub returns-then-root-eq0-clause-goes : goal.returns-then-root-eq0-clause-goes
-returns-then-root-eq0-clause-goes g c = λ d k reads same lists w. rootless d k c.args.map.now lists _ refl (ap (block d) c.if-root-eq0.true)
+returns-then-root-eq0-clause-goes g c = λ d k reads same lists w. rootless d k _ lists _ refl (ap (block d) c.if-root-eq0.true)
 
 pub returns-then-not-branch-2-clause-goes : goal.returns-then-not-branch-2-clause-goes
 returns-then-not-branch-2-clause-goes g c = λ d k reads same lists w.
-    let s0 = g.D.SectorDevice.state c.args.device.now in
-    let s1 = g.D.SectorDevice.state c.all_inodes.new.device in
-    let s2 = g.D.SectorDevice.state c.fetch.new.device in
-    rootless d k c.args.map.now lists _ refl
+    rootless d k _ lists _ refl
     (unread d _ _ (c.in_ok-fetch.ensures.block d (reads_then reads c.all_inodes.ensures.keeps.looks)) c.if-not-branch-2.true)
 
 pub returns-then-not-is_directory-clause-goes : goal.returns-then-not-is_directory-clause-goes
 returns-then-not-is_directory-clause-goes g c = λ d k reads same lists w.
-    let s0 = g.D.SectorDevice.state c.args.device.now in
-    let s1 = g.D.SectorDevice.state c.all_inodes.new.device in
-    let s2 = g.D.SectorDevice.state c.fetch.new.device in
-    other_kind d k c.args.map.now lists _ refl c.if-root-eq0.false _
+    other_kind d k _ lists _ refl c.if-root-eq0.false _
     (read_in d _ _ (c.in_ok-fetch.ensures.block d (reads_then reads c.all_inodes.ensures.keeps.looks)) c.if-not-branch-2.false)
-    (λ is. let e = c.if-not-is_directory.ensures.1 is in absurd (cc))
+    (fails_by refl c.if-not-is_directory.ensures)
 
 pub returns-clause-goes : goal.returns-clause-goes
 returns-clause-goes g c = λ d k reads same lists w.
-    let s0 = g.D.SectorDevice.state c.args.device.now in
-    let s1 = g.D.SectorDevice.state c.all_inodes.new.device in
-    let s2 = g.D.SectorDevice.state c.fetch.new.device in
-    goes_true _ _ (Inodes (view d k)) c.if-not-branch.false
+    goes_true _ c.if-not-branch.false
     (c.in_ok-all_inodes.ensures.goes d k (reads_first reads c.fetch.ensures.keeps.looks) same lists) w
 
 pub returns-clause-holds : goal.returns-clause-holds
 returns-clause-holds g c = λ is d k reads same lists bounded w.
-    let s0 = g.D.SectorDevice.state c.args.device.now in
-    let s1 = g.D.SectorDevice.state c.all_inodes.new.device in
-    let s2 = g.D.SectorDevice.state c.fetch.new.device in
-    let w4 = goes_true _ _ (Inodes (view d k)) c.if-not-branch.false
-    (c.in_ok-all_inodes.ensures.goes d k (reads_first reads c.fetch.ensures.keeps.looks) same lists) w in
-    inodes_of _ w4 bounded (root_kind d k c.args.map.now lists _ refl
+    inodes_of _ (returns-clause-goes g c d k reads same lists w) bounded (root_kind d k _ lists _ refl
     (read_in d _ _ (c.in_ok-fetch.ensures.block d (reads_then reads c.all_inodes.ensures.keeps.looks)) c.if-not-branch-2.false)
     (c.if-not-is_directory.ensures.0 refl))
 
@@ -58,7 +45,4 @@ returns-clause-at g c = λ is i lt.
 
 pub returns-clause-kept : goal.returns-clause-kept
 returns-clause-kept g c = λ is d reads.
-    let s0 = g.D.SectorDevice.state c.args.device.now in
-    let s1 = g.D.SectorDevice.state c.all_inodes.new.device in
-    let s2 = g.D.SectorDevice.state c.fetch.new.device in
     c.in_ok-all_inodes.ensures.kept c.if-not-branch.false d (reads_first reads c.fetch.ensures.keeps.looks)

@@ -6,7 +6,7 @@ returns-then-mark-eq0 c = (λ on. inl c.if-mark-eq0.true, λ has. refl)
 
 pub returns : goal.returns
 returns c = (
-  λ on. inr (eqb-true c.args.mark c.args.label on),
+  λ on. inr (eqb-true _ _ on),
   λ has.
-      ⊎_elim (λ none. absurd (c.if-mark-eq0.false none)) (λ same. eq-eqb c.args.mark c.args.label same) has,
+      ⊎_elim (λ none. absurd (c.if-mark-eq0.false none)) (λ same. eq-eqb _ _ same) has,
 )

@@ -12,10 +12,8 @@ loop-place-init c = record { puts = puts_none }
 pub loop-place-preserved : goal.loop-place-preserved
 loop-place-preserved c =
     let was = c.loop-place.invariant.puts in
-    let n = c.len-place-end.ensures in
-    let size = was.size in
     let inside : c.args.first + c.loop-place.place < length c.loop-place.labels =
-    omega (arith, n, size, c.requires.inside, c.loop-place-test.true) in
+    omega (arith, c.len-place-end.ensures, was.size, c.requires.inside, c.loop-place-test.true) in
     let step : c.step_of_name.result + 1 ≡ suc (step_of (entry_of c.get.result)) = omega (arith, c.step_of_name.ensures.step) in
     record {
       puts = puts_more inside (step ∙ ap (λ (b : BlockNameValue). suc (step_of (entry_of b))) c.get.ensures) was;
@@ -24,4 +22,4 @@ loop-place-preserved c =
 pub returns : goal.returns
 returns c =
     let n = c.len-place-end.ensures in
-    subst (PutsLabels c.args.names.now c.args.labels.now c.loop-place.labels c.args.first) (omega (arith, n)) c.loop-place.invariant.puts
+    subst (PutsLabels _ _ _ _) (omega (arith, n)) c.loop-place.invariant.puts

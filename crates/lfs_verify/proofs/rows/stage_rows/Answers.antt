@@ -1,8 +1,7 @@
-use Rattle.std.proofs.Common.{rules, true, false, ◌≤◌, ◌≡◌, ◌<◌, ◌+◌, ◌*◌, ℕ, length, get_or, ◌∙◌, ⊎_elim, subst, sym, arith}
+use Rattle.lfs_verify.proofs.Tests.{fails_by, fails_as}
+use Rattle.std.proofs.Common.{rules, true, false, ◌≤◌, ◌≡◌, ◌<◌, ◌+◌, ◌*◌, ℕ, length, get_or, ◌∙◌, ⊎_elim, subst, sym, arith, below_more}
 use Rattle.std.proofs.lemmas.Bool.{cases_lt}
 use Rattle.lfs_model.specs.Reach.{view, row_by}
-use Rattle.lfs_verify.specs.Labels.{HasLabels}
-use Rattle.lfs_verify.specs.Rows.{HasRow}
 use Rattle.lfs_verify.proofs.Takes.{reads_first, reads_then}
 use Rattle.lfs_verify.proofs.RowSteps.{rows_of, no_rows, too_many}
 use Rattle.lfs_verify.proofs.LabelSteps.{labels_stay, labels_there}
@@ -11,7 +10,7 @@ use Rattle.lfs_verify.proofs.rows.stage_rows.Goals as goal
 
 pub loop-segment-init : goal.loop-segment-init
 loop-segment-init g c = record {
-  keeps = keeps_none (g.met.D.SectorDevice.lawful c.args.device.now);
+  keeps = keeps_none (g.met.D.SectorDevice.lawful _);
   empty = λ i le. c.requires.empty i;
   labels = λ d k reads table s lt. absurd (omega (arith, lt));
   rows = λ d reads s lt. absurd (omega arith);
@@ -23,42 +22,24 @@ returns-then-count-gt-SEGMENT_SECTORS-clause-rows g c =
 
 pub returns-then-not-branch-clause-rows : goal.returns-then-not-branch-clause-rows
 returns-then-not-branch-clause-rows g c = λ d k reads table.
-    let old = g.D.SectorDevice.state c.args.device.now in
-    let mid = g.D.SectorDevice.state c.loop-segment.device in
-    let new = g.D.SectorDevice.state c.label_row.new.device in
-    let here = c.loop-segment.invariant in
-    let is = c.in_ok-label_row.ensures.row d (reads_then reads here.keeps.looks) in (
-      λ on. absurd (cc),
-      λ rows. absurd (no_rows d k table c.loop-segment.segment (omega arith)
-          (λ row. let e : true ≡ false = sym (is.1 row) ∙ c.if-not-branch.true in absurd (cc)) rows),
-    )
+    fails_as (no_rows d k table _ (omega arith)
+    (fails_by c.if-not-branch.true (c.in_ok-label_row.ensures.row d (reads_then reads c.loop-segment.invariant.keeps.looks))))
 
 pub loop-segment-preserved : goal.loop-segment-preserved
 loop-segment-preserved g c =
-    let old = g.D.SectorDevice.state c.args.device.now in
-    let mid = g.D.SectorDevice.state c.loop-segment.device in
-    let new = g.D.SectorDevice.state c.label_row.new.device in
     let here = c.loop-segment.invariant in
     let step = c.in_ok-label_row.ensures in
     record {
       keeps = keeps_then here.keeps step.keeps;
       empty = λ i le. step.behind i (omega (arith, le));
-      labels = λ d k reads table s lt. ⊎_elim
-          (λ (before : s < c.loop-segment.segment).
-          labels_stay c.label_row.new.labels s
+      labels = λ d k reads table. below_more _ _
+          (λ s before. labels_stay _ s
           (λ o small. step.before (2 + 64 * s + o) (omega (arith, small, before)))
           (here.labels d k (reads_first reads step.keeps.looks) table s before))
-          (λ (now : c.loop-segment.segment ≤ s).
-          let e : c.loop-segment.segment ≡ s = omega (arith, lt, now) in
-          let inside : c.loop-segment.segment < length c.args.used.now = omega arith in
-          subst (λ (x : ℕ). HasLabels ((view d k).row x) c.label_row.new.labels x) e (labels_there d k table c.loop-segment.segment inside
-          (step.labels c.if-not-branch.false d (reads_then reads here.keeps.looks)))) (cases_lt s c.loop-segment.segment);
-      rows = λ d reads s lt. ⊎_elim
-          (λ (before : s < c.loop-segment.segment). here.rows d (reads_first reads step.keeps.looks) s before)
-          (λ (now : c.loop-segment.segment ≤ s).
-          let e : c.loop-segment.segment ≡ s = omega arith in
-          subst (λ (x : ℕ). HasRow (row_by d (get_or c.args.used.now x 0) x)) e
-          ((step.row d (reads_then reads here.keeps.looks)).0 c.if-not-branch.false)) (cases_lt s c.loop-segment.segment);
+          (labels_there d k table _ (omega arith)
+          (step.labels c.if-not-branch.false d (reads_then reads here.keeps.looks)));
+      rows = λ d reads. below_more _ _ (here.rows d (reads_first reads step.keeps.looks))
+          ((step.row d (reads_then reads here.keeps.looks)).0 c.if-not-branch.false);
     }
 
 pub returns-clause-rows : goal.returns-clause-rows

@@ -1,3 +1,4 @@
+use Rattle.lfs_verify.specs.Keeping.{OfWalk, OfContent}
 use Rattle.std.proofs.Common.{◌≡◌, ◌<◌, ◌≤◌, ◌+◌, ◌*◌, ℕ, get_or}
 use Rattle.lfs_model.specs.Checkpoint.{CheckpointValue}
 use Rattle.lfs_model.specs.Content.{Content}
@@ -5,7 +6,6 @@ use Rattle.lfs_model.specs.Reach.{row_by, view}
 use Rattle.lfs_verify.specs.Labels.{HasLabels}
 use Rattle.lfs_verify.specs.Rows.{HasRow}
 use Rattle.lfs_verify.specs.Tables.{IsUsedTable}
-use Rattle.lfs_verify.specs.Take.{ReadsContent}
 use Rattle.lfs_verify.proofs.Keeping.{KeepsSoFar}
 use Rattle.lfs_verify.proofs.rows.stage_rows.Given as goal
 
@@ -16,7 +16,7 @@ invariant-loop-segment g l =
     record {
       keeps : KeepsSoFar old now l.initial.labels l.labels;
       empty : (i : ℕ) → 2 + 64 * l.segment ≤ i → get_or l.labels i 0 ≡ 0;
-      labels : (c : Content) (k : CheckpointValue) → ReadsContent old now c → IsUsedTable (view c k) l.used → (s : ℕ) → s < l.segment
-          → HasLabels ((view c k).row s) l.labels s;
-      rows : (c : Content) → ReadsContent old now c → (s : ℕ) → s < l.segment → HasRow (row_by c (get_or l.used s 0) s);
+      labels : OfWalk old now (λ c k. IsUsedTable (view c k) l.used → (s : ℕ) → s < l.segment
+          → HasLabels ((view c k).row s) l.labels s);
+      rows : OfContent old now (λ c. (s : ℕ) → s < l.segment → HasRow (row_by c (get_or l.used s 0) s));
     }

@@ -1,38 +1,34 @@
-use Rattle.std.proofs.Common.{◌+◌, ◌∙◌, refl}
+use Rattle.lfs_verify.specs.Loading.{SaysMap}
+use Rattle.std.proofs.Common.{◌∙◌, refl}
 use Rattle.lfs_model.proofs.Exits.{same_error}
-use Rattle.lfs_verify.specs.Faults.{IsTableFault}
 use Rattle.lfs_verify.proofs.tables.load_map.Goals as goal
 use Rattle.lfs_verify.proofs.Takes.{looks_none, looks_then}
-use Rattle.lfs_verify.proofs.UsageLoads.{fault_then}
-use Rattle.lfs_verify.proofs.MapLoads.{says_no_map, says_map_then}
+use Rattle.lfs_verify.proofs.UsageLoads.{fault_then, says_then}
+use Rattle.lfs_verify.proofs.MapLoads.{says_no_map}
 
 pub loop-index-init : goal.loop-index-init
 loop-index-init g c = record {
   upto = c.requires.before;
   says = λ keeps. says_no_map _ _ _;
-  looks = looks_none (g.met.D.SectorDevice.lawful c.args.device.now);
+  looks = looks_none (g.met.D.SectorDevice.lawful _);
   no_failure = refl;
 }
 
 pub loop-index-preserved : goal.loop-index-preserved
 loop-index-preserved g c =
-    let old = g.D.SectorDevice.state c.args.device.now in
-    let mid = g.D.SectorDevice.state c.loop-index.device in
-    let new = g.D.SectorDevice.state c.load_map_block.new.device in
     let was = c.loop-index.invariant in
     let now = c.in_ok-load_map_block.ensures in
     record {
       upto = now.after;
-      says = λ keeps. says_map_then was.looks (was.says (now.keeps.looks.carries.kept_before keeps)) (now.says keeps);
+      says = λ keeps. says_then (λ x. SaysMap x c.args.checkpoint.now) was.looks
+          (was.says (now.keeps.looks.carries.kept_before keeps)) (now.says keeps);
       looks = looks_then was.looks now.keeps.looks;
       no_failure = now.keeps.no_failure ∙ was.no_failure;
     }
 
 pub returns-in_err-load_map_block-clause-cause : goal.returns-in_err-load_map_block-clause-cause
 returns-in_err-load_map_block-clause-cause g c =
-    let old = g.D.SectorDevice.state c.args.device.now in
-    let mid = g.D.SectorDevice.state c.loop-index.device in
-    let new = g.D.SectorDevice.state c.load_map_block.new.device in
     let fault = c.in_err-load_map_block.field-0.0 in
-    same_error c.from_residual.result fault (IsTableFault old new c.args.checkpoint.now) c.from_residual.ensures
-    (fault_then new c.args.checkpoint.now c.loop-index.invariant.looks fault c.in_err-load_map_block.ensures.cause)
+    same_error c.from_residual.result fault _ c.from_residual.ensures
+    (fault_then (g.D.SectorDevice.state _) _ c.loop-index.invariant.looks fault
+    c.in_err-load_map_block.ensures.cause)

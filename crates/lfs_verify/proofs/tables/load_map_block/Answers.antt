@@ -1,45 +1,33 @@
 use Rattle.std.proofs.Common.{◌<◌, ◌∙◌, ℕ, subst, ap, sym}
 use Rattle.lfs_model.proofs.Exits.{same_error}
 use Rattle.lfs_inodes.specs.MapValue.{MapValue}
-use Rattle.lfs_verify.specs.Faults.{IsTableFault, LacksBlock, LacksTables}
 use Rattle.lfs_verify.specs.Lending.{LendsTable}
 use Rattle.lfs_verify.proofs.tables.load_map_block.Goals as goal
-use Rattle.lfs_verify.proofs.FaultCases.{fault_on}
-use Rattle.lfs_verify.proofs.UsageLoads.{lent_block}
+use Rattle.lfs_verify.proofs.UsageLoads.{lent_block, block_fault}
 use Rattle.lfs_verify.proofs.MapLoads.{says_skipped, map_more, says_map_more, map_fault}
 
 pub returns-in_err-bytes-clause-cause : goal.returns-in_err-bytes-clause-cause
 returns-in_err-bytes-clause-cause g c =
-    let old = g.D.SectorDevice.state c.args.device.now in
+    let old = g.D.SectorDevice.state _ in
     let new = g.D.SectorDevice.state c.read_table.follows.lender-at-none in
     let k = c.args.checkpoint.now in
-    let at = c.map_address-address.result in
     let fault = c.in_err-bytes.field-0.0 in
-    let lends = subst (LendsTable old new c.segments_of-segments.result at) c.in_err-bytes.was c.read_table.follows.holds-at-none in
-    same_error c.from_residual.result fault (IsTableFault old new k) c.from_residual.ensures
-    (fault_on (old.failures < new.failures) (LacksBlock old new c.segments_of-segments.result at) (old.failures < new.failures)
-    (LacksTables old new k) (λ rose. rose)
-    (λ lacks. map_fault old new k c.args.index (g.met.D.SectorDevice.lawful c.args.device.now).now
-    (sym c.map_address-address.ensures) c.if-address-eq0.false
-    (subst (λ (n : ℕ). LacksBlock old new n at) c.segments_of-segments.ensures lacks))
-    fault lends.cause)
+    let lends = subst (LendsTable old new _ _) c.in_err-bytes.was c.read_table.follows.holds-at-none in
+    same_error c.from_residual.result fault _ c.from_residual.ensures (block_fault old new k _ c.segments_of-segments.ensures
+    (map_fault old new k _ (g.met.D.SectorDevice.lawful _).now (sym c.map_address-address.ensures)
+    c.if-address-eq0.false) fault lends.cause)
 
 pub returns-clause-after : goal.returns-clause-after
 returns-clause-after g c =
-    map_more c.set_block_address.new.self c.requires.before c.load.ensures c.set_block_address.ensures.changed
+    map_more _ c.requires.before c.load.ensures c.set_block_address.ensures.changed
     (ap (λ (a : MapValue). a.addresses) c.set_block_address.ensures.set) (ap (λ (a : MapValue). a.hidden) c.set_block_address.ensures.set)
 
 pub returns-clause-says : goal.returns-clause-says
 returns-clause-says g c keeps says =
-    let old = g.D.SectorDevice.state c.args.device.now in
-    let new = g.D.SectorDevice.state c.read_table.follows.lender-at-none in
-    let at = c.map_address-address.result in
-    let bytes = c.in_ok-bytes.bytes.now in
-    let lends = subst (LendsTable old new c.segments_of-segments.result at) c.in_ok-bytes.was c.read_table.follows.holds-at-none in
-    says_map_more c.set_block_address.new.self c.requires.before c.load.ensures c.set_block_address.ensures.changed
-    (ap (λ (a : MapValue). a.addresses) c.set_block_address.ensures.set) (ap (λ (a : MapValue). a.hidden) c.set_block_address.ensures.set)
-     bytes (lent_block old.content at (lends.value keeps) lends.above)
-    (sym c.map_address-address.ensures) c.new.ensures.fits c.new.ensures.spelled says
+    let lends = subst (LendsTable (g.D.SectorDevice.state _) _ _ _) c.in_ok-bytes.was c.read_table.follows.holds-at-none in
+    says_map_more _ c.requires.before c.load.ensures c.set_block_address.ensures.changed
+    (ap (λ (a : MapValue). a.addresses) c.set_block_address.ensures.set) (ap (λ (a : MapValue). a.hidden) c.set_block_address.ensures.set) _
+    (lent_block _ _ (lends.value keeps) lends.above) (sym c.map_address-address.ensures) c.new.ensures.fits c.new.ensures.spelled says
 
 pub returns-then-address-eq0-clause-says : goal.returns-then-address-eq0-clause-says
 returns-then-address-eq0-clause-says g c keeps says =

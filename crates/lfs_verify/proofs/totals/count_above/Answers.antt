@@ -4,18 +4,10 @@ use Rattle.lfs_verify.proofs.totals.count_above.Goals as goal
 use Rattle.lfs_verify.proofs.totals.count_above.Goals.{then-marks-sector, else-marks-sector}
 
 pub loop-sector-init : goal.loop-sector-init
-loop-sector-init c = record { few = omega arith; so_far = sym (above_start c.args.marks.now c.args.mark) }
+loop-sector-init c = record { few = omega arith; so_far = sym (above_start _ _) }
 
 pub loop-sector-preserved : goal.loop-sector-preserved
 loop-sector-preserved c = elim c.if-marks-sector.branch [
-  | then-marks-sector w ↦ record {
-    few = omega arith;
-    so_far = let h = above_on c.args.marks.now c.args.mark c.loop-sector.sector
-        (c.loop-sector.sector + 1) (omega arith) (omega arith) in omega (arith, h);
-  }
-  | else-marks-sector w ↦ record {
-    few = omega arith;
-    so_far = let h = above_off c.args.marks.now c.args.mark c.loop-sector.sector
-        (c.loop-sector.sector + 1) (omega arith) (omega arith) in omega (arith, h);
-  }
+  | then-marks-sector w ↦ omega (arith, above_on c.args.marks.now c.args.mark c.loop-sector.sector (omega arith))
+  | else-marks-sector w ↦ omega (arith, above_off c.args.marks.now c.args.mark c.loop-sector.sector (omega arith))
 ]

@@ -1,7 +1,7 @@
+use Rattle.lfs_verify.specs.Keeping.{OfContent}
 use Rattle.std.proofs.Common.{◌≡◌, ◌<◌, ◌↔◌, ◌+◌, ◌/◌, ℕ, length, get_or}
 use Rattle.lfs_model.specs.Content.{Content}
 use Rattle.lfs_model.specs.Reach.{view}
-use Rattle.lfs_verify.specs.Take.{ReadsContent}
 use Rattle.lfs_verify.specs.UsageTables.{SaysUpTo}
 use Rattle.lfs_verify.specs.Walk.{Walked}
 use Rattle.lfs_verify.proofs.Keeping.{KeepsSoFar}
@@ -16,7 +16,7 @@ invariant-loop-index g l =
       used : length l.used ≡ length l.initial.used;
       live : length l.live ≡ length l.initial.live;
       is_there : (j : ℕ) → j < l.index → (0 < get_or l.checkpoint.usage j 0) ↔ (j < (l.checkpoint.segments + 63) / 64);
-      says : (c : Content) → ReadsContent old now c → SaysUpTo (view c l.checkpoint) l.used l.live l.index;
-      walked : (c : Content) → ReadsContent old now c → Walked (view c l.checkpoint) l.initial.marks 0
-          → Walked (view c l.checkpoint) l.marks l.index;
+      says : OfContent old now (λ c. SaysUpTo (view c l.checkpoint) l.used l.live l.index);
+      walked : OfContent old now (λ c. Walked (view c l.checkpoint) l.initial.marks 0
+          → Walked (view c l.checkpoint) l.marks l.index);
     }

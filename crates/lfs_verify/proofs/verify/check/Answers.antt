@@ -16,9 +16,9 @@ returns-in-Err-Damaged-clause-reason g c = λ found keeps.
 
 pub returns-in-Ok-clause-holds : goal.returns-in-Ok-clause-holds
 returns-in-Ok-clause-holds g c = λ keeps.
-    let old = g.D.SectorDevice.state c.args.device.now in
-    let new = g.D.SectorDevice.state c.walk.new.device in
-    let lawful = g.met.D.SectorDevice.lawful c.args.device.now in
+    let old = g.D.SectorDevice.state _ in
+    let new = g.D.SectorDevice.state _ in
+    let lawful = g.met.D.SectorDevice.lawful _ in
     let k = c.args.checkpoint.now in
     let read = read_content new lawful k c.requires.inside keeps in
     holds_counted new lawful k c.requires.inside keeps (c.in-Ok.ensures.holds old.content read) (c.in-Ok.ensures.counts old.content read)

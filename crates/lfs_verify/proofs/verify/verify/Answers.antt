@@ -8,16 +8,15 @@ use Rattle.lfs_verify.proofs.verify.verify.Goals as goal
 pub returns-in_err-found-clause-reason : goal.returns-in_err-found-clause-reason
 returns-in_err-found-clause-reason g c =
     same_error c.from_residual.result c.in_err-found.field-0.0 _ c.from_residual.ensures
-    (refused_log (g.D.SectorDevice.state c.args.device.now) (g.D.SectorDevice.state c.verify_log.new.device) c.in_err-found.field-0.0
+    (refused_log (g.D.SectorDevice.state _) (g.D.SectorDevice.state _) c.in_err-found.field-0.0
     c.in_err-found.ensures.reason)
 
 pub returns-in_err-found-clause-cause : goal.returns-in_err-found-clause-cause
 returns-in_err-found-clause-cause g c =
-    let old = g.D.SectorDevice.state c.args.device.now in
-    let new = g.D.SectorDevice.state c.verify_log.new.device in
+    let new = g.D.SectorDevice.state _ in
     same_error c.from_residual.result c.in_err-found.field-0.0 _ c.from_residual.ensures
-    (open_fault new (g.met.D.SectorDevice.lawful c.args.device.now) c.in_err-found.field-0.0
-    (refused_log old new c.in_err-found.field-0.0 c.in_err-found.ensures.reason))
+    (open_fault new (g.met.D.SectorDevice.lawful _) c.in_err-found.field-0.0
+    (refused_log (g.D.SectorDevice.state _) new c.in_err-found.field-0.0 c.in_err-found.ensures.reason))
 
 pub returns-in_err-found-clause-below_all : goal.returns-in_err-found-clause-below_all
 returns-in_err-found-clause-below_all g c = λ low.
@@ -27,17 +26,17 @@ returns-in_err-found-clause-below_all g c = λ low.
 
 pub returns-then-not-found-clause-reason : goal.returns-then-not-found-clause-reason
 returns-then-not-found-clause-reason g c =
-    few_clean (g.D.SectorDevice.state c.args.device.now) (g.D.SectorDevice.state c.verify_log.new.device)
+    few_clean (g.D.SectorDevice.state _) (g.D.SectorDevice.state _)
     c.in_ok-found.ensures.found (not-true c.in_ok-found.found.enough_clean c.if-not-found.true)
 
 pub returns-then-not-found-clause-cause : goal.returns-then-not-found-clause-cause
 returns-then-not-found-clause-cause g c =
-    let old = g.D.SectorDevice.state c.args.device.now in
-    let new = g.D.SectorDevice.state c.verify_log.new.device in
-    open_fault new (g.met.D.SectorDevice.lawful c.args.device.now) (fault.Damaged 15)
+    let old = g.D.SectorDevice.state _ in
+    let new = g.D.SectorDevice.state _ in
+    open_fault new (g.met.D.SectorDevice.lawful _) (fault.Damaged 15)
     (few_clean old new c.in_ok-found.ensures.found (not-true c.in_ok-found.found.enough_clean c.if-not-found.true))
 
 pub returns-clause-found : goal.returns-clause-found
 returns-clause-found g c =
-    has_tables (g.D.SectorDevice.state c.args.device.now) (g.D.SectorDevice.state c.verify_log.new.device)
+    has_tables (g.D.SectorDevice.state _) (g.D.SectorDevice.state _)
     c.in_ok-found.ensures.found (not-false c.in_ok-found.found.enough_clean c.if-not-found.false)

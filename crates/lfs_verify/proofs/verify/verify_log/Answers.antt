@@ -16,10 +16,9 @@ returns-in_err-checkpoint-clause-below_all g c = λ low.
 
 pub returns-in_err-walked-clause-reason : goal.returns-in_err-walked-clause-reason
 returns-in_err-walked-clause-reason g c =
-    let s2 = g.D.SectorDevice.state c.check.new.device in
     same_error c.from_residual-in_err-walked.result c.in_err-walked.field-0.0 _ c.from_residual-in_err-walked.ensures (check_refused
     c.find_checkpoint.ensures.keeps.looks c.check.ensures.keeps.looks
-    (looks_none (g.met.D.SectorDevice.lawful c.check.new.device)) c.in_ok-checkpoint.ensures.found
+    (looks_none (g.met.D.SectorDevice.lawful _)) c.in_ok-checkpoint.ensures.found
     c.in_err-walked.field-0.0 c.in_err-walked.ensures.reason)
 
 pub returns-in_err-tables-clause-reason : goal.returns-in_err-tables-clause-reason

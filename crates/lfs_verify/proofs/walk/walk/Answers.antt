@@ -5,4 +5,4 @@ use Rattle.lfs_verify.proofs.walk.walk.Goals as goal
 
 pub returns-clause-holds : goal.returns-clause-holds
 returns-clause-holds g c = IfOk-weaker c.walk_all.result _ _
-    (λ r holds d reads. walk_end (view d c.args.checkpoint.now) r.0 (holds d reads)) c.walk_all.ensures.holds
+    (λ r holds d reads. walk_end (view d _) r.0 (holds d reads)) c.walk_all.ensures.holds
