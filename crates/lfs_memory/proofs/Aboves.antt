@@ -1,15 +1,15 @@
 -- What is in memory stays there as files change, so one change comes after another.
-use Rattle.std.proofs.Common.{◌≡◌, ⊎_elim, ◌+◌, ℕ, List, length, Option, Some, sym, ◌∙◌, ap, subst, arith}
+use Rattle.std.proofs.Common.{◌≡◌, ◌+◌, ℕ, List, length, Option, Some, sym, ◌∙◌, ap, arith}
+use Rattle.std.proofs.Common.{inl, inr}
 use Rattle.std.specs.Prelude.{option_map}
 use Rattle.std.proofs.lemmas.Bool.{cases_eq}
 use Rattle.lfs_model.specs.declared.Kind.{Kind}
-use Rattle.lfs_model.specs.Entry.{Entry, Data, Inode}
-use Rattle.lfs_model.specs.Fields.{zeros}
+use Rattle.lfs_model.specs.Entry.{Entry, Data}
 use Rattle.lfs_model.specs.Memory.{parent, pointer, patched}
 use Rattle.lfs_model.specs.Running.{Dirty, Moves}
 use Rattle.lfs_model.specs.Staging.{Fetches, ChangesTo}
 use Rattle.lfs_model.proofs.Entries.{same_entry, no_data_parent}
-use Rattle.lfs_inodes.specs.Blocks.{TableValue, blocks_of}
+use Rattle.lfs_inodes.specs.Blocks.{blocks_of}
 use Rattle.lfs_memory.specs.declared.memory.LogMemory.{LogMemory}
 use Rattle.lfs_memory.specs.Changing.{HasAbove, Stays, Stores, Drops, ChangesBlock, Grows, ChangesHeader, Creates}
 use Rattle.lfs_memory.specs.Lifting.{IsInMemory}
@@ -18,11 +18,11 @@ use Rattle.lfs_memory.proofs.LogMaps.{blank_or}
 pub stays_then : {a b : ℕ} {u v w : LogMemory} → Stays a u v → Stays b v w → Stays (a + b) u w
 stays_then one two = record {
   memory = λ memory. two.memory (one.memory memory);
-  chunk = two.chunk ∙ one.chunk;
-  segments = two.segments ∙ one.segments;
-  clean = two.clean ∙ one.clean;
-  capacity = two.capacity ∙ one.capacity;
-  blocks = let x = one.blocks in let y = two.blocks in omega (arith, x, y);
+  chunk = cc;
+  segments = cc;
+  clean = cc;
+  capacity = cc;
+  blocks = omega arith;
 }
 
 abbrev Holds : Dirty → Entry → Type 0
@@ -32,48 +32,51 @@ holds_patched : (f : List ℕ → List ℕ) {o : Option (List ℕ)} {b : List �
 holds_patched f {b} is = (f b, ap (option_map f) is)
 
 holds_fetched : {old new : Dirty} {x : Entry} {bytes : List ℕ} → Fetches old new x bytes → (z : Entry) → Holds old z → Holds new z
-holds_fetched {old} {new} {x} {bytes} go z has = ⊎_elim
-    (λ (here : z ≡ x). (bytes, ap new here ∙ go.own))
-    (λ (ne : z ≡ x → ⊥). ⊎_elim
-    (λ (up : z ≡ parent x).
-    let p = holds_patched (patched (pointer x) 1) (ap old (sym up) ∙ has.1) in
-    (p.0, ap new up ∙ go.patched (λ own. ne (up ∙ own)) ∙ p.1))
-    (λ (np : z ≡ parent x → ⊥). (has.0, go.kept z ne np ∙ has.1))
-    (same_entry z (parent x)))
-    (same_entry z x)
+holds_fetched {old} {new} {x} {bytes} go z has = elim (same_entry z x) [
+  | inl here ↦ (bytes, ap new here ∙ go.own)
+  | inr ne ↦ elim (same_entry z (parent x)) [
+    | inl up ↦
+        let p = holds_patched (patched (pointer x) 1) (ap old (sym up) ∙ has.1) in
+        (p.0, ap new up ∙ go.patched (λ own. ne (up ∙ own)) ∙ p.1)
+    | inr np ↦ (has.0, go.kept z ne np ∙ has.1)
+  ]
+]
 
 holds_moved : {old new : Dirty} {x : Entry} (a : ℕ) → Moves old new x a → (z : Entry) → (z ≡ x → ⊥) → Holds old z → Holds new z
-holds_moved {old} {new} {x} a go z ne has = ⊎_elim
-    (λ (up : z ≡ parent x).
-    let p = holds_patched (patched (pointer x) a) (ap old (sym up) ∙ has.1) in
-    (p.0, ap new up ∙ go.patched (λ own. ne (up ∙ own)) ∙ p.1))
-    (λ (np : z ≡ parent x → ⊥). (has.0, go.kept z ne np ∙ has.1))
-    (same_entry z (parent x))
+holds_moved {old} {new} {x} a go z ne has = elim (same_entry z (parent x)) [
+  | inl up ↦
+      let p = holds_patched (patched (pointer x) a) (ap old (sym up) ∙ has.1) in
+      (p.0, ap new up ∙ go.patched (λ own. ne (up ∙ own)) ∙ p.1)
+  | inr np ↦ (has.0, go.kept z ne np ∙ has.1)
+]
 
 holds_changed : {old new : Dirty} {x : Entry} {bytes : List ℕ} → ChangesTo old new x (Some bytes) → (z : Entry) → Holds old z → Holds new z
-holds_changed {new} {x} {bytes} go z has = ⊎_elim
-    (λ (here : z ≡ x). (bytes, ap new here ∙ go.own))
-    (λ (ne : z ≡ x → ⊥). (has.0, go.others z ne ∙ has.1))
-    (same_entry z x)
+holds_changed {new} {x} {bytes} go z has = elim (same_entry z x) [
+  | inl here ↦ (bytes, ap new here ∙ go.own)
+  | inr ne ↦ (has.0, go.others z ne ∙ has.1)
+]
 
 -- ---- as a data block changes, all but that block
 stored_memory : (v v' : LogMemory) (n i : ℕ) {a : ℕ} (bytes : List ℕ) → Stores v v' n (Data n i) a bytes → (z : Entry) → IsInMemory v z
     → IsInMemory v' z
-stored_memory v v' n i {a} bytes go z has = ⊎_elim
-    (λ (one : a ≡ 1). holds_changed (go.changes one) z has)
-    (λ (ne : a ≡ 1 → ⊥). holds_fetched (go.comes ne) z has) (cases_eq a 1)
+stored_memory v v' n i {a} bytes go z has = elim (cases_eq a 1) [
+  | inl one ↦ holds_changed (go.changes one) z has
+  | inr ne ↦ holds_fetched (go.comes ne) z has
+]
 
 dropped_memory : (v v' : LogMemory) (n i : ℕ) {a : ℕ} → Drops v v' n (Data n i) a → (z : Entry) → (z ≡ Data n i → ⊥) → IsInMemory v z
     → IsInMemory v' z
-dropped_memory v v' n i {a} go z ne has = ⊎_elim
-    (λ (none : a ≡ 0). subst (λ (t : TableValue). Holds (blocks_of t) z) (sym (go.none none)) has)
-    (λ (some : a ≡ 0 → ⊥). holds_moved 0 (go.leaves (omega (arith, some))) z ne has) (cases_eq a 0)
+dropped_memory v v' n i {a} go z ne has = elim (cases_eq a 0) [
+  | inl none ↦ rw (go.none none) has
+  | inr some ↦ holds_moved 0 (go.leaves (omega arith)) z ne has
+]
 
 pub changed_memory : (v v' : LogMemory) (n i : ℕ) (bytes : List ℕ) → length bytes ≡ 512 → ChangesBlock v v' n i bytes → {z : Entry}
     → (z ≡ Data n i → ⊥) → IsInMemory v z → IsInMemory v' z
-changed_memory v v' n i bytes long go {z} ne has = ⊎_elim
-    (λ (none : bytes ≡ zeros 512). dropped_memory v v' n i (go.puts.drops none) z ne has)
-    (λ (some : bytes ≡ zeros 512 → ⊥). stored_memory v v' n i bytes (go.puts.stores some) z has) (blank_or bytes long)
+changed_memory v v' n i bytes long go {z} ne has = elim (blank_or bytes long) [
+  | inl none ↦ dropped_memory v v' n i (go.puts.drops none) z ne has
+  | inr some ↦ stored_memory v v' n i bytes (go.puts.stores some) z has
+]
 
 -- so the block above any other
 pub above_changed : (v v' : LogMemory) {n i : ℕ} {bytes : List ℕ} → length bytes ≡ 512 → ChangesBlock v v' n i bytes → (y : Entry)
@@ -87,8 +90,8 @@ grown_memory v v' x go z has = holds_fetched go.comes z has
 -- ---- as a header changes, or a file is made
 pub headed_memory : (v v' : LogMemory) {n : ℕ} {kind : Kind} {form links size : ℕ} → ChangesHeader v v' n kind form links size → (z : Entry)
     → IsInMemory v z → IsInMemory v' z
-headed_memory v v' {n} go z has = holds_changed go.changes z has
+headed_memory v v' go z has = holds_changed go.changes z has
 
 pub created_memory : (v v' : LogMemory) {n : ℕ} {kind : Kind} {form links size : ℕ} → Creates v v' n kind form links size → (z : Entry)
     → IsInMemory v z → IsInMemory v' z
-created_memory v v' {n} go z has = holds_changed go.changes z has
+created_memory v v' go z has = holds_changed go.changes z has

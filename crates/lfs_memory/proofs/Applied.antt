@@ -1,6 +1,6 @@
 -- A batch of changes in memory: where all is ready it doesn't fail, and the log map after it is the one that was asked for.
-use Rattle.std.proofs.Common.{◌≡◌, ◌<◌, ◌⊎◌, ⊎_elim, inl, inr, ◌+◌, ◌/◌, ◌==◌, ℕ, zero, suc, false, List, [], ◌∷◌, length, get_or, drop}
-use Rattle.std.proofs.Common.{None, Some, refl, sym, ◌∙◌, ap, subst, arith}
+use Rattle.std.proofs.Common.{◌≡◌, ◌<◌, ◌⊎◌, inl, inr, ◌+◌, ◌/◌, ◌==◌, ℕ, zero, suc, false, List, [], ◌∷◌, length, get_or, drop}
+use Rattle.std.proofs.Common.{None, refl, sym, ◌∙◌, ap, arith}
 use Rattle.std.proofs.lemmas.Bool.{cases_eq}
 use Rattle.std.proofs.lemmas.List.{drop_more}
 use Rattle.lfs_model.specs.Checkpoint.{CheckpointValue}
@@ -16,7 +16,7 @@ use Rattle.lfs_memory.specs.declared.batch.BlockEdit.{BlockEdit}
 use Rattle.lfs_memory.specs.declared.batch.HeaderEdit.{HeaderEdit}
 use Rattle.lfs_memory.specs.declared.memory.LogMemory.{LogMemory}
 use Rattle.lfs_memory.specs.Memory.{IsLoose}
-use Rattle.lfs_memory.specs.Changing.{ChangesBlock, HasAbove, IsBlockMiscounted, Stays}
+use Rattle.lfs_memory.specs.Changing.{ChangesBlock, HasAbove, Stays}
 use Rattle.lfs_memory.specs.Lifting.{IsInMemory}
 use Rattle.lfs_memory.specs.Preparing.{HasParent, IsHeaderReady, AreBlocksReady, AreHeadersReady}
 use Rattle.lfs_memory.specs.Applying.{Applies, FailsToApply, after_batch, AppliesHeader, AppliesHeaders, AppliesBlocks, FailsHeaders}
@@ -32,11 +32,11 @@ zero_or zero P none some = none refl
 zero_or (suc a) P none some = some (omega arith)
 
 some_link : (n : ℕ) → (n == 0) ≡ false → 0 < n
-some_link zero off = absurd cc
+some_link zero off = cc
 some_link (suc n) off = omega arith
 
 nothing_in_none : (v : LogMemory) (x : Entry) → IsInMemory v x → blocks_of v.dirty x ≡ None → ⊥
-nothing_in_none v x has none = let e : Some has.0 ≡ None = sym has.1 ∙ none in absurd cc
+nothing_in_none v x has none = cc
 
 -- ---- the inodes that are there
 module _ {d : DeviceState} {v : LogMemory} (k : CheckpointValue) {m0 : LogMap} (m : LogMap) (is : IsLoose d v k m0 m) (n : ℕ) where
@@ -44,10 +44,10 @@ module _ {d : DeviceState} {v : LogMemory} (k : CheckpointValue) {m0 : LogMap} (
   inode_at = is.running.tables.at (Inode n) refl
 
   pub has_inode : 0 < address_in v.map n → HasInode m n
-  has_inode some = let at = inode_at in (is.running.laid.inodes n).1 (omega (arith, at, some))
+  has_inode some = (is.running.laid.inodes n).1 (omega (arith, inode_at))
 
   inode_some : HasInode m n → address_in v.map n ≡ 0 → ⊥
-  inode_some has none = let at = inode_at in let some = (is.running.laid.inodes n).0 has in omega (arith, at, some, none)
+  inode_some has none = omega (arith, (is.running.laid.inodes n).0 has, inode_at)
 
 -- ---- a header
 -- what stays as a file gets one
@@ -66,29 +66,29 @@ keeps_files v {v'} e go = zero_or (address_in v.map e.number) (KeepsFiles v v' e
       stay = created_memory v v' c;
       own = λ at. (_, c.changes.own);
       others = c.address.others;
-      same = λ some. absurd (omega (arith, some, none));
-      blocks = λ j. ap (λ (l : List ℕ). get_or l j 0) c.blocks;
+      same = λ some. omega arith;
+      blocks = λ j. rw c.blocks;
     })
     (λ some.
     let c = go.changes some in
     record {
       stay = headed_memory v v' c;
-      own = λ at. absurd (omega (arith, some, at));
-      others = λ l ne. ap (λ (a : MapValue). address_in a l) c.map;
-      same = λ at. ap (λ (a : MapValue). address_in a e.number) c.map;
-      blocks = λ j. ap (λ (a : MapValue). block_in a j) c.map;
+      own = λ at. absurd (omega arith);
+      others = λ l ne. rw c.map;
+      same = λ at. rw c.map;
+      blocks = λ j. rw c.map;
     })
 
 -- so what is ready stays so
 inside_then : (v v' : LogMemory) (n l : ℕ) → KeepsFiles v v' n → IsInMemory v (Inode l) ⊎ (address_in v.map l ≡ 0)
     → IsInMemory v' (Inode l) ⊎ (address_in v'.map l ≡ 0)
-inside_then v v' n l keeps was = ⊎_elim
-    (λ (has : IsInMemory v (Inode l)). inl (keeps.stay (Inode l) has))
-    (λ (none : address_in v.map l ≡ 0). ⊎_elim
-    (λ (here : l ≡ n). inl (subst (λ (f : ℕ). IsInMemory v' (Inode f)) (sym here) (keeps.own (ap (address_in v.map) (sym here) ∙ none))))
-    (λ (ne : l ≡ n → ⊥). inr (keeps.others l ne ∙ none))
-    (cases_eq l n))
-    was
+inside_then v v' n l keeps was = elim was [
+  | inl has ↦ inl (keeps.stay (Inode l) has)
+  | inr none ↦ elim (cases_eq l n) [
+    | inl here ↦ inl (rw here (keeps.own (ap (address_in v.map) (sym here) ∙ none)))
+    | inr ne ↦ inr (keeps.others l ne ∙ none)
+  ]
+]
 
 header_ready_then : (v v' : LogMemory) (n : ℕ) {l links : ℕ} → KeepsFiles v v' n → IsHeaderReady v l links → IsHeaderReady v' l links
 header_ready_then v v' n {l} keeps was = record {
@@ -103,13 +103,13 @@ headers_ready_then {v} {v'} {n} keeps (e ∷ edits) was =
     (header_ready_then v v' n keeps was.0, headers_ready_then keeps edits was.1)
 
 ready_then : (v v' : LogMemory) (n l i : ℕ) → KeepsFiles v v' n → HasParent v l i → HasParent v' l i
-ready_then v v' n l i keeps was = ⊎_elim
-    (λ (has : HasAbove (blocks_of v.dirty) (Data l i)). inl (keeps.stay (parent (Data l i)) has))
-    (λ (made : (address_in v.map l ≡ 0) × (i < 112)). ⊎_elim
-    (λ (has : IsInMemory v' (Inode l)). inl (subst (IsInMemory v') (sym (data_parent_low l i made.1)) has))
-    (λ (none : address_in v'.map l ≡ 0). inr (none, made.1))
-    (inside_then v v' n l keeps (inr made.0)))
-    was
+ready_then v v' n l i keeps was = elim was [
+  | inl has ↦ inl (keeps.stay (parent (Data l i)) has)
+  | inr made ↦ elim (inside_then v v' n l keeps (inr made.0)) [
+    | inl has ↦ inl (rw (data_parent_low l i made.1) has)
+    | inr none ↦ inr (none, made.1)
+  ]
+]
 
 blocks_ready_then : (v : LogMemory) {v' : LogMemory} {n : ℕ} → KeepsFiles v v' n → (edits : List BlockEdit) → AreBlocksReady v edits
     → AreBlocksReady v' edits
@@ -119,7 +119,7 @@ blocks_ready_then v {v'} {n} keeps (e ∷ edits) was =
 
 module _ (d : DeviceState) (v v' : LogMemory) (k : CheckpointValue) (m0 m : LogMap) (is : IsLoose d v k m0 m) (e : HeaderEdit) where
   in_range : e.number < 4096
-  in_range = let few = e.few in omega (arith, few)
+  in_range = omega arith
 
   header_applied : IsHeaderReady v e.number e.header.links → FitsFile m e → AppliesHeader v v' e → IsLoose d v' k m0 (after_header e m)
   header_applied ready fits go = zero_or (address_in v.map e.number) (IsLoose d v' k m0 (after_header e m))
@@ -130,41 +130,43 @@ module _ (d : DeviceState) (v v' : LogMemory) (k : CheckpointValue) (m0 m : LogM
       (λ named. ready.mapped (some_link e.header.links named)) (go.changes some))
 
 not_away : (v : LogMemory) {n links : ℕ} → IsHeaderReady v n links → IsInodeAway v n → ⊥
-not_away v {n} ready away = ⊎_elim
-    (λ (has : IsInMemory v (Inode n)). nothing_in_none v (Inode n) has away.1)
-    (λ (none : address_in v.map n ≡ 0). let some = away.0 in omega (arith, none, some))
-    ready.inside
+not_away v {n} ready away = elim ready.inside [
+  | inl has ↦ nothing_in_none v (Inode n) has away.1
+  | inr none ↦ omega arith
+]
 
 -- ---- headers, one after the other
 pub headers_applied : (d : DeviceState) (k : CheckpointValue) {m0 : LogMap} (edits : List HeaderEdit) {v : LogMemory} (w : LogMemory)
     {m : LogMap}
     → IsLoose d v k m0 m → AreHeadersReady v edits → AreHeadersFit m edits
     → AppliesHeaders v edits w → IsLoose d w k m0 (after_headers edits m)
-headers_applied d k {m0} [] w {m} is ready fit same = subst (λ (u : LogMemory). IsLoose d u k m0 m) (sym same) is
+headers_applied d k [] w is ready fit same = rw same is
 headers_applied d k {m0} (e ∷ edits) {v} w {m} is ready fit go =
     headers_applied d k edits w (header_applied d v go.0 k m0 m is e ready.0 fit.0 go.1)
     (headers_ready_then (keeps_files v e go.1) edits ready.1) fit.1 go.2
 
 pub headers_never_fail : (edits : List HeaderEdit) (v : LogMemory) → AreHeadersReady v edits → FailsHeaders v edits → ⊥
 headers_never_fail [] v ready bad = bad
-headers_never_fail (e ∷ edits) v ready bad = ⊎_elim
-    (λ (away : IsInodeAway v e.number). not_away v ready.0 away)
-    (λ (later : (v' : LogMemory) × AppliesHeader v v' e × FailsHeaders v' edits).
-    headers_never_fail edits later.0 (headers_ready_then (keeps_files v e later.1) edits ready.1) later.2) bad
+headers_never_fail (e ∷ edits) v ready bad = elim bad [
+  | inl away ↦ not_away v ready.0 away
+  | inr later ↦
+      headers_never_fail edits later.0 (headers_ready_then (keeps_files v e later.1) edits ready.1) later.2
+]
 
 pub blocks_ready_after : (edits : List HeaderEdit) (v w : LogMemory) → AppliesHeaders v edits w → (bs : List BlockEdit)
     → AreBlocksReady v bs → AreBlocksReady w bs
-blocks_ready_after [] v w same bs ready = subst (λ (u : LogMemory). AreBlocksReady u bs) (sym same) ready
+blocks_ready_after [] v w same bs ready = rw same ready
 blocks_ready_after (e ∷ edits) v w go bs ready =
     blocks_ready_after edits go.0 w go.2 bs (blocks_ready_then v (keeps_files v e go.1) bs ready)
 
 -- ---- blocks
 block_ready_then : (v v' : LogMemory) (e : BlockEdit) → ChangesBlock v v' e.number e.index e.bytes → (l i : ℕ) → HasParent v l i
     → HasParent v' l i
-block_ready_then v v' e go l i was = ⊎_elim
-    (λ (has : HasAbove (blocks_of v.dirty) (Data l i)). inl (above_changed v v' e.long go (Data l i) has))
-    (λ (made : (address_in v.map l ≡ 0) × (i < 112)).
-    inr (ap (λ (a : MapValue). address_in a l) (block_stays v e.long go).1 ∙ made.0, made.1)) was
+block_ready_then v v' e go l i was = elim was [
+  | inl has ↦ inl (above_changed v v' e.long go (Data l i) has)
+  | inr made ↦
+      inr (ap (λ (a : MapValue). address_in a l) (block_stays v e.long go).1 ∙ made.0, made.1)
+]
 
 still_ready : (v : LogMemory) {v' : LogMemory} (e : BlockEdit) → ChangesBlock v v' e.number e.index e.bytes → (edits : List BlockEdit)
     → AreBlocksReady v edits → AreBlocksReady v' edits
@@ -173,29 +175,30 @@ still_ready v {v'} e go (f ∷ edits) was = (block_ready_then v v' e go f.number
 
 module _ (d : DeviceState) (v : LogMemory) (k : CheckpointValue) {m0 : LogMap} (m : LogMap) (is : IsLoose d v k m0 m) (e : BlockEdit) where
   below_all : e.number < 4096
-  below_all = let few = e.few in omega (arith, few)
+  below_all = omega arith
 
   block_applied : {v' : LogMemory} → ChangesBlock v v' e.number e.index e.bytes → IsLoose d v' k m0 (after_block e m)
   block_applied {v'} go = block_changed d v v' k m0 m is below_all e.long go
 
   -- the block above one of a file that is there
   has_above : HasParent v e.number e.index → HasInode m e.number → HasAbove (blocks_of v.dirty) (Data e.number e.index)
-  has_above ready there = ⊎_elim
-      (λ (has : HasAbove (blocks_of v.dirty) (Data e.number e.index)). has)
-      (λ (made : (address_in v.map e.number ≡ 0) × (e.index < 112)). absurd (inode_some k m is e.number there made.0)) ready
+  has_above ready there = elim ready [
+    | inl has ↦ has
+    | inr made ↦ absurd (inode_some k m is e.number there made.0)
+  ]
 
   block_not_away : HasParent v e.number e.index → HasInode m e.number → IsBlockAway v e.number e.index → ⊥
-  block_not_away ready there away = ⊎_elim
-      (λ (none : blocks_of v.dirty (parent (Data e.number e.index)) ≡ None).
-      nothing_in_none v (parent (Data e.number e.index)) (has_above ready there) none)
-      (λ (bad : IsBlockMiscounted v e.number e.index). block_counted d v k m0 m is below_all bad) away
+  block_not_away ready there away = elim away [
+    | inl none ↦ nothing_in_none v (parent (Data e.number e.index)) (has_above ready there) none
+    | inr bad ↦ block_counted d v k m0 m is below_all bad
+  ]
 
 -- ---- blocks, one after the other
 pub blocks_applied : (d : DeviceState) (k : CheckpointValue) (m0 : LogMap) (edits : List BlockEdit) {v : LogMemory} (w : LogMemory)
     {m : LogMap}
     → IsLoose d v k m0 m → AppliesBlocks v edits w
     → IsLoose d w k m0 (after_blocks edits m)
-blocks_applied d k m0 [] w {m} is same = subst (λ (u : LogMemory). IsLoose d u k m0 m) (sym same) is
+blocks_applied d k m0 [] w is same = rw same is
 blocks_applied d k m0 (e ∷ edits) {v} w {m} is go =
     blocks_applied d k m0 edits w (block_applied d v k m is e go.1) go.2
 
@@ -203,10 +206,11 @@ pub blocks_never_fail : (d : DeviceState) (k : CheckpointValue) {m0 : LogMap} (e
     → IsLoose d v k m0 m → AreBlocksReady v edits → AreBlocksFit m edits
     → FailsBlocks v edits → ⊥
 blocks_never_fail d k [] is ready fit bad = bad
-blocks_never_fail d k {m0} (e ∷ edits) {v} {m} is ready fit bad = ⊎_elim
-    (λ (away : IsBlockAway v e.number e.index). block_not_away d v k m is e ready.0 fit.0 away)
-    (λ (later : (v' : LogMemory) × ChangesBlock v v' e.number e.index e.bytes × FailsBlocks v' edits).
-    blocks_never_fail d k edits (block_applied d v k m is e later.1) (still_ready v e later.1 edits ready.1) fit.1 later.2) bad
+blocks_never_fail d k (e ∷ edits) {v} {m} is ready fit bad = elim bad [
+  | inl away ↦ block_not_away d v k m is e ready.0 fit.0 away
+  | inr later ↦
+      blocks_never_fail d k edits (block_applied d v k m is e later.1) (still_ready v e later.1 edits ready.1) fit.1 later.2
+]
 
 -- ---- the whole batch
 module _ (d : DeviceState) (k : CheckpointValue) (m0 : LogMap) {m : LogMap} (headers : List HeaderEdit) (blocks : List BlockEdit)
@@ -217,12 +221,12 @@ module _ (d : DeviceState) (k : CheckpointValue) (m0 : LogMap) {m : LogMap} (hea
   batch_applied w go = blocks_applied d k m0 blocks w (headers_applied d k headers go.0 is headers_ready headers_fit go.1) go.2
 
   pub batch_never_fails : AreBlocksReady v blocks → AreBlocksFit (after_headers headers m) blocks → FailsToApply v headers blocks → ⊥
-  batch_never_fails blocks_ready blocks_fit bad = ⊎_elim
-      (λ (first : FailsHeaders v headers). headers_never_fail headers v headers_ready first)
-      (λ (then : (u : LogMemory) × AppliesHeaders v headers u × FailsBlocks u blocks).
-      blocks_never_fail d k blocks (headers_applied d k headers then.0 is headers_ready headers_fit then.1)
-      (blocks_ready_after headers v then.0 then.1 blocks blocks_ready) blocks_fit then.2)
-      bad
+  batch_never_fails blocks_ready blocks_fit bad = elim bad [
+    | inl first ↦ headers_never_fail headers v headers_ready first
+    | inr then ↦
+        blocks_never_fail d k blocks (headers_applied d k headers then.0 is headers_ready headers_fit then.1)
+        (blocks_ready_after headers v then.0 then.1 blocks blocks_ready) blocks_fit then.2
+  ]
 
 -- ---- loops
 -- the headers up to here are done, and the rest is still to come
@@ -247,8 +251,8 @@ module _ {old now : LogMemory} {edits : List HeaderEdit} {i : ℕ} {e : HeaderEd
 
   pub headers_then : (next : LogMemory) → AppliesHeader now next e → HeadersSoFar old next edits (drop (i + 1) edits) (i + 1)
   headers_then next go = record {
-    done = λ w rest. was.done w (subst (λ (es : List HeaderEdit). AppliesHeaders now es w) (sym first_header) (next, go, rest));
-    failed = λ bad. was.failed (subst (λ (es : List HeaderEdit). FailsHeaders now es) (sym first_header) (inr (next, go, bad)));
+    done = λ w rest. was.done w (rw first_header (next, go, rest));
+    failed = λ bad. was.failed (rw first_header (inr (next, go, bad)));
     stays = stays_then was.stays (header_stays now next e go);
   }
 
@@ -260,7 +264,7 @@ module _ {old now : LogMemory} {edits : List BlockEdit} {i : ℕ} (e : BlockEdit
   pub blocks_then : (next : LogMemory) → ChangesBlock now next e.number e.index e.bytes
       → BlocksSoFar old next edits (drop (i + 1) edits) (i + 1)
   blocks_then next go = record {
-    done = λ w rest. was.done w (subst (λ (es : List BlockEdit). AppliesBlocks now es w) (sym first_block) (next, go, rest));
-    failed = λ bad. was.failed (subst (λ (es : List BlockEdit). FailsBlocks now es) (sym first_block) (inr (next, go, bad)));
+    done = λ w rest. was.done w (rw first_block (next, go, rest));
+    failed = λ bad. was.failed (rw first_block (inr (next, go, bad)));
     stays = stays_then was.stays (block_stays now e.long go).0;
   }

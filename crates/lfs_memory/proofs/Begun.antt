@@ -1,19 +1,19 @@
 -- A block that gets the next place: the chunk that it goes to, as the log runs.
-use Rattle.std.proofs.Common.{◌≡◌, ◌<◌, ⊎_elim, ◌⊎◌, inl, inr, ◌/◌, ℕ, zero, suc, Bool, true, not, List, [], ◌∷◌, ◌++◌, length, Some, refl}
-use Rattle.std.proofs.Common.{sym, ◌∙◌, ap, subst, arith}
+use Rattle.std.proofs.Common.{◌≡◌, ◌<◌, ⊎_elim, ◌⊎◌, inl, inr, ℕ, zero, suc, Bool, true, List, [], ◌∷◌, ◌++◌, length, Some, refl}
+use Rattle.std.proofs.Common.{sym, ◌∙◌, ap, arith}
 use Rattle.std.specs.Prelude.{map}
 use Rattle.std.proofs.lemmas.List.{length-append, map-append}
-use Rattle.lfs_model.specs.Checkpoint.{CheckpointValue, IsSegmentCount}
+use Rattle.lfs_model.specs.Checkpoint.{CheckpointValue}
 use Rattle.lfs_model.specs.Crash.{IsFreeSector}
 use Rattle.lfs_model.specs.Device.{DeviceState}
 use Rattle.lfs_model.specs.Entry.{Entry, Data, Leaf, Double, Inode, Map, Usage, entry_of}
 use Rattle.lfs_model.specs.Stands.{LogMap}
 use Rattle.lfs_model.specs.Summary.{BlockNameValue}
 use Rattle.lfs_model.specs.Memory.{is_shown}
-use Rattle.lfs_model.specs.Running.{Tables, Running, IsAddressed, IsNoted, IsTakenFrom, GoesOnIn, CountsUp}
+use Rattle.lfs_model.specs.Running.{Tables, Running, IsAddressed, IsNoted, IsTakenFrom, GoesOnIn}
 use Rattle.lfs_model.specs.Committing.{place_of}
 use Rattle.lfs_model.proofs.Leaving.{beginning, going_on}
-use Rattle.lfs_segments.specs.Table.{UsageTable, used_of, live_of, held_of, stale_of}
+use Rattle.lfs_segments.specs.Table.{UsageTable, used_of, stale_of}
 use Rattle.lfs_segments.specs.Chunk.{entries_of}
 use Rattle.lfs_segments.specs.Steps.{TakesSegment, GoesOn}
 use Rattle.lfs_segments.specs.Emptied.{IsEmptied}
@@ -22,7 +22,7 @@ use Rattle.lfs_segments.proofs.StaysEmptied.{stays_emptied}
 use Rattle.lfs_inodes.specs.Blocks.{Capacity, TableValue, blocks_of}
 use Rattle.lfs_inodes.specs.MapValue.{MapValue}
 use Rattle.lfs_memory.specs.declared.memory.LogMemory.{LogMemory}
-use Rattle.lfs_memory.specs.Memory.{IsMemory, IsMemoryUpTo, IsLog, Places, tables_by, tables_of, segment_in, chunk_in}
+use Rattle.lfs_memory.specs.Memory.{IsMemory, IsMemoryUpTo, IsLog, Places, tables_by, segment_in, chunk_in}
 use Rattle.lfs_memory.proofs.Opened.{is_open, is_closed, as_chunk, open_segment, open_chunk, taken_free}
 use Rattle.lfs_memory.proofs.Stales.{stays_stale}
 
@@ -32,7 +32,7 @@ zero_or_more (suc n) = inr (omega arith)
 
 no_entries : (names : List BlockNameValue) → length names ≡ 0 → map entry_of names ≡ []
 no_entries [] none = refl
-no_entries (x ∷ xs) none = absurd (omega (arith, none))
+no_entries (x ∷ xs) none = absurd (omega arith)
 
 -- a segment taken from the clean ones, as the tables see it
 pub taken_tables : (map : MapValue) {old new : UsageTable} {s : ℕ} (age : ℕ) → TakesSegment old new s age
@@ -61,7 +61,7 @@ pub gone_tables : (map : MapValue) {old new : UsageTable} {s : ℕ} (age : ℕ) 
     → GoesOnIn (tables_by map old) (tables_by map new) s
 gone_tables map {old} {new} age g = record {
   some = g.begun;
-  room = let r = g.room in omega (arith, r);
+  room = omega arith;
   at = at;
   used = g.used;
   live = g.live;
@@ -89,37 +89,35 @@ module _ {v v' : LogMemory} {name : BlockNameValue} {lives : Bool} {age place : 
 
   -- the segment has room for the block
   pub room_left : before.used v'.chunk.segment < 64
-  room_left = ⊎_elim
-      (λ (none : length v.chunk.names ≡ 0). begins_room v.usage p.middle v'.chunk.segment age (p.begun none))
-      (λ (some : 0 < length v.chunk.names).
-      let w = p.went_on some in
-      let u = ap (λ (u : UsageTable). used_of u v'.chunk.segment) w.0 in
-      let s = ap (used_of v.usage) w.1 in
-      let o = (memory.opened some).used in
-      let short = memory.short some in
-      omega (arith, u, s, o, short))
-      (zero_or_more (length v.chunk.names))
+  room_left = elim (zero_or_more (length v.chunk.names)) [
+    | inl none ↦ begins_room v.usage p.middle v'.chunk.segment age (p.begun none)
+    | inr some ↦
+        let w = p.went_on some in
+        let o = (memory.opened some).used in
+        let short = memory.short some in
+        omega (arith, ap (used_of v.usage) w.1, ap (λ (u : UsageTable). used_of u v'.chunk.segment) w.0)
+  ]
 
   pub segments_same : length v'.usage.segments ≡ length v.usage.segments
-  segments_same = ⊎_elim
-      (λ (none : length v.chunk.names ≡ 0). p.noted.size ∙ begins_size v.usage p.middle v'.chunk.segment age (p.begun none))
-      (λ (some : 0 < length v.chunk.names). p.noted.size ∙ ap (λ (u : UsageTable). length u.segments) (p.went_on some).0)
-      (zero_or_more (length v.chunk.names))
+  segments_same = elim (zero_or_more (length v.chunk.names)) [
+    | inl none ↦ p.noted.size ∙ begins_size v.usage p.middle v'.chunk.segment age (p.begun none)
+    | inr some ↦ p.noted.size ∙ ap (λ (u : UsageTable). length u.segments) (p.went_on some).0
+  ]
 
   pub addresses_same : (j : ℕ) → (tables_by v.map v'.usage).at (Usage j) ≡ (tables_by v.map v.usage).at (Usage j)
-  addresses_same j = ⊎_elim
-      (λ (none : length v.chunk.names ≡ 0). p.noted.blocks.address j
-      ∙ begins_address v.usage p.middle v'.chunk.segment age (p.begun none) j)
-      (λ (some : 0 < length v.chunk.names). p.noted.blocks.address j
-      ∙ ap (λ (u : UsageTable). (tables_by v.map u).at (Usage j)) (p.went_on some).0)
-      (zero_or_more (length v.chunk.names))
+  addresses_same j = elim (zero_or_more (length v.chunk.names)) [
+    | inl none ↦ p.noted.blocks.address j
+        ∙ begins_address v.usage p.middle v'.chunk.segment age (p.begun none) j
+    | inr some ↦ p.noted.blocks.address j
+        ∙ ap (λ (u : UsageTable). (tables_by v.map u).at (Usage j)) (p.went_on some).0
+  ]
 
   stale_still : (j : ℕ) → stale_of v.usage j ≡ true → stale_of v'.usage j ≡ true
-  stale_still j on = ⊎_elim
-      (λ (none : length v.chunk.names ≡ 0). stays_stale j p.noted.blocks
-      (begins_stale v.usage p.middle v'.chunk.segment age (p.begun none) j on))
-      (λ (some : 0 < length v.chunk.names). stays_stale j p.noted.blocks (ap (λ (u : UsageTable). stale_of u j) (p.went_on some).0 ∙ on))
-      (zero_or_more (length v.chunk.names))
+  stale_still j on = elim (zero_or_more (length v.chunk.names)) [
+    | inl none ↦ stays_stale j p.noted.blocks
+        (begins_stale v.usage p.middle v'.chunk.segment age (p.begun none) j on)
+    | inr some ↦ stays_stale j p.noted.blocks (rw ((p.went_on some).0) on)
+  ]
 
   pub long_names : length v'.chunk.names ≡ suc (length v.chunk.names)
   long_names = ap length p.names ∙ length-append v.chunk.names (name ∷ []) ∙ omega arith
@@ -128,38 +126,33 @@ module _ {v v' : LogMemory} {name : BlockNameValue} {lives : Bool} {age place : 
   more_entries = ap (map entry_of) p.names ∙ map-append entry_of v.chunk.names (name ∷ [])
 
   pub opened_after : chunk_in v'.chunk ≡ Some (entries_of v.chunk ++ entry_of name ∷ [])
-  opened_after = let long = long_names in open_chunk v'.chunk (omega (arith, long)) ∙ ap Some more_entries
+  opened_after = open_chunk v'.chunk (omega (arith, long_names)) ∙ ap Some more_entries
 
   pub segment_after : segment_in v'.chunk ≡ v'.chunk.segment
-  segment_after = let long = long_names in open_segment v'.chunk (omega (arith, long))
+  segment_after = open_segment v'.chunk (omega (arith, long_names))
 
   pub memory_after : (map : MapValue) (dirty : TableValue) → dirty.capacity ≡ v.dirty.capacity
       → IsMemoryUpTo 63 (record { map = map; usage = v'.usage; dirty = dirty; chunk = v'.chunk })
   memory_after map dirty same = record {
-    count = subst (λ (n : ℕ). IsSegmentCount n) (sym segments_same) memory.count;
+    count = rw segments_same memory.count;
     opened = λ some. p.opened;
-    short = λ some. let u = p.noted.used.own in let o = p.opened.used in let r = room_left in omega (arith, u, o, r);
+    short = λ some. omega (arith, room_left);
     usages = λ j one. stale_still j (memory.usages j (sym (addresses_same j) ∙ one));
-    few = let few = memory.few in let c = ap (λ (c : Capacity). c.limit) same in let size = segments_same in omega (arith, few, c, size);
+    few = omega (arith, segments_same, ap (λ (c : Capacity). c.limit) same);
   }
 
   -- it has sectors that the acknowledged checkpoint doesn't need
   unkept : before.kept v'.chunk.segment < before.used v'.chunk.segment
   unkept =
-      let k = p.noted.kept v'.chunk.segment in
-      let f = p.opened.free in
-      let u = p.noted.used.own in
-      let o = p.opened.used in
-      let long = long_names in
-      omega (arith, k, f, u, o, long)
+      omega (arith, long_names, p.noted.kept v'.chunk.segment)
 
   -- a segment that was emptied stays so
   pub placed_emptied : (s : ℕ) → IsEmptied v.usage s → IsEmptied v'.usage s
   placed_emptied s is =
-      let middle : IsEmptied p.middle s = ⊎_elim
-      (λ (none : length v.chunk.names ≡ 0). (stays_emptied p.middle is).0 v'.chunk.segment age (p.begun none))
-      (λ (some : 0 < length v.chunk.names). subst (λ (u : UsageTable). IsEmptied u s) (sym (p.went_on some).0) is)
-      (zero_or_more (length v.chunk.names)) in
+      let middle : IsEmptied p.middle s = elim (zero_or_more (length v.chunk.names)) [
+        | inl none ↦ (stays_emptied p.middle is).0 v'.chunk.segment age (p.begun none)
+        | inr some ↦ rw ((p.went_on some).0) is
+      ] in
       (stays_emptied v'.usage middle).1 v'.chunk.segment lives p.noted unkept
 
   module _ {d : DeviceState} {k : CheckpointValue} {m0 m : LogMap} (is : IsLog d v k m0 m) where
@@ -168,36 +161,35 @@ module _ {v v' : LogMemory} {name : BlockNameValue} {lives : Bool} {age place : 
       where
         first : length v.chunk.names ≡ 0 → Running d (blocks_of v.dirty) before k m0 m v'.chunk.segment (Some (entries_of v.chunk))
         first none =
-            as_chunk {b = v'.chunk.segment} refl (ap Some (sym (no_entries v.chunk.names none))) (⊎_elim
-            (λ (t : TakesSegment v.usage p.middle v'.chunk.segment age).
-            beginning d (blocks_of v.dirty) (tables_of v) before k m0 m 1024 v'.chunk.segment (is_closed is none)
-            (let i = t.inside in let e = is.segments in omega (arith, i, e)) (taken_tables v.map age t))
-            (λ (g : GoesOn v.usage p.middle v'.chunk.segment age).
-            going_on d (blocks_of v.dirty) (tables_of v) before k m0 m 1024 v'.chunk.segment (is_closed is none)
-            (let i = g.inside in let e = is.segments in omega (arith, i, e)) (gone_tables v.map age g)) (p.begun none))
+            as_chunk {b = v'.chunk.segment} refl (ap Some (sym (no_entries v.chunk.names none))) (elim (p.begun none) [
+              | inl t ↦
+                  beginning d _ _ before k m0 m 1024 v'.chunk.segment (is_closed is none)
+                  (omega arith) (taken_tables v.map age t)
+              | inr g ↦
+                  going_on d _ _ before k m0 m 1024 v'.chunk.segment (is_closed is none)
+                  (omega arith) (gone_tables v.map age g)
+            ])
 
         more : 0 < length v.chunk.names → Running d (blocks_of v.dirty) before k m0 m v'.chunk.segment (Some (entries_of v.chunk))
         more some =
             let w = p.went_on some in
-            subst (λ (u : UsageTable).
-            Running d (blocks_of v.dirty) (tables_by v.map u) k m0 m v'.chunk.segment (Some (entries_of v.chunk))) (sym w.0) (as_chunk
+            rw w.0 (as_chunk
             {y = Some (entries_of v.chunk)} (sym w.1) refl (is_open is some))
 
     -- the place may be written
     pub free_place : IsFreeSector d.content k place
     free_place =
-        let inside : v'.chunk.segment < k.segments = let i = p.opened.inside in let s = segments_same in let e = is.segments in
-        omega (arith, i, s, e) in
-        subst (λ (n : ℕ). IsFreeSector d.content k n) (sym p.address) (taken_free begun v'.chunk.segment
-        (before.used v'.chunk.segment) inside (let u = unkept in omega (arith, u)) room_left)
+        let inside : v'.chunk.segment < k.segments = let s = segments_same in omega arith in
+        rw p.address (taken_free begun v'.chunk.segment
+        (before.used v'.chunk.segment) inside (omega arith) room_left)
 
     pub noted : {x : Entry} (map' : MapValue) → lives ≡ is_shown m x → IsAddressed before (tables_by map' v'.usage) x place
         → IsNoted m before (tables_by map' v'.usage) x (place_of before v'.chunk.segment) v'.chunk.segment
-    noted {x} map' shows at = record {
-      at = subst (λ (n : ℕ). IsAddressed before (tables_by map' v'.usage) x n) place_is at;
+    noted map' shows at = record {
+      at = rw place_is at at;
       used = p.noted.used;
-      live = subst (λ (b : Bool). CountsUp b (live_of p.middle) (live_of v'.usage) v'.chunk.segment) shows p.noted.live;
-      held = subst (λ (b : Bool). CountsUp (not b) (held_of p.middle) (held_of v'.usage) v'.chunk.segment) shows p.noted.held;
+      live = rw shows at p.noted.live;
+      held = rw shows at p.noted.held;
       age = λ i ne. p.noted.age i;
       kept = p.noted.kept;
       stale = p.noted.blocks.stale;

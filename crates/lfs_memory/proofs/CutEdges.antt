@@ -1,5 +1,5 @@
 -- What points to the blocks that go comes into memory.
-use Rattle.std.proofs.Common.{◌≡◌, ◌<◌, ◌≤◌, ⊎_elim, ◌+◌, ◌*◌, ◌-◌, ◌/◌, ◌%◌, ℕ, zero, suc, Bool, true, false, refl, sym, ◌∙◌, ap, subst}
+use Rattle.std.proofs.Common.{◌≡◌, ◌<◌, ◌≤◌, ◌+◌, ◌*◌, ◌-◌, ◌/◌, ◌%◌, ℕ, zero, suc, Bool, true, false, refl, ◌∙◌, ap}
 use Rattle.std.proofs.Common.{arith, inl, inr}
 use Rattle.std.specs.Prelude.{Result, Ok, Err, IsErr, IsErrAnd, IsErrOf, IsTrue, IsFalse}
 use Rattle.lfs_model.specs.Checkpoint.{CheckpointValue}
@@ -12,36 +12,32 @@ use Rattle.lfs_model.proofs.Reading.{reading}
 use Rattle.lfs_model.proofs.Replacing.{address_at}
 use Rattle.lfs_inodes.specs.Blocks.{blocks_of}
 use Rattle.lfs_memory.specs.declared.memory.LogMemory.{LogMemory}
-use Rattle.lfs_memory.specs.Memory.{IsLoose, tables_of, segment_in, chunk_in}
+use Rattle.lfs_memory.specs.Memory.{IsLoose, tables_of}
 use Rattle.lfs_memory.specs.Lifting.{IsInMemory}
 use Rattle.lfs_memory.specs.Cutting.{IsCutLeaf, IsLiftedIfStored, HasEdge}
 
--- a fault is what it is in another result too
-pub other_result : {T U E : Type 0} (e x : E) → IsErrOf {T = T} (Err e) x → IsErrOf {T = U} (Err e) x
-other_result e x is = let same : e ≡ x = cc in ap Err same
-
--- and where it is passed on
+-- a fault is what it is where it is passed on
 pub passed_on : {T U E : Type 0} (r : Result T E) (e x : E) → IsErr r × IsErrAnd r (λ y. y ≡ e) → IsErrOf r x → IsErrOf {T = U} (Err e) x
 passed_on (Ok y) e x gives is = absurd gives.1
-passed_on (Err y) e x gives is = let own : y ≡ e = gives.1 in let same : e ≡ x = cc in ap Err same
+passed_on (Err y) e x gives is = let same : e ≡ x = cc in ap Err same
 
 -- ---- the leaf that is cut in part
 pub cut_leaf_at : (first : ℕ) → 112 < first → ((first - 112) % 128 ≡ 0 → ⊥) → IsCutLeaf first ((first - 112) / 128)
-cut_leaf_at first high some = record { from = omega (arith, high, some); to = omega (arith, high) }
+cut_leaf_at first high some = record { from = omega arith; to = omega arith }
 
 pub above_cut_leaf : (v : LogMemory) {n first : ℕ} (x : Entry) → x ≡ Leaf n ((first - 112) / 128) → 112 < first
     → ((first - 112) % 128 ≡ 0 → ⊥)
     → ((q : ℕ) → IsCutLeaf first q → IsInMemory v (parent (Leaf n q))) → IsInMemory v (parent x)
 above_cut_leaf v {first} x named high some above =
-    subst (λ (y : Entry). IsInMemory v (parent y)) (sym named) (above ((first - 112) / 128) (cut_leaf_at first high some))
+    rw named (above ((first - 112) / 128) (cut_leaf_at first high some))
 
 -- so it is ready as it is brought into memory, or isn't stored
 pub cut_leaf_ready : (v : LogMemory) {n : ℕ} (first : ℕ) (x : Entry) → x ≡ Leaf n ((first - 112) / 128) → (found : Bool)
     → (IsTrue found → IsInMemory v x)
     → (IsFalse found → IsAtAddress (blocks_of v.dirty) (tables_of v) x 0) → (q : ℕ) → IsCutLeaf first q → IsLiftedIfStored v (Leaf n q)
 cut_leaf_ready v {n} first x named found inside none q cut =
-    let same : (first - 112) / 128 ≡ q = let from = cut.from in let to = cut.to in omega (arith, from, to) in
-    subst (λ (y : Entry). IsLiftedIfStored v y) (named ∙ ap (Leaf n) same) (either found inside none)
+    let same : (first - 112) / 128 ≡ q = omega arith in
+    rw (named ∙ ap (Leaf n) same) at (either found inside none)
   where
     either : (found : Bool) → (IsTrue found → IsInMemory v x) → (IsFalse found → IsAtAddress (blocks_of v.dirty) (tables_of v) x 0)
         → IsLiftedIfStored v x
@@ -50,7 +46,7 @@ cut_leaf_ready v {n} first x named found inside none q cut =
 
 pub low_edge : (v : LogMemory) (n first : ℕ) → first ≤ 240 → ((q : ℕ) → IsCutLeaf first q → IsLiftedIfStored v (Leaf n q))
     → HasEdge v n first
-low_edge v n first low leaf = record { double = λ more. absurd (omega (arith, low, more)); leaf = λ q cut. inl (leaf q cut) }
+low_edge v n first low leaf = record { double = λ more. absurd (omega arith); leaf = λ q cut. inl (leaf q cut) }
 
 pub high_edge : (v : LogMemory) (n first : ℕ) → IsInMemory v (Double n) → ((q : ℕ) → IsCutLeaf first q → IsLiftedIfStored v (Leaf n q))
     → HasEdge v n first
@@ -65,15 +61,16 @@ module _ (d : DeviceState) (v : LogMemory) (k : CheckpointValue) {m0 : LogMap} (
   nowhere {x} at = address_at d k m0 m x 0 is.running at
 
   below_none : (x : Entry) → is.running.memory.at (parent x) ≡ 0 → is.running.memory.at x ≡ 0
-  below_none x none = (reading d.content m is.running.memory (segment_in v.chunk) is.running.laid).no_pointer x none
+  below_none x none = (reading d.content m is.running.memory _ is.running.laid).no_pointer x none
 
   ready_at : (x : Entry) → IsLiftedIfStored v x → 0 < is.running.memory.at x → is.running.memory.at x ≡ 1
-  ready_at x ready some = ⊎_elim
-      (λ (held : IsInMemory v x). inside_at x held)
-      (λ (at : IsAtAddress (blocks_of v.dirty) (tables_of v) x 0). let none = nowhere at in absurd (omega (arith, none, some))) ready
+  ready_at x ready some = elim ready [
+    | inl held ↦ inside_at x held
+    | inr at ↦ absurd (omega (arith, nowhere at))
+  ]
 
   none_below_root : (n q : ℕ) → 1 ≤ q → is.running.memory.at (Double n) ≡ 0 → is.running.memory.at (Leaf n q) ≡ 0
-  none_below_root n zero some none = absurd (omega (arith, some))
+  none_below_root n zero some none = omega arith
   none_below_root n (suc q) some none = below_none (Leaf n (suc q)) none
 
   module _ (n : ℕ) {first : ℕ} (edge : HasEdge v n first) where
@@ -82,8 +79,8 @@ module _ (d : DeviceState) (v : LogMemory) (k : CheckpointValue) {m0 : LogMap} (
 
     pub leaf_at : (q : ℕ) → 112 + 128 * q < first → first < 240 + 128 * q → 0 < is.running.memory.at (Leaf n q)
         → is.running.memory.at (Leaf n q) ≡ 1
-    leaf_at q from to some = ⊎_elim
-        (λ (ready : IsLiftedIfStored v (Leaf n q)). ready_at (Leaf n q) ready some)
-        (λ (away : (1 ≤ q) × IsAtAddress (blocks_of v.dirty) (tables_of v) (Double n) 0).
-        let none = none_below_root n q away.0 (nowhere away.1) in absurd (omega (arith, none, some)))
-        (edge.leaf q (record { from = from; to = to }))
+    leaf_at q from to some = elim (edge.leaf q (record { from = from; to = to })) [
+      | inl ready ↦ ready_at (Leaf n q) ready some
+      | inr away ↦
+          absurd (omega (arith, none_below_root n q away.0 (nowhere away.1)))
+    ]

@@ -1,6 +1,7 @@
 -- A file is cut: what the tables and the blocks in memory hold then is the log map without what went.
 use Rattle.std.proofs.Common.{◌≡◌, ◌<◌, ◌⊎◌, ⊎_elim, ◌==◌, ◌&&◌, nat_le, cond, not, ℕ, Bool, true, false, List, [], length, get_or, Some}
 use Rattle.std.proofs.Common.{refl, sym, ◌∙◌, ap, subst, arith, eqb-true}
+use Rattle.std.proofs.Common.{inl, inr}
 use Rattle.std.proofs.Math.Path.{fun_ext}
 use Rattle.std.proofs.lemmas.Bool.{cases_Bool, cond-true, cond-false, and_parts, false_from_ne_true}
 use Rattle.lfs_model.specs.Checkpoint.{CheckpointValue}
@@ -10,16 +11,15 @@ use Rattle.lfs_model.specs.Device.{DeviceState, IsLawful}
 use Rattle.lfs_model.specs.Entry.{Entry, Data, Leaf, Double, Inode, Map, Usage}
 use Rattle.lfs_model.specs.Laid.{HoldsInode}
 use Rattle.lfs_model.specs.Memory.{parent, file_of, count_of}
-use Rattle.lfs_model.specs.Running.{Dirty, Running}
+use Rattle.lfs_model.specs.Running.{Dirty}
 use Rattle.lfs_model.specs.Stands.{LogMap}
 use Rattle.lfs_model.proofs.Cutting.{file_cutting}
 use Rattle.lfs_model.proofs.CutSets.{past_cut, past_above}
-use Rattle.lfs_segments.specs.Chunk.{Chunk}
 use Rattle.lfs_inodes.specs.Blocks.{blocks_of}
 use Rattle.lfs_inodes.specs.Clearing.{LeavesPast}
 use Rattle.lfs_inodes.specs.MapValue.{MapValue, address_in, is_hidden_in, block_in}
 use Rattle.lfs_memory.specs.declared.memory.LogMemory.{LogMemory}
-use Rattle.lfs_memory.specs.Memory.{IsLoose, tables_of, segment_in, chunk_in}
+use Rattle.lfs_memory.specs.Memory.{IsLoose, tables_of}
 use Rattle.lfs_memory.specs.Present.{Looks, FailsFromDevice}
 use Rattle.lfs_memory.specs.Lifting.{IsInMemory, Prepares}
 use Rattle.lfs_memory.specs.Counting.{CountsPast}
@@ -48,12 +48,12 @@ none_cut m n first none = ap (λ (block : ℕ → ℕ → List ℕ). record { he
     (fun_ext (λ k. fun_ext (λ i. same k i)))
   where
     same : (k i : ℕ) → m.block k i ≡ cond (k == n && nat_le first i) [] (m.block k i)
-    same k i = ⊎_elim
-        (λ (on : (k == n && nat_le first i) ≡ true).
-        let here : k ≡ n = eqb-true k n (and_parts (k == n) (nat_le first i) on).0 in
-        ap (λ (k : ℕ). m.block k i) here ∙ none i ∙ sym (cond-true (k == n && nat_le first i) [] (m.block k i) on))
-        (λ (off : (k == n && nat_le first i) ≡ false). sym (cond-false (k == n && nat_le first i) [] (m.block k i) off))
-        (cases_Bool (k == n && nat_le first i))
+    same k i = elim (cases_Bool (k == n && nat_le first i)) [
+      | inl on ↦
+          let here : k ≡ n = eqb-true k n (and_parts (k == n) (nat_le first i) on).0 in
+          ap (λ (k : ℕ). m.block k i) here ∙ none i ∙ sym (cond-true (k == n && nat_le first i) [] (m.block k i) on)
+      | inr off ↦ cc
+    ]
 
 -- ---- the blocks in memory
 module _ (n first : ℕ) {old mid new : Dirty} (formed : (x : Entry) (b : List ℕ) → file_of x ≡ Some n → old x ≡ Some b → IsFormed x b)
@@ -79,11 +79,11 @@ module _ (d : DeviceState) (v v' : LogMemory) (k : CheckpointValue) (m0 m : LogM
   formed_in : (x : Entry) (b : List ℕ) → file_of x ≡ Some n → blocks_of v.dirty x ≡ Some b → IsFormed x b
   formed_in x b own there =
       let c = is.running.cached.cached x b there in
-      let at : 0 < is.running.memory.at x = (let one = c.1 in omega (arith, one)) in
+      let at : 0 < is.running.memory.at x = omega arith in
       record {
         long = ap length (sym c.2) ∙ is.running.laid.long x (n, own) at;
         inode = λ l named. subst (HoldsInode l) (ap is.running.memory.bytes (sym named) ∙ c.2)
-            (is.running.laid.spells (Inode l) (subst (λ (y : Entry). 0 < is.running.memory.at y) named at)).formed;
+            (is.running.laid.spells (Inode l) (rw named at at)).formed;
       }
 
   module _ (go : DropsPast v v' n first lives counts) (inside : IsInMemory v (Inode n)) (edge : HasEdge v n first) where
@@ -91,9 +91,9 @@ module _ (d : DeviceState) (v v' : LogMemory) (k : CheckpointValue) (m0 m : LogM
     none_at (Data k i) top on = refl
     none_at (Leaf k q) top on = refl
     none_at (Double k) top on = refl
-    none_at (Inode k) top on = absurd (cc)
-    none_at (Map j) top on = absurd (cc)
-    none_at (Usage j) top on = absurd (cc)
+    none_at (Inode k) top on = cc
+    none_at (Map j) top on = cc
+    none_at (Usage j) top on = cc
 
     others_at : (x : Entry) → parent x ≡ x → is_past n first x ≡ false → (tables_of v').at x ≡ (tables_of v).at x
     others_at (Data k i) top off = refl
@@ -104,47 +104,35 @@ module _ (d : DeviceState) (v v' : LogMemory) (k : CheckpointValue) (m0 m : LogM
     others_at (Usage j) top off = go.usage.address j
 
     detached : IsDetachedFrom m (tables_of v) (tables_of v') n (is_past n first) (counts_in counts)
-    detached = record {
-      none = none_at;
-      others = others_at;
-      used = go.usage.used;
-      named = named_counts is n low shown counts go.usage;
-      nameless = nameless_counts is n low shown counts go.usage;
-      age = go.usage.age;
-      kept = go.usage.kept;
-      changed = go.usage.changed;
-      stale = go.usage.stale;
-    }
+    detached = assumption (none_at, others_at, named_counts is n low shown counts go.usage, nameless_counts is n low shown counts go.usage)
 
     above : (x : Entry) → is_past n first x ≡ true → 0 < is.running.memory.at x → (parent x ≡ x → ⊥) → is_past n first (parent x) ≡ false
         → is.running.memory.at (parent x) ≡ 1
-    above = past_above d.content m is.running.memory (segment_in v.chunk) n first is.running.laid (inside_at d v k m is (Inode n) inside)
+    above = past_above d.content m is.running.memory _ n first is.running.laid (inside_at d v k m is (Inode n) inside)
         (root_at d v k m is n edge) (leaf_at d v k m is n edge)
 
     pub cut_log : IsLoose d v' k m0 (cut_from n first m)
     cut_log = record {
-      running = subst (λ (c : Chunk). Running d (blocks_of v'.dirty) (tables_of v') k m0 (cut_from n first m) (segment_in c) (chunk_in c))
-          (sym go.chunk)
-          (file_cutting d (blocks_of v.dirty) (blocks_of v'.dirty) (tables_of v) (tables_of v') k m0 m (cut_from n first m)
-          (segment_in v.chunk) (chunk_in v.chunk) n (is_past n first) (counts_in counts)
+      running = rw go.chunk
+          (file_cutting d _ _ _ _ k m0 m (cut_from n first m) _ _ n (is_past n first) (counts_in counts)
           is.running (past_cut n first) above (λ on has named. absurd (inode_stays on)) counted (is_cut m n first)
           (detaches n first formed_in go.leaves go.clears) detached);
       hidden = λ i small. is.hidden i small ∙ ap (λ (map : MapValue). is_hidden_in map i) (sym go.map);
-      segments = go.usage.size ∙ is.segments;
+      segments = cc;
     }
       where
         inode_stays : is_past n first (Inode n) ≡ true → ⊥
-        inode_stays on = absurd (cc)
+        inode_stays on = cc
 
 -- ---- the whole call
 pub uncovered_past : {a b : DeviceState} (v : LogMemory) (n first : ℕ) {lives : Bool} (counts : List ℕ) → n < 4096
     → lives ≡ not (is_hidden_in v.map n) → Looks a b → CountsPast a b v n first counts
     → AreUncovered v.usage lives counts → FailsFromDevice a b v
-uncovered_past {a} v n first {lives} counts low shown looks counted over k m0 m keeps is =
+uncovered_past {a} v n first counts low shown looks counted over k m0 m keeps is =
     absurd (past_covered a v v k m0 m is n first low counts shown (counted k m0 m keeps is) over)
 
 -- what lifts the blocks above, then the counts, and then what leaves
-module _ (a b c : DeviceState) {v mid v' : LogMemory} {n first : ℕ} {counts : List ℕ} (lawful : IsLawful a) (one : Prepares a b v mid 3)
+module _ {a b c : DeviceState} {v mid v' : LogMemory} {n first : ℕ} {counts : List ℕ} (lawful : IsLawful a) (one : Prepares a b v mid 3)
     (two : Looks b c) (low : n < 4096)
     (inside : IsInMemory mid (Inode n)) (edge : HasEdge mid n first) (counted : CountsPast b c mid n first counts)
     (go : DropsPast mid v' n first (not (is_hidden_in mid.map n)) counts) where
@@ -153,15 +141,15 @@ module _ (a b c : DeviceState) {v mid v' : LogMemory} {n first : ℕ} {counts : 
     looks = looks_then lawful one.looks two;
     memory = kept_memory mid v' one.memory go.usage.size go.chunk go.usage.used go.usage.kept go.usage.last go.usage.address
         (never_fresh mid.usage v'.usage go.usage.stale) go.capacity;
-    segments = go.usage.size ∙ one.segments;
-    clean = go.usage.clean ∙ one.clean;
-    chunk = go.chunk ∙ one.chunk;
-    capacity = go.capacity ∙ one.capacity;
-    few = let x = one.few in let y = go.few in omega (arith, x, y);
+    segments = cc;
+    clean = cc;
+    chunk = cc;
+    capacity = cc;
+    few = omega arith;
     stay = λ x off was. let held = one.stay x was in go.clears.stay x held.0 (go.leaves.kept x off ∙ held.1);
-    hidden = ap (λ (map : MapValue). map.hidden) go.map ∙ one.hidden;
-    mapped = λ j is. ap (λ (map : MapValue). block_in map j) go.map ∙ one.mapped j is;
-    absent = λ l none. ap (λ (map : MapValue). address_in map l) go.map ∙ one.absent l none;
+    hidden = rw go.map one.hidden;
+    mapped = λ j is. rw go.map (one.mapped j is);
+    absent = λ l none. rw go.map (one.absent l none);
     log = λ k m0 m keeps is.
         let log = one.log k m0 m (two.carries.kept_before keeps) is in
         still_log two (cut_log b mid v' k m0 m log n first low counts refl (counted k m0 m keeps log) go inside edge);
@@ -177,17 +165,16 @@ nothing_cut {b} {v} {v'} {n} {first} one none = record {
   clean = one.clean;
   chunk = one.chunk;
   capacity = one.capacity;
-  few = let x = one.few in omega (arith, x);
+  few = omega arith;
   stay = λ x off was. one.stay x was;
   hidden = one.hidden;
   mapped = one.mapped;
   absent = one.absent;
   log = λ k m0 m keeps is.
       let log = one.log k m0 m keeps is in
-      let gone : log.running.memory.at (Inode n) ≡ 0 = ⊎_elim
-      (λ (nobody : n ≡ 0). ap (λ (n : ℕ). log.running.memory.at (Inode n)) nobody ∙ nobody_at b v' k m0 m log)
-      (λ (absent : address_in v.map n ≡ 0). inode_at b v' k m0 m log n ∙ one.absent n absent)
-      none in
-      subst (λ (m : LogMap). IsLoose b v' k m0 m)
-      (none_cut m n first (λ i. no_block b v' k m0 m log n i (data_none b v' k m0 m log n i gone))) log;
+      let gone : log.running.memory.at (Inode n) ≡ 0 = elim none [
+        | inl nobody ↦ rw nobody (nobody_at b v' k m0 m log)
+        | inr absent ↦ inode_at b v' k m0 m log n ∙ one.absent n absent
+      ] in
+      rw (none_cut m n first (λ i. no_block b v' k m0 m log n i (data_none b v' k m0 m log n i gone))) at log;
 }

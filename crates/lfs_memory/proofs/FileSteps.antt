@@ -19,7 +19,7 @@ use Rattle.lfs_inodes.specs.MapValue.{MapValue, is_hidden_in}
 use Rattle.lfs_segments.specs.Chunk.{Chunk, entries_of}
 use Rattle.lfs_segments.specs.Table.{UsageTable}
 use Rattle.lfs_memory.specs.declared.memory.LogMemory.{LogMemory}
-use Rattle.lfs_memory.specs.Memory.{IsMemory, IsLog, IsPointedAt, Places, GoesUpTo, Quiet, Stops, tables_by, segment_in, chunk_in}
+use Rattle.lfs_memory.specs.Memory.{IsMemory, IsLog, IsPointedAt, Places, GoesUpTo, Quiet, Stops, tables_by}
 use Rattle.lfs_memory.proofs.Begun.{before, begun, noted, place_is, room_left, opened_after, segment_after, segments_same, memory_after}
 use Rattle.lfs_memory.proofs.Begun.{free_place, placed_emptied}
 use Rattle.lfs_memory.proofs.Opened.{as_chunk, stays_settled, stays_quiet}
@@ -67,8 +67,8 @@ module _ {v v' : LogMemory} {name : BlockNameValue} {lives : Bool} {age place : 
       own (Leaf n q) is points up = absurd (leaf_below n q up)
       own (Double n) is points up = absurd (double_below n up)
       own (Inode n) is points up = points.own n refl
-      own (Map j) is points up = absurd cc
-      own (Usage j) is points up = absurd cc
+      own (Map j) is points up = cc
+      own (Usage j) is points up = cc
 
       others : (y : Entry) → parent y ≡ y → (y ≡ x → ⊥) → (tables_by map' v'.usage).at y ≡ (before memory p).at y
       others (Data n i) up ne = refl
@@ -92,8 +92,8 @@ module _ {v v' : LogMemory} {name : BlockNameValue} {lives : Bool} {age place : 
           let es = entries_of v.chunk in
           let running = begun memory p is in
           let moved : Moves (blocks_of v.dirty) (blocks_of dirty') x (place_of (before memory p)
-          v'.chunk.segment) = subst (λ (n : ℕ). Moves (blocks_of v.dirty) (blocks_of dirty') x n) same_place moves in
-          let next = stepping d d' (blocks_of v.dirty) (blocks_of dirty') (before memory p)
+          v'.chunk.segment) = rw same_place at moves in
+          let next = stepping d d' (blocks_of v.dirty) _ (before memory p)
           (tables_by map' v'.usage) k m0 m v'.chunk.segment es x bytes running (room_left memory p) low there (is.tight x bytes there)
           (subst (λ (n : ℕ). IsWritten d d' n bytes) same_place (record { content = is_put keeps; crash = crash }))
           moved (noted memory p is map' (hides ∙ shows m x f (is_hidden_in v.map f) of_file (is.hidden f few)) addressed) in
@@ -102,7 +102,7 @@ module _ {v v' : LogMemory} {name : BlockNameValue} {lives : Bool} {age place : 
                 (sym (opened_after memory p ∙ ap (λ (e : Entry). Some (es ++ e ∷ [])) named)) next;
             hidden = λ n lt. is.hidden n lt ∙ ap (λ (l : List Bool). get_or l n false) (sym points.hidden);
             segments = segments_same memory p ∙ is.segments;
-            tight = stepping_tight d (blocks_of v.dirty) (blocks_of dirty') (before memory p) k m0 m
+            tight = stepping_tight d _ _ (before memory p) k m0 m
                 v'.chunk.segment es x bytes running (room_left memory p) there moved is.tight;
           }
 
@@ -111,7 +111,7 @@ module _ {v v' : LogMemory} {name : BlockNameValue} {lives : Bool} {age place : 
         carries = carries;
         memory = memory_after memory p map' dirty' capacity;
         segments = segments_same memory p;
-        room = let r = takes_place memory p in omega (arith, r);
+        room = omega (arith, takes_place memory p);
         no_failure = no_failure;
         emptied = placed_emptied memory p;
         log = log;
@@ -126,4 +126,4 @@ pub goes_to : (most : ℕ) {d d' : DeviceState} {v : LogMemory} (w : LogMemory) 
 goes_to most {d} {d'} {v} w {usage} {dirty} {chunk} n u t c goes =
     subst (λ (x : Chunk). GoesUpTo most d d' v (record { map = w.map; usage = w.usage; dirty = w.dirty; chunk = x }) n) (sym c)
     (subst (λ (x : TableValue). GoesUpTo most d d' v (record { map = w.map; usage = w.usage; dirty = x; chunk = chunk }) n) (sym t)
-    (subst (λ (x : UsageTable). GoesUpTo most d d' v (record { map = w.map; usage = x; dirty = dirty; chunk = chunk }) n) (sym u) goes))
+    (rw u goes))

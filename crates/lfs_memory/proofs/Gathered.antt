@@ -1,16 +1,14 @@
 -- Blocks that come into memory: no block has an address afterwards that it hadn't before.
-use Rattle.std.proofs.Common.{◌≡◌, ◌<◌, ◌≤◌, ◌⊎◌, ⊎_elim, ◌+◌, ◌*◌, ◌/◌, not, ℕ, zero, suc, Bool, false, List, length, Option, Some, refl}
+use Rattle.std.proofs.Common.{◌≡◌, ◌<◌, ◌≤◌, ◌⊎◌, ◌+◌, ◌*◌, ◌/◌, not, ℕ, zero, suc, Bool, false, List, length, Option, Some, refl}
 use Rattle.std.proofs.Common.{sym, ◌∙◌, ap, subst, arith, inl, inr}
 use Rattle.lfs_model.specs.Checkpoint.{CheckpointValue}
 use Rattle.lfs_model.specs.Content.{Content, block}
 use Rattle.lfs_model.specs.Counting.{segment_of}
 use Rattle.lfs_model.specs.Device.{DeviceState}
 use Rattle.lfs_model.specs.Entry.{Entry, Inode, Map, Usage}
-use Rattle.lfs_model.specs.Laid.{IsLaid}
 use Rattle.lfs_model.specs.Lifting.{IsTaken}
 use Rattle.lfs_model.specs.Memory.{Memory, file_of, is_shown, is_held}
-use Rattle.lfs_model.specs.Running.{Dirty, Tables, Running, IsLifted, IsReaddressed, IsOpenAt}
-use Rattle.lfs_model.specs.Settled.{IsFreeFrom}
+use Rattle.lfs_model.specs.Running.{Dirty, Tables, Running, IsLifted, IsReaddressed}
 use Rattle.lfs_model.specs.Staging.{IsAtAddress}
 use Rattle.lfs_model.specs.Stands.{LogMap}
 use Rattle.lfs_model.proofs.Counting.{unplaced_counts}
@@ -22,7 +20,6 @@ use Rattle.lfs_model.proofs.Settled.{settled_still}
 use Rattle.lfs_model.proofs.Staging.{fetching_traces}
 use Rattle.lfs_model.proofs.Tables.{map_table}
 use Rattle.lfs_segments.specs.Chunk.{Chunk}
-use Rattle.lfs_segments.specs.Table.{UsageTable, used_of, live_of, held_of, age_of, kept_of, address_of, stale_of}
 use Rattle.lfs_inodes.specs.Blocks.{blocks_of}
 use Rattle.lfs_inodes.specs.MapValue.{is_hidden_in, block_in}
 use Rattle.lfs_inodes.specs.Present.{present}
@@ -35,16 +32,16 @@ use Rattle.lfs_memory.proofs.Presents.{looks_none}
 
 -- ---- one block that leaves its address
 pub taken_traced : (M : Memory) {x : Entry} (M' : Memory) → IsTaken M x 1 M' → HasTraces M M'
-taken_traced M {x} M' go y above = ⊎_elim
-    (λ (here : y ≡ x). let one = ap M'.at here ∙ go.at in absurd (omega (arith, above, one)))
-    (λ (ne : y ≡ x → ⊥). sym (go.others y ne))
-    (same_entry y x)
+taken_traced M {x} M' go y above = elim (same_entry y x) [
+  | inl here ↦ absurd (omega (arith, ap M'.at here ∙ go.at))
+  | inr ne ↦ sym (go.others y ne)
+]
 
 pub traces_none : (M : Memory) → HasTraces M M
 traces_none M y above = refl
 
 pub traces_then : (L M N : Memory) → HasTraces L M → HasTraces M N → HasTraces L N
-traces_then L M N one two y above = let same = two y above in one y (omega (arith, same, above)) ∙ same
+traces_then L M N one two y above = let same = two y above in one y (omega arith) ∙ same
 
 -- ---- a device that was only looked at
 pub still_traced : (d : DeviceState) {d' : DeviceState} {v : LogMemory} (k : CheckpointValue) {m0 : LogMap} (m : LogMap) → Looks d d'
@@ -56,16 +53,15 @@ still_traced d {d'} {v} k {m0} m looks is =
     let after : IsLoose d' v k m0 m = record {
       running = record {
         memory = w.memory;
-        laid = subst (λ (c : Content). IsLaid c m w.memory (segment_in v.chunk)) (sym same.content) w.laid;
+        laid = rw same.content w.laid;
         segments = w.segments;
         settled = settled_still d d' k m0 w.settled same;
         cached = w.cached;
         tables = w.tables;
         fresh = w.fresh;
         part = w.part;
-        kept = λ i low. subst (λ (c : Content). IsFreeFrom c k i (kept_of v.usage i)) (sym same.content) (w.kept i low);
-        opened = subst (λ (c : Content). IsOpenAt c w.memory (tables_of v) (segment_in v.chunk) (chunk_in v.chunk))
-            (sym same.content) w.opened;
+        kept = λ i low. rw same.content (w.kept i low);
+        opened = rw same.content w.opened;
       };
       hidden = is.hidden;
       segments = is.segments;
@@ -93,7 +89,7 @@ module _ (d : DeviceState) {dirty : Dirty} {t : Tables} (t' : Tables) (k : Check
           settled = w.settled;
           cached = left_cached d t' k m w (Map j) (map_table j) 1 (omega arith);
           tables = lifted_tables d.content m w.memory seg (Map j) 1 next t t' w.laid was p w.tables
-              (subst (λ (a : ℕ). IsLifted m t t' (Map j) 1 (segment_of a)) (sym same) go);
+              (rw same go);
           fresh = λ i off low. let no = lifted_fresh m t t' (Map j) 1 go i off in
               no.1 (w.memory.bytes (Usage i)) (w.fresh i no.0 low);
           part = part_same t t' go.used go.kept w.part;
@@ -109,7 +105,7 @@ module _ (d : DeviceState) {dirty : Dirty} {t : Tables} (t' : Tables) (k : Check
       let p = left_taken d t' k m w (Map j) (map_table j) 1 (omega arith) in
       let next = left_memory d t' k m w (Map j) (map_table j) 1 (omega arith) in
       let was : w.memory.at (Map j) ≡ 0 = w.tables.at (Map j) refl ∙ none in
-      let counts = unplaced_counts d.content m w.memory seg (Map j) 1 next w.laid (omega (arith, was)) p in (
+      let counts = unplaced_counts d.content m w.memory seg (Map j) 1 next w.laid (omega arith) p in (
         record {
           memory = next;
           laid = map_lifting d.content m w.memory seg j next w.laid (record { taken = p; bytes = refl });
@@ -151,29 +147,21 @@ module _ (d : DeviceState) (v v' : LogMemory) (k : CheckpointValue) (m0 m : LogM
   fetched_now above =
       let l = go.lifted above in
       loose_traced v' is go.chunk go.hidden l.size (subst (λ (dirty : Dirty). TracedIn v' is dirty v.chunk) (sym (ap blocks_of go.dirty))
-      (map_fetched d (tables_of v') k m0 m j is.running above (record {
-        at = map_addressed d v k m0 m is j v' go l.blocks.address;
-        used = l.used;
-        live = l.live;
-        held = l.held;
-        age = l.age;
-        kept = l.kept;
-        stale = l.blocks.stale;
-      })))
+      (map_fetched d (tables_of v') k m0 m j is.running above (assumption (map_addressed d v k m0 m is j v' go l.blocks.address))))
 
   added_now : block_in v.map j ≡ 0 → (is' : IsLoose d v' k m0 m) × HasTraces is.running.memory is'.running.memory
   added_now none =
       let e = go.added none in
-      loose_traced v' is go.chunk go.hidden (ap (λ (u : UsageTable). length u.segments) e)
-      (subst (λ (dirty : Dirty). TracedIn v' is dirty v.chunk) (sym (ap blocks_of go.dirty))
-      (map_added d (tables_of v') k m0 m j is.running none (record {
-        at = map_addressed d v k m0 m is j v' go (λ i. ap (λ (u : UsageTable). address_of u i) e);
-        used = λ i. ap (λ (u : UsageTable). used_of u i) e;
-        live = λ i. ap (λ (u : UsageTable). live_of u i) e;
-        held = λ i. ap (λ (u : UsageTable). held_of u i) e;
-        age = λ i. ap (λ (u : UsageTable). age_of u i) e;
-        kept = λ i. ap (λ (u : UsageTable). kept_of u i) e;
-        stale = λ i. ap (λ (u : UsageTable). stale_of u i) e;
+      loose_traced v' is go.chunk go.hidden (rw e)
+      (rw (ap blocks_of go.dirty)
+      (map_added d _ k m0 m j is.running none (record {
+        at = map_addressed d v k m0 m is j v' go (λ i. rw e);
+        used = λ i. rw e;
+        live = λ i. rw e;
+        held = λ i. rw e;
+        age = λ i. rw e;
+        kept = λ i. rw e;
+        stale = λ i. rw e;
       })))
 
 two_or_less : (n : ℕ) → (n ≡ 0) ⊎ (n ≡ 1) ⊎ (2 ≤ n)
@@ -183,10 +171,10 @@ two_or_less (suc (suc n)) = inr (inr (omega arith))
 
 -- ---- calls
 pub gathers_looks : {d d' : DeviceState} {v : LogMemory} → Looks d d' → Gathers d d' v v
-gathers_looks {d} {d'} {v} looks = record { used = λ s. refl; kept = λ s. refl; traces = λ k m0 m keeps is. still_traced d k m looks is }
+gathers_looks {d} looks = record { used = λ s. refl; kept = λ s. refl; traces = λ k m0 m keeps is. still_traced d k m looks is }
 
 pub gathers_none : {d : DeviceState} {v v' : LogMemory} → v' ≡ v → Gathers d d v v'
-gathers_none {d} {v} same = subst (λ (w : LogMemory). Gathers d d v w) (sym same) (gathers_looks {v = v} (looks_none d))
+gathers_none {d} {v} same = rw same (gathers_looks {v = v} (looks_none d))
 
 pub gathers_then : {a b c : DeviceState} {v v' v'' : LogMemory} → (c.keeps_model → b.keeps_model) → Gathers a b v v' → Gathers b c v' v''
     → Gathers a c v v''
@@ -200,43 +188,45 @@ gathers_then back one two = record {
 }
 
 pub map_gathers : (d : DeviceState) (v v' : LogMemory) (j : ℕ) → MapLifts v v' j → Gathers d d v v'
-map_gathers d v v' j go = ⊎_elim
-    (λ (none : block_in v.map j ≡ 0).
-    let e = go.added none in
-    record {
-      used = λ s. ap (λ (u : UsageTable). used_of u s) e;
-      kept = λ s. ap (λ (u : UsageTable). kept_of u s) e;
-      traces = λ k m0 m keeps is. added_now d v v' k m0 m is j go none;
-    })
-    (λ (some : (block_in v.map j ≡ 1) ⊎ (2 ≤ block_in v.map j)). ⊎_elim
-    (λ (one : block_in v.map j ≡ 1). gathers_none {d = d} (go.same one))
-    (λ (above : 2 ≤ block_in v.map j).
-    let l = go.lifted above in
-    record { used = l.used; kept = l.kept; traces = λ k m0 m keeps is. fetched_now d v v' k m0 m is j go above })
-    some)
-    (two_or_less (block_in v.map j))
+map_gathers d v v' j go = elim (two_or_less (block_in v.map j)) [
+  | inl none ↦
+      let e = go.added none in
+      record {
+        used = λ s. rw e;
+        kept = λ s. rw e;
+        traces = λ k m0 m keeps is. added_now d v v' k m0 m is j go none;
+      }
+  | inr some ↦ elim some [
+    | inl one ↦ gathers_none {d = d} (go.same one)
+    | inr above ↦
+        let l = go.lifted above in
+        record { used = l.used; kept = l.kept; traces = λ k m0 m keeps is. fetched_now d v v' k m0 m is j go above }
+  ]
+]
 
 pub map_of_gathers : (d : DeviceState) {v v' : LogMemory} {j : ℕ} → (v' ≡ v) ⊎ MapLifts v v' j → Gathers d d v v'
-map_of_gathers d {v} {v'} {j} o = ⊎_elim (λ (same : v' ≡ v). gathers_none {d = d} same)
-    (λ (go : MapLifts v v' j). map_gathers d v v' j go) o
+map_of_gathers d {v} {v'} {j} o = elim o [
+  | inl same ↦ gathers_none {d = d} same
+  | inr go ↦ map_gathers d v v' j go
+]
 
-pub bring_gathers : (d d' : DeviceState) {v v' : LogMemory} (x : Entry) {f address : ℕ} {lives : Bool} {bytes : List ℕ} → Looks d d'
+pub bring_gathers : {d d' : DeviceState} {v v' : LogMemory} (x : Entry) {f address : ℕ} {lives : Bool} {bytes : List ℕ} → Looks d d'
     → file_of x ≡ Some f → f < 4096 → IsAtAddress (blocks_of v.dirty) (tables_of v) x address → 2 ≤ address
     → lives ≡ not (is_hidden_in v.map f)
     → ((n : ℕ) → x ≡ Inode n → is_hidden_in v.map n ≡ false → block_in v.map (n / 128) ≡ 1)
     → (d'.keeps_model → bytes ≡ present d.content (blocks_of v.dirty) x address)
     → Brings v v' x address lives bytes → Gathers d d' v v'
-bring_gathers d d' {v} {v'} x {f} {address} {lives} {bytes} looks file low at above is_lives mapped read go = record {
+bring_gathers {d} {d'} {v} {v'} x {f} {address} {lives} {bytes} looks file low at above is_lives mapped read go = record {
   used = go.usage.used;
   kept = go.usage.kept;
   traces = λ k m0 m keeps is.
       let first = still_traced d k m looks is in
       let now = first.0 in
       let there : block d'.content address ≡ bytes = ap (λ (c : Content). block c address) looks.untouched.content
-      ∙ sym (read keeps ∙ on_device d.content (blocks_of v.dirty) x address (omega (arith, above))) in
+      ∙ sym (read keeps ∙ on_device d.content (blocks_of v.dirty) x address (omega arith)) in
       let second = loose_traced v' now go.chunk go.hidden go.usage.size
-      (fetching_traces d' (blocks_of v.dirty) (blocks_of v'.dirty) (tables_of v) (tables_of v') k m0 m (segment_in v.chunk)
-      (chunk_in v.chunk) x address bytes now.running (f, file) at above there (is_named now file low at above is_lives go there mapped)
+      (fetching_traces d' (blocks_of v.dirty) _ _ _ k m0 m _
+      _ x address bytes now.running (f, file) at above there (is_named now file low at above is_lives go there mapped)
       go.dirty (is_lifted now file low at above is_lives go)) in
       (second.0, traces_then is.running.memory now.running.memory second.0.running.memory first.1 second.1);
 }

@@ -1,5 +1,5 @@
 -- Parts of a commit, one after the other.
-use Rattle.std.proofs.Common.{◌≡◌, ◌≤◌, ◌+◌, ℕ, refl, ◌∙◌, arith}
+use Rattle.std.proofs.Common.{◌≡◌, ◌≤◌, ◌+◌, ℕ, refl, arith}
 use Rattle.std.specs.Prelude.{Result, Ok, Err, IsErr, IsErrAnd, OnOk, OnErr, Option, Some, None, IfOk, IfSome, IfNone}
 use Rattle.lfs_model.specs.Content.{Content}
 use Rattle.lfs_model.specs.Crash.{StandsOn}
@@ -7,7 +7,7 @@ use Rattle.lfs_model.specs.Device.{DeviceState, IsLawful}
 use Rattle.lfs_model.proofs.Moments.{carries_none, carries_then, started, joined}
 use Rattle.lfs_model.proofs.Settled.{settled_stands}
 use Rattle.lfs_memory.specs.declared.memory.LogMemory.{LogMemory}
-use Rattle.lfs_memory.specs.Memory.{HasRoom, IsMemory, Goes, GoesUpTo, Stops, Quiet}
+use Rattle.lfs_memory.specs.Memory.{room_of, HasRoom, IsMemory, Goes, GoesUpTo, Stops, Quiet}
 
 pub goes_none : {d : DeviceState} (v : LogMemory) → IsLawful d → IsMemory v → Goes d d v v 0
 goes_none {d} v lawful memory = record {
@@ -29,34 +29,25 @@ quiet_then a b c one back quiet k m0 m keeps is =
 
 pub goes_then : {p q : ℕ} {a b c : DeviceState} {v v' v'' : LogMemory} {n l : ℕ} → GoesUpTo p a b v v' n → GoesUpTo q b c v' v'' l
     → GoesUpTo q a c v v'' (n + l)
-goes_then {p} {a} {b} {c} {v} {v'} {n} one two = record {
+goes_then {a = a} {b} {c} one two = record {
   carries = carries_then one.carries two.carries;
   memory = two.memory;
-  segments = two.segments ∙ one.segments;
-  room = let x = one.room in let y = two.room in omega (arith, x, y);
-  no_failure = two.no_failure ∙ one.no_failure;
+  segments = cc;
+  room = omega arith;
+  no_failure = cc;
   emptied = λ s is. two.emptied s (one.emptied s is);
   log = λ k m0 m keeps is. two.log k m0 m keeps (one.log k m0 m (two.carries.kept_before keeps) is);
   quiet = quiet_then a b c one two.carries.kept_before two.quiet;
 }
 
 pub goes_at_most : (a b : DeviceState) (v v' : LogMemory) (n l : ℕ) → n ≤ l → Goes a b v v' n → Goes a b v v' l
-goes_at_most a b v v' n l le one = record {
-  carries = one.carries;
-  memory = one.memory;
-  segments = one.segments;
-  room = let x = one.room in omega (arith, x, le);
-  no_failure = one.no_failure;
-  emptied = one.emptied;
-  log = one.log;
-  quiet = one.quiet;
-}
+goes_at_most a b v v' n l le one =
+    let room : room_of v ≤ room_of v' + l = omega arith in assumption room
 
 pub stops_then : {p : ℕ} {a b c : DeviceState} {v v' : LogMemory} {n : ℕ} → GoesUpTo p a b v v' n → Stops b c v' → Stops a c v
-stops_then {p} {a} {b} {c} {v} {v'} {n} one two = record {
+stops_then {a = a} {b} {c} one two = record {
   carries = carries_then one.carries two.carries;
-  cause = λ k m0 m keeps is. (let worse = two.cause k m0 m keeps (one.log k m0 m (two.carries.kept_before keeps) is) in
-      let same = one.no_failure in omega (arith, worse, same));
+  cause = λ k m0 m keeps is. (omega (arith, two.cause k m0 m keeps (one.log k m0 m (two.carries.kept_before keeps) is)));
   settled = λ k m0 m keeps is. two.settled k m0 m keeps (one.log k m0 m (two.carries.kept_before keeps) is);
   quiet = quiet_then a b c one two.carries.kept_before two.quiet;
 }
@@ -70,7 +61,7 @@ err_ok (Ok x) e P gives = absurd gives.1
 err_ok (Err e') e P gives = tt
 
 pub has_room_still : {p : ℕ} {d d' : DeviceState} {v v' : LogMemory} {n : ℕ} → GoesUpTo p d d' v v' n → HasRoom d v → HasRoom d' v'
-has_room_still goes room = let size = goes.carries.size in let same = goes.segments in omega (arith, room, size, same)
+has_room_still goes room = omega arith
 
 pub ok_then : {T E : Type 0} (r : Result T E) (P Q : Type 0) → (P → Q) → OnOk r P → OnOk r Q
 ok_then (Ok x) P Q go p = go p

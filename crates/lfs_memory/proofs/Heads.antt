@@ -1,34 +1,34 @@
 -- Inodes with another header.
-use Rattle.std.proofs.Common.{◌≡◌, ◌<◌, ◌≤◌, ◌+◌, ◌*◌, ◌-◌, ℕ, zero, suc, List, [], ◌∷◌, ◌++◌, length, take, drop, get_or, refl, sym, ◌∙◌}
+use Rattle.std.proofs.Common.{◌≡◌, ◌<◌, ◌≤◌, ◌+◌, ◌*◌, ◌-◌, ℕ, zero, suc, List, [], ◌∷◌, ◌++◌, length, drop, get_or, refl, sym, ◌∙◌}
 use Rattle.std.proofs.Common.{ap, arith}
 use Rattle.std.specs.Prelude.{replicate}
 use Rattle.std.proofs.lemmas.List.{append-nil}
 use Rattle.lfs_model.specs.declared.Kind.{Kind}
 use Rattle.lfs_model.specs.Entry.{header, word}
-use Rattle.lfs_model.specs.Fields.{zeros, le32, words, Are32, number_of, read32, part}
+use Rattle.lfs_model.specs.Fields.{zeros, le32, words, Are32, read32, part}
 use Rattle.lfs_model.specs.Inode.{InodeValue, inode_sector, kind_byte}
 use Rattle.lfs_model.specs.Laid.{HoldsInode}
-use Rattle.lfs_model.proofs.Numbers.{length-le32, length-zeros}
+use Rattle.lfs_model.proofs.Numbers.{length-zeros}
 use Rattle.lfs_model.proofs.Patching.{header_holds}
 use Rattle.lfs_memory.specs.Changing.{headed, header_with, FitsHeader}
 use Rattle.lfs_memory.proofs.LogMaps.{word_zeros}
 
 drop_past : (xs ys : List ℕ) (k n : ℕ) → n ≡ length xs + k → drop n (xs ++ ys) ≡ drop k ys
-drop_past [] ys k n is = ap (λ (m : ℕ). drop m ys) (let e : 0 + k ≡ k = omega arith in is ∙ e)
-drop_past (x ∷ xs) ys k zero is = absurd (omega (arith, is))
-drop_past (x ∷ xs) ys k (suc n) is = drop_past xs ys k n (omega (arith, is))
+drop_past [] ys k n is = rw (let e : 0 + k ≡ k = omega arith in is ∙ e)
+drop_past (x ∷ xs) ys k zero is = absurd (omega arith)
+drop_past (x ∷ xs) ys k (suc n) is = drop_past xs ys k n (omega arith)
 
 -- past the header, of 1, 1, 2, 4, 4 and 4 bytes
 module _ (a f : ℕ) (l s z : ℕ) (r : List ℕ) where
   past : (n : ℕ) → 16 ≤ n → drop n ((a ∷ []) ++ (f ∷ []) ++ zeros 2 ++ le32 l ++ le32 s ++ le32 z ++ r) ≡ drop (n - 16) r
   unfolding le32 zeros
   past n room =
-      drop_past (a ∷ []) ((f ∷ []) ++ zeros 2 ++ le32 l ++ le32 s ++ le32 z ++ r) (n - 1) n (omega (arith, room))
-      ∙ drop_past (f ∷ []) (zeros 2 ++ le32 l ++ le32 s ++ le32 z ++ r) (n - 2) (n - 1) (omega (arith, room))
-      ∙ drop_past (zeros 2) (le32 l ++ le32 s ++ le32 z ++ r) (n - 4) (n - 2) (let e = length-zeros 2 in omega (arith, room, e))
-      ∙ drop_past (le32 l) (le32 s ++ le32 z ++ r) (n - 8) (n - 4) (let e = length-le32 l in omega (arith, room, e))
-      ∙ drop_past (le32 s) (le32 z ++ r) (n - 12) (n - 8) (let e = length-le32 s in omega (arith, room, e))
-      ∙ drop_past (le32 z) r (n - 16) (n - 12) (let e = length-le32 z in omega (arith, room, e))
+      drop_past (a ∷ []) ((f ∷ []) ++ zeros 2 ++ le32 l ++ le32 s ++ le32 z ++ r) (n - 1) n (omega arith)
+      ∙ drop_past (f ∷ []) (zeros 2 ++ le32 l ++ le32 s ++ le32 z ++ r) (n - 2) (n - 1) (omega arith)
+      ∙ drop_past (zeros 2) (le32 l ++ le32 s ++ le32 z ++ r) (n - 4) (n - 2) (omega arith)
+      ∙ drop_past (le32 l) (le32 s ++ le32 z ++ r) (n - 8) (n - 4) (omega arith)
+      ∙ drop_past (le32 s) (le32 z ++ r) (n - 12) (n - 8) (omega arith)
+      ∙ drop_past (le32 z) r (n - 16) (n - 12) (omega arith)
 
 -- the pointers of an inode, as its bytes past the header
 abbrev tail : InodeValue → List ℕ
@@ -48,9 +48,8 @@ relabeled i kind form links size = record i { kind = kind; form = form; links = 
 headed_sector : (i : InodeValue) (kind : Kind) (form n links size : ℕ) (bytes : List ℕ) → i.number ≡ n → drop 16 bytes ≡ tail i
     → headed kind form n links size bytes ≡ inode_sector (relabeled i kind form links size)
 headed_sector i kind form n links size bytes own is =
-    ap (λ (r : List ℕ). (kind_byte kind ∷ []) ++ (form ∷ []) ++ zeros 2 ++ le32 n ++ le32 links ++ le32 size ++ r) is
-    ∙ ap (λ (l : ℕ). (kind_byte kind ∷ []) ++ (form ∷ []) ++ zeros 2 ++ le32 l ++ le32 links ++ le32 size ++ tail i) (sym own)
-    ∙ sym (sector_is (relabeled i kind form links size))
+    rw is (ap (λ (l : ℕ). (kind_byte kind ∷ []) ++ (form ∷ []) ++ zeros 2 ++ le32 l ++ le32 links ++ le32 size ++ tail i) (sym own)
+    ∙ sym (sector_is (relabeled i kind form links size)))
 
 -- an inode with another header is one
 pub holds_headed : (n : ℕ) {old : List ℕ} → HoldsInode n old → {kind : Kind} {form links size : ℕ} → FitsHeader kind form links size
@@ -58,16 +57,7 @@ pub holds_headed : (n : ℕ) {old : List ℕ} → HoldsInode n old → {kind : K
 holds_headed n {old} holds {kind} {form} {links} {size} fits = record {
   value = relabeled holds.value kind form links size;
   spelt = headed_sector holds.value kind form n links size old holds.own (ap (drop 16) holds.spelt ∙ tail_is holds.value);
-  fits = record {
-    number = holds.fits.number;
-    links = holds.fits.links;
-    form = fits.known;
-    size = fits.size_fits;
-    direct_length = holds.fits.direct_length;
-    direct_fits = holds.fits.direct_fits;
-    single_fits = holds.fits.single_fits;
-    double_fits = holds.fits.double_fits;
-  };
+  fits = assumption;
   links = fits.links_few;
   own = holds.own;
 }
@@ -77,32 +67,29 @@ drop_none zero = refl
 drop_none (suc j) = refl
 
 dropped : (k m : ℕ) (bs : List ℕ) → k ≤ m → drop (m - k) (drop k bs) ≡ drop m bs
-dropped zero m bs le = ap (λ (j : ℕ). drop j bs) (let e : m - 0 ≡ m = omega arith in e)
-dropped (suc k) zero bs le = absurd (omega (arith, le))
+dropped zero m bs le = rw (let e : m - 0 ≡ m = omega arith in e)
+dropped (suc k) zero bs le = absurd (omega arith)
 dropped (suc k) (suc m) [] le = drop_none (suc m - suc k)
-dropped (suc k) (suc m) (b ∷ bs) le = ap (λ (j : ℕ). drop j (drop k bs)) (let e : suc m - suc k ≡ m - k = omega arith in e)
-    ∙ dropped k m bs (omega (arith, le))
+dropped (suc k) (suc m) (b ∷ bs) le = rw (let e : suc m - suc k ≡ m - k = omega arith in e) (dropped k m bs (omega arith))
 
 -- past its header it is as it was
 pub headed_words : (kind : Kind) (form n links size : ℕ) (old : List ℕ) (w : ℕ) → 4 ≤ w
     → word (headed kind form n links size old) w ≡ word old w
 unfolding word read32 part
 headed_words kind form n links size old w high =
-    ap (λ (b : List ℕ). number_of (take 4 b))
-    (past (kind_byte kind) form n links size (drop 16 old) (4 * w) (omega (arith, high)) ∙ dropped 16 (4 * w) old (omega (arith, high)))
+    rw (past (kind_byte kind) form n links size (drop 16 old) (4 * w) (omega arith) ∙ dropped 16 (4 * w) old (omega arith))
 
 pub header_headed : (n : ℕ) {old : List ℕ} → HoldsInode n old → {kind : Kind} {form links size : ℕ} → FitsHeader kind form links size
     → header (headed kind form n links size old) ≡ header_with kind form links size
 unfolding holds_headed
-header_headed n {old} holds {kind} {form} {links} {size} fits =
+header_headed n holds fits =
     header_holds n (holds_headed n holds fits)
 
 -- ---- a new inode, whose pointers are 0
 zeros_then : (a b : ℕ) → zeros (a + b) ≡ zeros a ++ zeros b
 unfolding zeros
-zeros_then zero b = ap (λ (n : ℕ). replicate n 0) (let e : 0 + b ≡ b = omega arith in e)
-zeros_then (suc a) b = ap (λ (n : ℕ). replicate n 0) (let e : suc a + b ≡ suc (a + b) = omega arith in e)
-    ∙ ap (λ (l : List ℕ). 0 ∷ l) (zeros_then a b)
+zeros_then zero b = rw (let e : 0 + b ≡ b = omega arith in e)
+zeros_then (suc a) b = rw (let e : suc a + b ≡ suc (a + b) = omega arith in e) (ap (λ (l : List ℕ). 0 ∷ l) (zeros_then a b))
 
 four : le32 0 ≡ zeros 4
 unfolding le32 zeros
@@ -121,7 +108,7 @@ new_inode kind form n links size =
 
 new_tail : (kind : Kind) (form n links size : ℕ) → drop 16 (zeros 512) ≡ tail (new_inode kind form n links size)
 new_tail kind form n links size =
-    ap (drop 16) (zeros_then 16 496) ∙ drop_past (zeros 16) (zeros 496) 0 16 (let e = length-zeros 16 in omega (arith, e))
+    ap (drop 16) (zeros_then 16 496) ∙ drop_past (zeros 16) (zeros 496) 0 16 (omega (arith, length-zeros 16))
     ∙ zeros_then 16 480 ∙ ap (λ (l : List ℕ). zeros 16 ++ l)
     (zeros_then 448 32 ∙ ap (λ (l : List ℕ). l ++ zeros 32) (sym (no_words 112)) ∙ ap (λ (l : List ℕ). words (replicate 112 0) ++ l)
     (zeros_then 4 28 ∙ ap (λ (l : List ℕ). l ++ zeros 28) (sym four) ∙ ap (λ (l : List ℕ). le32 0 ++ l)
@@ -134,7 +121,7 @@ are_32 (suc n) (suc i) = are_32 n i
 
 length_same : (n : ℕ) → length {A = ℕ} (replicate n 0) ≡ n
 length_same zero = refl
-length_same (suc n) = ap (λ (k : ℕ). suc k) (length_same n)
+length_same (suc n) = rw (length_same n)
 
 pub holds_new : (n : ℕ) → 1 ≤ n → n ≤ 4095 → {kind : Kind} {form links size : ℕ} → FitsHeader kind form links size
     → HoldsInode n (headed kind form n links size (zeros 512))

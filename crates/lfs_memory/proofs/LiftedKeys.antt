@@ -16,18 +16,15 @@ pub file_is : (code : ℕ) {f : ℕ} → f ≡ code / 32768 % 4096 → file_of (
 file_is code e = by_rank (code / 134217728) (code / 32768 % 4096) (code % 32768) ∙ ap Some (sym e)
 
 pub inode_is : (code : ℕ) {k : BlockKind} → k ≡ kind_by (code / 134217728) → k ≡ kind.Inode → entry_at code ≡ Inode (code / 32768 % 4096)
-inode_is code {k} is e = ap (λ (k : BlockKind). entry_by k (code / 32768 % 4096) (code % 32768)) (sym is ∙ e)
+inode_is code is e = rw (sym is ∙ e)
 
 leaf_rank : (r f i : ℕ) {n q : ℕ} → entry_by (kind_by r) f i ≡ Leaf n q → (r ≡ 1) × (i ≡ q)
-leaf_rank zero f i e = absurd (cc)
+leaf_rank zero f i e = cc
 leaf_rank (suc zero) f i e = (refl, cc)
-leaf_rank (suc (suc zero)) f i e = absurd (cc)
-leaf_rank (suc (suc (suc r))) f i e = absurd (cc)
+leaf_rank (suc (suc zero)) f i e = cc
+leaf_rank (suc (suc (suc r))) f i e = cc
 
 pub leaf_low : {code : ℕ} → IsCode code → (n q : ℕ) → entry_at code ≡ Leaf n q → q ≤ 128
 leaf_low {code} formed n q e =
     let w = leaf_rank (code / 134217728) (code / 32768 % 4096) (code % 32768) e in
-    let rank = w.0 in
-    let own = w.1 in
-    let low = formed.leaf_index (omega (arith, rank)) (omega (arith, rank)) in
-    omega (arith, low, own)
+    omega (arith, formed.leaf_index (omega arith) (omega arith))

@@ -1,5 +1,5 @@
 -- Log maps with another block or header, and blocks of zeros.
-use Rattle.std.proofs.Common.{◌≡◌, ⊎_elim, ◌*◌, ◌==◌, ◌&&◌, cond, ℕ, zero, suc, Bool, true, false, List, [], ◌∷◌, length, take, drop}
+use Rattle.std.proofs.Common.{◌≡◌, ◌*◌, ◌==◌, ◌&&◌, cond, ℕ, zero, suc, Bool, true, false, List, [], ◌∷◌, length, take, drop}
 use Rattle.std.proofs.Common.{Option, ◌⊎◌, inl, inr, refl, sym, ◌∙◌, ap, arith}
 use Rattle.std.proofs.Math.Path.{fun_ext}
 use Rattle.std.proofs.lemmas.Bool.{cases_eq, cases_Bool}
@@ -23,21 +23,19 @@ both_no true true never = absurd (never refl refl)
 
 pub both_yes : (a b : Bool) → (a && b) ≡ true → (a ≡ true) × (b ≡ true)
 both_yes true true e = (refl, refl)
-both_yes true false e = absurd cc
-both_yes false b e = absurd cc
+both_yes true false e = cc
+both_yes false b e = cc
 
 pub equal_is : (k n : ℕ) → (k == n) ≡ true → k ≡ n
-equal_is k n e = ⊎_elim (λ (is : k ≡ n). is) (λ (ne : k ≡ n → ⊥). let no = equal_no ne in absurd cc) (cases_eq k n)
+equal_is k n e = elim (cases_eq k n) [ inl is ↦ is | inr ne ↦ let no = equal_no ne in cc ]
 
 -- ---- another block
 own_block : (m : LogMap) (n i : ℕ) (bytes : List ℕ) → cond ((n == n) && (i == i)) bytes (m.block n i) ≡ bytes
-own_block m n i bytes = ap (λ (b : Bool). cond (b && (i == i)) bytes (m.block n i)) (equal_yes n n refl)
-    ∙ ap (λ (b : Bool). cond b bytes (m.block n i)) (equal_yes i i refl)
+own_block m n i bytes = rw (equal_yes n n refl) (ap (λ (b : Bool). cond b bytes (m.block n i)) (equal_yes i i refl))
 
 other_block : (m : LogMap) (n i : ℕ) (bytes : List ℕ) (k l : ℕ) → (Data k l ≡ Data n i → ⊥)
     → cond ((k == n) && (l == i)) bytes (m.block k l) ≡ m.block k l
-other_block m n i bytes k l ne = ap (λ (b : Bool). cond b bytes (m.block k l))
-    (both_no (k == n) (l == i) (λ a b. let x = equal_is k n a in let y = equal_is l i b in ne cc))
+other_block m n i bytes k l ne = rw (both_no (k == n) (l == i) (λ a b. let x = equal_is k n a in let y = equal_is l i b in ne cc))
 
 pub is_with_block : (m : LogMap) (n i : ℕ) (bytes : List ℕ) → IsWithBlock m n i bytes (with_block m n i bytes)
 is_with_block m n i bytes = record {
@@ -49,22 +47,22 @@ is_with_block m n i bytes = record {
 
 -- the block that it had
 pub with_same_block : (m : LogMap) (n i : ℕ) (bytes : List ℕ) → m.block n i ≡ bytes → with_block m n i bytes ≡ m
-with_same_block m n i bytes is = ap (λ (f : ℕ → ℕ → List ℕ). record m { block = f }) (fun_ext (λ k. fun_ext (λ l. same k l)))
+with_same_block m n i bytes is = rw (fun_ext (λ k. fun_ext (λ l. same k l)))
   where
     same : (k l : ℕ) → cond ((k == n) && (l == i)) bytes (m.block k l) ≡ m.block k l
-    same k l = ⊎_elim
-        (λ (on : ((k == n) && (l == i)) ≡ true). ap (λ (b : Bool). cond b bytes (m.block k l)) on ∙ sym is ∙ here on)
-        (λ (off : ((k == n) && (l == i)) ≡ false). ap (λ (b : Bool). cond b bytes (m.block k l)) off)
-        (cases_Bool ((k == n) && (l == i)))
+    same k l = elim (cases_Bool ((k == n) && (l == i))) [
+      | inl on ↦ rw on (sym is ∙ here on)
+      | inr off ↦ rw off
+    ]
       where
         here : ((k == n) && (l == i)) ≡ true → m.block n i ≡ m.block k l
         here on = let p = both_yes (k == n) (l == i) on in let x = equal_is k n p.0 in let y = equal_is l i p.1 in cc
 
 -- ---- another header
 pub is_with_header : (m : LogMap) (n : ℕ) {h : Option Header} → IsWithHeader m n h (with_header m n h)
-is_with_header m n {h} = record {
-  own = ap (λ (b : Bool). cond b h (m.header n)) (equal_yes n n refl);
-  others = λ k ne. ap (λ (b : Bool). cond b h (m.header k)) (equal_no ne);
+is_with_header m n = record {
+  own = rw (equal_yes n n refl);
+  others = λ k ne. rw (equal_no ne);
   block = λ k l. refl;
   version = refl;
 }
@@ -79,21 +77,21 @@ zeros_blank : (bytes : List ℕ) → is_blank bytes ≡ true → bytes ≡ zeros
 unfolding is_blank zeros
 zeros_blank [] on = refl
 zeros_blank (zero ∷ bytes) on = ap (λ (bs : List ℕ). 0 ∷ bs) (zeros_blank bytes on)
-zeros_blank (suc b ∷ bytes) on = let z = equal_is (suc b) 0 (both_yes (suc b == 0) (is_blank bytes) on).0 in absurd (omega (arith, z))
+zeros_blank (suc b ∷ bytes) on = absurd (omega (arith, equal_is (suc b) 0 (both_yes (suc b == 0) (is_blank bytes) on).0))
 
 pub stored_none : (bytes : List ℕ) (n : ℕ) → bytes ≡ zeros n → stored bytes ≡ []
-stored_none bytes n is = ap (λ (b : Bool). cond b [] bytes) (ap is_blank is ∙ blank_zeros n)
+stored_none bytes n is = rw (ap is_blank is ∙ blank_zeros n)
 
 pub stored_some : (bytes : List ℕ) {n : ℕ} → length bytes ≡ n → (bytes ≡ zeros n → ⊥) → stored bytes ≡ bytes
-stored_some bytes long some = ⊎_elim
-    (λ (on : is_blank bytes ≡ true). absurd (some (zeros_blank bytes on ∙ ap zeros long)))
-    (λ (off : is_blank bytes ≡ false). ap (λ (b : Bool). cond b [] bytes) off)
-    (cases_Bool (is_blank bytes))
+stored_some bytes long some = elim (cases_Bool (is_blank bytes)) [
+  | inl on ↦ absurd (some (zeros_blank bytes on ∙ ap zeros long))
+  | inr off ↦ ap (λ (b : Bool). cond b [] bytes) off
+]
 
 number_zero : (n : ℕ) → number_of (zeros n) ≡ 0
 unfolding zeros
 number_zero zero = refl
-number_zero (suc n) = let rest = number_zero n in omega (arith, rest)
+number_zero (suc n) = omega (arith, number_zero n)
 
 drop_zeros : (k n : ℕ) → (r : ℕ) × (drop k (zeros n) ≡ zeros r)
 unfolding zeros
@@ -105,14 +103,14 @@ take_zeros : (k n : ℕ) → (r : ℕ) × (take k (zeros n) ≡ zeros r)
 unfolding zeros
 take_zeros zero n = (0, refl)
 take_zeros (suc k) zero = (0, refl)
-take_zeros (suc k) (suc n) = let rest = take_zeros k n in (suc rest.0, ap (λ (bs : List ℕ). 0 ∷ bs) rest.1)
+take_zeros (suc k) (suc n) = let rest = take_zeros k n in (suc rest.0, rw rest.1)
 
 pub word_zeros : (n w : ℕ) → word (zeros n) w ≡ 0
 unfolding word read32 part
 word_zeros n w =
     let d = drop_zeros (4 * w) n in
     let t = take_zeros 4 d.0 in
-    ap (λ (bs : List ℕ). number_of (take 4 bs)) d.1 ∙ ap number_of t.1 ∙ number_zero t.0
+    rw d.1 (ap number_of t.1 ∙ number_zero t.0)
 
 pub length_zeros : (n : ℕ) → length (zeros n) ≡ n
 unfolding zeros
@@ -120,7 +118,7 @@ length_zeros zero = refl
 length_zeros (suc n) = ap suc (length_zeros n)
 
 pub blank_or : (bytes : List ℕ) → length bytes ≡ 512 → (bytes ≡ zeros 512) ⊎ (bytes ≡ zeros 512 → ⊥)
-blank_or bytes long = ⊎_elim
-    (λ (on : is_blank bytes ≡ true). inl (zeros_blank bytes on ∙ ap zeros long))
-    (λ (off : is_blank bytes ≡ false). inr (λ is. let on = ap is_blank is ∙ blank_zeros 512 in absurd cc))
-    (cases_Bool (is_blank bytes))
+blank_or bytes long = elim (cases_Bool (is_blank bytes)) [
+  | inl on ↦ inl (zeros_blank bytes on ∙ ap zeros long)
+  | inr off ↦ inr (λ is. let on = ap is_blank is ∙ blank_zeros 512 in cc)
+]

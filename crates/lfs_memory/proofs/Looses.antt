@@ -1,18 +1,18 @@
 -- What holds of the log while files change in memory.
 use Rattle.std.proofs.Common.{◌≡◌, ◌<◌, ◌≤◌, ◌+◌, not, ℕ, zero, suc, Bool, true, length, Some, refl, sym, ◌∙◌, ap, subst, arith}
-use Rattle.lfs_model.specs.Checkpoint.{CheckpointValue, IsSegmentCount}
+use Rattle.lfs_model.specs.Checkpoint.{CheckpointValue}
 use Rattle.lfs_model.specs.Counting.{segment_of}
 use Rattle.lfs_model.specs.Device.{DeviceState}
 use Rattle.lfs_model.specs.Entry.{Entry, Data, Leaf, Double, Inode, Map, Usage}
 use Rattle.lfs_model.specs.Memory.{parent, file_of, is_shown, is_held, count_of}
-use Rattle.lfs_model.specs.Running.{Dirty, IsTight, Tables, Running, IsLifted, CountsDown}
+use Rattle.lfs_model.specs.Running.{Dirty, IsTight, Tables, Running, IsLifted}
 use Rattle.lfs_model.specs.Staging.{IsAtAddress}
 use Rattle.lfs_model.specs.Stands.{LogMap}
 use Rattle.lfs_model.proofs.Counting.{taken_counts}
 use Rattle.lfs_model.proofs.Replacing.{address_at}
 use Rattle.lfs_model.proofs.Running.{taken_memory, is_taken}
 use Rattle.lfs_segments.specs.Chunk.{Chunk, IsOpenChunk}
-use Rattle.lfs_segments.specs.Table.{UsageTable, live_of, held_of, stale_of, clean_in}
+use Rattle.lfs_segments.specs.Table.{UsageTable, live_of, held_of, stale_of}
 use Rattle.lfs_segments.specs.Steps.{Lifts}
 use Rattle.lfs_inodes.specs.Blocks.{Capacity, blocks_of}
 use Rattle.lfs_inodes.specs.MapValue.{MapValue, is_hidden_in}
@@ -22,11 +22,11 @@ use Rattle.lfs_memory.specs.Changing.{IsCountedThere, IsMiscounted, IsPointedIn,
 use Rattle.lfs_memory.proofs.FileSteps.{shows}
 
 pub loose : (d : DeviceState) (v : LogMemory) (k : CheckpointValue) (m0 m : LogMap) → IsLog d v k m0 m → IsLoose d v k m0 m
-loose d v k m0 m is = record { running = is.running; hidden = is.hidden; segments = is.segments }
+loose d v k m0 m is = assumption
 
 pub tight_again : {d : DeviceState} {v : LogMemory} {k : CheckpointValue} {m0 m : LogMap} → IsLoose d v k m0 m → IsTight (blocks_of v.dirty)
     → IsLog d v k m0 m
-tight_again is tight = record { running = is.running; hidden = is.hidden; segments = is.segments; tight = tight }
+tight_again is tight = assumption
 
 -- ---- memory
 pub stays_memory : (v v' : LogMemory) → IsMemory v → v'.chunk ≡ v.chunk → length v'.usage.segments ≡ length v.usage.segments
@@ -34,12 +34,12 @@ pub stays_memory : (v v' : LogMemory) → IsMemory v → v'.chunk ≡ v.chunk �
     → ((j : ℕ) → stale_of v.usage j ≡ true → stale_of v'.usage j ≡ true)
     → v'.dirty.capacity ≡ v.dirty.capacity → IsMemory v'
 stays_memory v v' memory chunk segments opened same stale capacity = record {
-  count = subst IsSegmentCount (sym segments) memory.count;
+  count = rw segments memory.count;
   opened = λ some. subst (λ (c : Chunk). IsOpenChunk c v'.usage) (sym chunk)
-      (opened (memory.opened (subst (λ (c : Chunk). 0 < length c.names) chunk some)));
-  short = subst (λ (c : Chunk). 0 < length c.names → c.start + length c.names ≤ 62) (sym chunk) memory.short;
+      (opened (memory.opened (rw chunk at some)));
+  short = rw chunk memory.short;
   usages = λ j one. stale j (memory.usages j (sym (same j) ∙ one));
-  few = let f = memory.few in let c = ap (λ (c : Capacity). c.limit) capacity in omega (arith, f, c, segments);
+  few = omega (arith, ap (λ (c : Capacity). c.limit) capacity);
 }
 
 pub stays_same : (v v' : LogMemory) → v'.chunk ≡ v.chunk → v'.usage ≡ v.usage → v'.dirty.capacity ≡ v.dirty.capacity → IsMemory v
@@ -60,8 +60,8 @@ pub stays_put : (n : ℕ) {v : LogMemory} (v' : LogMemory) → v'.usage ≡ v.us
 stays_put n {v} v' usage chunk capacity blocks = record {
   memory = stays_same v v' chunk usage capacity;
   chunk = chunk;
-  segments = ap (λ (u : UsageTable). length u.segments) usage;
-  clean = ap (λ (u : UsageTable). clean_in u.segments) usage;
+  segments = rw usage;
+  clean = rw usage;
   capacity = capacity;
   blocks = blocks;
 }
@@ -73,7 +73,7 @@ stays_more s = record {
   segments = s.segments;
   clean = s.clean;
   capacity = s.capacity;
-  blocks = let b = s.blocks in omega (arith, b);
+  blocks = omega arith;
 }
 
 tops_same : {map map' : MapValue} (old new : UsageTable) → map' ≡ map → ((j : ℕ) → table_at map new (Usage j) ≡ table_at map old (Usage j))
@@ -81,18 +81,18 @@ tops_same : {map map' : MapValue} (old new : UsageTable) → map' ≡ map → ((
 tops_same old new is same (Data n i) = refl
 tops_same old new is same (Leaf n q) = refl
 tops_same old new is same (Double n) = refl
-tops_same old new is same (Inode n) = ap (λ (a : MapValue). table_at a old (Inode n)) is
-tops_same old new is same (Map j) = ap (λ (a : MapValue). table_at a old (Map j)) is
+tops_same old new is same (Inode n) = rw is
+tops_same old new is same (Map j) = rw is
 tops_same old new is same (Usage j) = same j
 
 pub lifts_tables : (m : LogMap) {map map' : MapValue} {old new : UsageTable} {x : Entry} {s : ℕ} (w : ℕ) {lives : Bool} → map' ≡ map
     → Lifts old new s lives → lives ≡ is_shown m x → (parent x ≡ x → ⊥)
     → IsLifted m (tables_by map old) (tables_by map' new) x w s
-lifts_tables m {map} {map'} {old} {new} {s} w same go shows below = record {
+lifts_tables m {old = old} {new} w same go shows below = record {
   at = record { own = λ top. absurd (below top); others = λ y top ne. tops_same old new same (λ j. go.blocks.address j) y };
   used = go.used;
-  live = subst (λ (b : Bool). CountsDown b (live_of old) (live_of new) s) shows go.live;
-  held = subst (λ (b : Bool). CountsDown (not b) (held_of old) (held_of new) s) shows go.held;
+  live = rw shows at go.live;
+  held = rw shows at go.held;
   age = go.age;
   kept = go.kept;
   stale = go.blocks.stale;
@@ -110,10 +110,10 @@ pub as_memory : {d : DeviceState} {dirty : Dirty} {k : CheckpointValue} {m0 m : 
     → Running d dirty (tables_of v') k m0 m (segment_in v'.chunk) (chunk_in v'.chunk)
 as_memory {d} {dirty} {k} {m0} {m} v v' chunk same w =
     subst (λ (c : Chunk). Running d dirty (tables_of v') k m0 m (segment_in c) (chunk_in c)) (sym chunk)
-    (subst (λ (u : Tables). Running d dirty u k m0 m (segment_in v.chunk) (chunk_in v.chunk)) same w)
+    (rw same at w)
 
 pub tables_same : (v v' : LogMemory) → v'.map ≡ v.map → v'.usage ≡ v.usage → tables_of v ≡ tables_of v'
-tables_same v v' map usage = ap (λ (a : MapValue). tables_by a v.usage) (sym map) ∙ ap (λ (u : UsageTable). tables_by v'.map u) (sym usage)
+tables_same v v' map usage = rw (← map) (ap (λ (u : UsageTable). tables_by v'.map u) (sym usage))
 
 -- ---- a block below another that has an address is counted there
 module _ (d : DeviceState) (v : LogMemory) (k : CheckpointValue) (m0 m : LogMap) (is : IsLoose d v k m0 m) (x : Entry) (a : ℕ)
@@ -122,26 +122,27 @@ module _ (d : DeviceState) (v : LogMemory) (k : CheckpointValue) (m0 m : LogMap)
   where_is = address_at d k m0 m x a is.running at
 
   there : 2 ≤ is.running.memory.at x
-  there = let e = where_is in omega (arith, e, above)
+  there = omega (arith, where_is)
 
   count_some : (p : Entry → Bool) → p x ≡ true → 0 < count_of p is.running.memory (segment_of (is.running.memory.at x))
   count_some p on =
       let M = is.running.memory in
-      let c = (taken_counts d.content m M (segment_in v.chunk) x 1 (taken_memory M x 1 M.bytes) is.running.laid there
-      (is_taken M x 1 M.bytes (omega arith)) p).0 on in
-      omega (arith, c)
+      omega (
+        arith,
+        (taken_counts d.content m M _ x 1 (taken_memory M x 1 M.bytes) is.running.laid there
+            (is_taken M x 1 M.bytes (omega arith)) p).0 on,
+      )
 
   pub counted : {lives : Bool} → lives ≡ is_shown m x → IsCountedThere v.usage a lives
   counted shows =
       let w = is.running in
       let e = where_is in
       record {
-        inside = let within = w.laid.within x there in let s = w.segments in let z = is.segments in omega (arith, within, s, z, e, above);
+        inside = omega arith;
         live = λ on. subst (λ (n : ℕ). 0 < live_of v.usage (segment_of n)) e
-            (let c = count_some (is_shown m) (sym shows ∙ on) in let l = w.tables.live (segment_of (w.memory.at x)) in omega (arith, c, l));
+            (omega (arith, w.tables.live (segment_of (w.memory.at x)), count_some (is_shown m) (sym shows ∙ on)));
         held = λ off. subst (λ (n : ℕ). 0 < held_of v.usage (segment_of n)) e
-            (let c = count_some (is_held m) (ap not (sym shows ∙ off)) in let l = w.tables.held (segment_of (w.memory.at x)) in
-            omega (arith, c, l));
+            (omega (arith, w.tables.held (segment_of (w.memory.at x)), count_some (is_held m) (ap not (sym shows ∙ off))));
       }
 
 -- so its leaving doesn't fail

@@ -1,5 +1,5 @@
 -- What a call of the device leaves of the log, and the chunk that is being written.
-use Rattle.std.proofs.Common.{◌≡◌, ◌<◌, ◌≤◌, ◌+◌, ◌*◌, ◌==◌, cond, ℕ, Bool, List, length, Option, Some, None, refl, ap, subst, arith}
+use Rattle.std.proofs.Common.{◌≡◌, ◌<◌, ◌≤◌, ◌+◌, ◌*◌, ℕ, List, length, Option, Some, None, refl, subst, arith}
 use Rattle.lfs_model.specs.Checkpoint.{CheckpointValue}
 use Rattle.lfs_model.specs.Content.{Content}
 use Rattle.lfs_model.specs.Crash.{IsFreeSector, StandsOn}
@@ -17,22 +17,22 @@ use Rattle.lfs_memory.proofs.Rooms.{not_zero}
 use Rattle.lfs_memory.specs.Memory.{IsLog, tables_of, segment_in, chunk_in}
 
 pub open_segment : (c : Chunk) → 0 < length c.names → segment_in c ≡ c.segment
-open_segment c some = ap (λ (b : Bool). cond b 1024 c.segment) (not_zero (length c.names) some)
+open_segment c some = rw (not_zero (length c.names) some)
 
 pub open_chunk : (c : Chunk) → 0 < length c.names → chunk_in c ≡ Some (entries_of c)
-open_chunk c some = ap (λ (b : Bool). cond {A = Option (List Entry)} b None (Some (entries_of c))) (not_zero (length c.names) some)
+open_chunk c some = rw (not_zero (length c.names) some)
 
 pub closed_segment : (c : Chunk) → length c.names ≡ 0 → segment_in c ≡ 1024
-closed_segment c none = ap (λ (n : ℕ). cond (n == 0) 1024 c.segment) none
+closed_segment c none = rw none
 
 pub closed_chunk : (c : Chunk) → length c.names ≡ 0 → chunk_in c ≡ None
-closed_chunk c none = ap (λ (n : ℕ). cond {A = Option (List Entry)} (n == 0) None (Some (entries_of c))) none
+closed_chunk c none = rw none
 
 -- the segment and the entries of a running log by other words
 pub as_chunk : {d : DeviceState} {dirty : Dirty} {t : Tables} {k : CheckpointValue} {m0 m : LogMap} {a b : ℕ} {x y : Option (List Entry)}
     → a ≡ b → x ≡ y → Running d dirty t k m0 m a x → Running d dirty t k m0 m b y
-as_chunk {d} {dirty} {t} {k} {m0} {m} {b} {x} s c w =
-    subst (λ (o : Option (List Entry)). Running d dirty t k m0 m b o) c (subst (λ (n : ℕ). Running d dirty t k m0 m n x) s w)
+as_chunk {d} {dirty} {t} {k} {m0} {m} {b} s c w =
+    subst (λ (o : Option (List Entry)). Running d dirty t k m0 m b o) c (rw s at w)
 
 module _ {d : DeviceState} {v : LogMemory} {k : CheckpointValue} {m0 m : LogMap} (is : IsLog d v k m0 m) where
   pub is_open : 0 < length v.chunk.names → Running d (blocks_of v.dirty) (tables_of v) k m0 m v.chunk.segment (Some (entries_of v.chunk))
@@ -58,4 +58,4 @@ pub taken_free : {d : DeviceState} {dirty : Dirty} {t : Tables} {k : CheckpointV
     {chunk : Option (List Entry)} → Running d dirty t k m0 m seg chunk
     → (s place : ℕ) → s < k.segments → t.kept s ≤ place → place < 64 → IsFreeSector d.content k (2 + 64 * s + place)
 taken_free w s place below free low =
-    record { segment = s; place = place; is = refl; within = low; below = below; unused = let u = w.kept s below in omega (arith, u, free) }
+    record { segment = s; place = place; is = refl; within = low; below = below; unused = omega arith }

@@ -1,6 +1,6 @@
 -- The pointers of a run are those of the log map that memory and device hold.
-use Rattle.std.proofs.Common.{◌≡◌, ◌<◌, ◌≤◌, ◌⊎◌, ⊎_elim, inl, inr, ◌+◌, ◌*◌, ◌-◌, ◌/◌, ◌%◌, ◌==◌, ℕ, Bool, true, false, not, List, length}
-use Rattle.std.proofs.Common.{get_or, Option, Some, None, refl, sym, ◌∙◌, ap, ap₂, subst, arith, eq-eqb, eqb-true}
+use Rattle.std.proofs.Common.{◌≡◌, ◌<◌, ◌≤◌, ◌⊎◌, inl, inr, ◌+◌, ◌*◌, ◌-◌, ◌/◌, ◌%◌, ◌==◌, ℕ, Bool, true, false, not, List, length}
+use Rattle.std.proofs.Common.{Option, Some, None, refl, sym, ◌∙◌, ap, ap₂, arith, eqb-true}
 use Rattle.std.specs.Prelude.{IfSome, Result, Ok, Err, IfOk}
 use mir.Val.{bool_byte}
 use Rattle.std.proofs.lemmas.Bool.{cases_eq, cond-true, cond-false, false_from_ne_true, lt-ltb, le-ltb, ltb-true}
@@ -17,7 +17,7 @@ use Rattle.lfs_device.specs.declared.device.ReadFault.TheVariants as kind
 use Rattle.lfs_inodes.specs.Blocks.{blocks_of}
 use Rattle.lfs_inodes.specs.MapValue.{address_in}
 use Rattle.lfs_inodes.specs.Pointed.{ArePointers}
-use Rattle.lfs_inodes.specs.Present.{present, leaf_now, data_now, leaf_first, IsAway, IsLeafAway}
+use Rattle.lfs_inodes.specs.Present.{present, leaf_now, leaf_first, IsAway, IsLeafAway}
 use Rattle.lfs_memory.specs.declared.memory.LogMemory.{LogMemory}
 use Rattle.lfs_memory.specs.declared.pointers.PointerRun.{PointerRun}
 use Rattle.lfs_memory.specs.Memory.{IsLoose}
@@ -33,7 +33,7 @@ use Rattle.lfs_memory.proofs.Ranges.{passing, passing_more, passing_nothing, pas
 module _ (a b : DeviceState) (v : LogMemory) {n address : ℕ} (x : Entry) (looks : Looks a b) (some : 1 ≤ n)
     (at : address ≡ address_in v.map n) (there : 0 < address) (named : x ≡ Inode n) where
   on_map : 0 < address_in v.map n
-  on_map = omega (arith, at, there)
+  on_map = omega arith
 
   shown_is : (shown : List ℕ) → shown ≡ present a.content (blocks_of v.dirty) x address
       → shown ≡ present a.content (blocks_of v.dirty) (Inode n) (address_in v.map n)
@@ -48,13 +48,12 @@ module _ (a b : DeviceState) (v : LogMemory) {n address : ℕ} (x : Entry) (look
       record {
         some = some;
         there = on_map;
-        low = omega (arith, direct);
+        low = omega arith;
         value = λ keeps. (
-            subst (λ (e : Content). get_or numbers (8 + (i - 0)) 0 ≡ data_now e (blocks_of v.dirty) n
-            (present e (blocks_of v.dirty) (Inode n) (address_in v.map n)) i) (sym looks.untouched.content)
-            (ap (λ (k : ℕ). get_or numbers k 0) place ∙ read keeps (8 + i) (omega (arith, direct))
+            rw looks.untouched.content
+            (rw place (read keeps (8 + i) (omega arith)
             ∙ ap (λ (b : List ℕ). word b (8 + i)) (shown_is (present a.content (blocks_of v.dirty) x address) refl)
-            ∙ sym (cond-true _ _ _ (lt-ltb i 112 direct))));
+            ∙ sym (cond-true _ _ _ (lt-ltb i 112 direct)))));
       }
 
   pub inode_run_failed : (fault : ReadFault) → (fault ≡ kind.Unreadable → b.keeps_model → IsAway a.content address)
@@ -69,7 +68,7 @@ module _ (a b : DeviceState) (v : LogMemory) {n address : ℕ} (x : Entry) (look
   pub inode_lacks : address ≡ 1 → blocks_of v.dirty x ≡ None → FailsFromDevice a b v
   inode_lacks one none k m0 m keeps is =
       absurd (not_missing a v k m0 m is (Inode n) (n, refl) (inode_at a v k m0 m is n ∙ sym at) there
-      (record { inside = λ e. subst (λ (y : Entry). blocks_of v.dirty y ≡ None) named none; outside = λ ne. absurd (ne one) }))
+      (record { inside = λ e. rw named at none; outside = λ ne. absurd (ne one) }))
 
 -- those of a leaf
 module _ {a b : DeviceState} (c : DeviceState) (v : LogMemory) {n : ℕ} (q : ℕ) {address first : ℕ} (x : Entry) {shown : List ℕ}
@@ -85,26 +84,22 @@ module _ {a b : DeviceState} (c : DeviceState) (v : LogMemory) {n : ℕ} (q : �
       → ArePointers numbers (present b.content (blocks_of v.dirty) (Leaf n q) (leaf_now b.content (blocks_of v.dirty) n inode q)))
       → IsRunOf c v (record { number = n; first = 112 + 128 * q; len = 128; place = 0; pointers = numbers })
   leaf_run numbers found i inside =
-      let low = inside.low in
-      let high = inside.high in
-      let leaf : (i - 112) / 128 ≡ q = omega (arith, low, high) in
-      let place : 0 + (i - (112 + 128 * q)) ≡ (i - 112) % 128 = omega (arith, low, high) in
+      let leaf : (i - 112) / 128 ≡ q = omega arith in
+      let place : 0 + (i - (112 + 128 * q)) ≡ (i - 112) % 128 = omega arith in
       record {
         some = some;
-        there = omega (arith, at, there);
-        low = omega (arith, below, high);
+        there = omega arith;
+        low = omega arith;
         value = λ keeps. (
-            subst (λ (e : Content). get_or numbers (0 + (i - (112 + 128 * q))) 0 ≡ data_now e (blocks_of v.dirty) n
-            (present e (blocks_of v.dirty) (Inode n) (address_in v.map n)) i) (sym (two.untouched.content ∙ one.untouched.content))
-            (ap (λ (k : ℕ). get_or numbers k 0) place
-            ∙ found shown begins keeps ((i - 112) % 128) (omega arith)
+            rw (two.untouched.content ∙ one.untouched.content)
+            (rw place (found shown begins keeps ((i - 112) % 128) (omega arith)
             ∙ ap (λ (e : Content). word (present e (blocks_of v.dirty) (Leaf n q) (leaf_now e (blocks_of v.dirty) n shown q))
             ((i - 112) % 128)) one.untouched.content
             ∙ ap (λ (b : List ℕ). word (present a.content (blocks_of v.dirty) (Leaf n q) (leaf_now a.content (blocks_of v.dirty) n b q))
             ((i - 112) % 128)) (inode_is (two.carries.kept_before keeps))
             ∙ ap (λ (l : ℕ). word (present a.content (blocks_of v.dirty) (Leaf n l) (leaf_now a.content (blocks_of v.dirty) n
             (present a.content (blocks_of v.dirty) (Inode n) (address_in v.map n)) l)) ((i - 112) % 128)) (sym leaf)
-            ∙ sym (cond-false _ _ _ (le-ltb i 112 (omega (arith, low))))));
+            ∙ sym (cond-false _ _ _ (le-ltb i 112 (omega arith))))));
       }
 
   pub leaf_run_failed : (fault : ReadFault)
@@ -113,11 +108,10 @@ module _ {a b : DeviceState} (c : DeviceState) (v : LogMemory) {n : ℕ} (q : �
       → (fault ≡ kind.Failed → b.failures < c.failures) → FailsFromDevice a c v
   leaf_run_failed fault away failed =
       let leaf : q ≡ (112 + 128 * q - 112) / 128 = omega arith in
-      address_failed a b c v n (112 + 128 * q) shown fault one two (omega (arith, at, there)) (omega (arith, below)) inode_is
+      address_failed a b c v n (112 + 128 * q) shown fault one two (omega arith) (omega arith) inode_is
       (λ is keeps. (
         omega arith,
-        subst (λ (l : ℕ). IsLeafAway b.content shown l
-            ⊎ IsAway b.content (leaf_now b.content (blocks_of v.dirty) n shown l)) leaf (away is shown begins keeps),
+        rw leaf at (away is shown begins keeps),
       ))
       failed
 
@@ -138,8 +132,7 @@ run_still v (Some r) looks is = λ i inside.
       some = p.some;
       there = p.there;
       low = p.low;
-      value = λ keeps. subst (λ (e : Content). pointer_in r i ≡ data_now e (blocks_of v.dirty) r.number (present e (blocks_of v.dirty)
-          (Inode r.number) (address_in v.map r.number)) i) (sym looks.untouched.content) (p.value (looks.carries.kept_before keeps));
+      value = λ keeps. rw looks.untouched.content (p.value (looks.carries.kept_before keeps));
     }
 
 -- what its pointers are
@@ -152,34 +145,32 @@ module _ (a b : DeviceState) (v : LogMemory) (r : PointerRun) (looks : Looks a b
   in_run k m0 m keeps is =
       let p = run i own in
       let shown = present a.content (blocks_of v.dirty) (Inode r.number) (address_in v.map r.number) in
-      let found = subst (λ (e : Content). pointer_in r i ≡ data_now e (blocks_of v.dirty) r.number
-      (present e (blocks_of v.dirty) (Inode r.number) (address_in v.map r.number)) i) looks.untouched.content (p.value keeps) in
-      ap (λ (n : ℕ). is.running.memory.at (Data n i)) (sym inside.own)
-      ∙ sym (found ∙ data_at a v k m0 m is r.number i p.there (inode_bytes a v k m0 m is r.number shown p.there refl) p.low)
+      let found = rw looks.untouched.content at (p.value keeps) in
+      rw (← inside.own) (sym (found
+      ∙ data_at a v k m0 m is r.number i p.there (inode_bytes a v k m0 m is r.number shown p.there refl) p.low))
 
 pub kept_found : {a b : DeviceState} (v : LogMemory) (kept : Option PointerRun) (n i p : ℕ) → Looks a b → KeepsRun b v kept
     → IsKeptFor kept n i → IfSome kept (λ r. p ≡ pointer_in r i) → AnswersAddress a b v (Data n i) p
 kept_found v None n i p looks run inside found = absurd inside
 kept_found {a} {b} v (Some r) n i p looks run inside found =
-    subst (AnswersAddress a b v (Data n i)) (sym found) (in_run a b v r looks run n i inside)
+    rw found (in_run a b v r looks run n i inside)
 
 pub kept_some : (b : DeviceState) (v : LogMemory) (kept : Option PointerRun) (n i : ℕ) → KeepsRun b v kept → IsKeptFor kept n i
     → (1 ≤ n) × (i ≤ 16623)
 kept_some b v None n i run inside = absurd inside
 kept_some b v (Some r) n i run inside =
     let p = run i (record { own = refl; low = inside.low; high = inside.high }) in
-    let low = p.low in
-    (subst (λ (n : ℕ). 1 ≤ n) inside.own p.some, omega (arith, low))
+    (rw inside.own at p.some, omega arith)
 
 -- a block to which no way leads
 pub no_way : (a b : DeviceState) (v : LogMemory) (n i : ℕ) → HasNoWay v n i → AnswersAddress a b v (Data n i) 0
-no_way a b v n i none k m0 m keeps is = ⊎_elim
-    (λ (past : 16624 ≤ i). data_past a v k m0 m is n i past)
-    (λ (gone : (n ≡ 0) ⊎ (address_in v.map n ≡ 0)). data_none a v k m0 m is n i (⊎_elim
-    (λ (nobody : n ≡ 0). ap (λ (n : ℕ). is.running.memory.at (Inode n)) nobody ∙ nobody_at a v k m0 m is)
-    (λ (absent : address_in v.map n ≡ 0). inode_at a v k m0 m is n ∙ absent)
-    gone))
-    none
+no_way a b v n i none k m0 m keeps is = elim none [
+  | inl past ↦ data_past a v k m0 m is n i past
+  | inr gone ↦ data_none a v k m0 m is n i (elim gone [
+    | inl nobody ↦ rw nobody (nobody_at a v k m0 m is)
+    | inr absent ↦ inode_at a v k m0 m is n ∙ absent
+  ])
+]
 
 -- ---- counts
 pub blocks_none : (pointer : ℕ → ℕ) (from : ℕ) → blocks_in pointer from from ≡ 0
@@ -188,9 +179,9 @@ blocks_none pointer from = let none : from - from ≡ 0 = omega arith in ap (pas
 pub blocks_more : (pointer : ℕ → ℕ) (from i : ℕ) {count : ℕ} → from ≤ i → blocks_in pointer from i ≡ count
     → blocks_in pointer from (i + 1) ≡ count + bool_byte (not (pointer i == 0))
 blocks_more pointer from i order was =
-    let next : i + 1 - from ≡ i - from + 1 = omega (arith, order) in
+    let next : i + 1 - from ≡ i - from + 1 = omega arith in
     let more = ap (passing (λ i. not (pointer i == 0)) from) next
-    ∙ passing_more (λ i. not (pointer i == 0)) from (i - from) i (omega (arith, order)) in
+    ∙ passing_more (λ i. not (pointer i == 0)) from (i - from) i (omega arith) in
     omega (arith, was, more, byte (not (pointer i == 0)))
   where
     byte : (b : Bool) → bool_byte b ≡ one_if b
@@ -203,21 +194,21 @@ byte_low false = omega arith
 
 -- tests of addresses
 pub test_some : (a : ℕ) → 0 < a → not (a == 0) ≡ true
-test_some a some = ap not (false_from_ne_true (a == 0) (λ h. let none = eqb-true a 0 h in absurd (omega (arith, none, some))))
+test_some a some = ap not (false_from_ne_true (a == 0) (λ h. absurd (omega (arith, eqb-true a 0 h))))
 
 pub some_test : (a : ℕ) → not (a == 0) ≡ true → 0 < a
-some_test a on = ⊎_elim
-    (λ (none : a ≡ 0). let off = ap not (eq-eqb a 0 none) in absurd (cc))
-    (λ (some : a ≡ 0 → ⊥). omega (arith, some))
-    (cases_eq a 0)
+some_test a on = elim (cases_eq a 0) [
+  | inl none ↦ cc
+  | inr some ↦ omega arith
+]
 
 -- a block is stored exactly where it has an address
 pub block_test : {d : DeviceState} {v : LogMemory} {k : CheckpointValue} {m0 : LogMap} (m : LogMap) (is : IsLoose d v k m0 m) (n i : ℕ)
     {a : ℕ}
     → is.running.memory.at (Data n i) ≡ a → is_stored m n i ≡ not (a == 0)
 block_test m is n i {a} at = same_tests (is_stored m n i) (not (a == 0))
-    (λ on. let has = (is.running.laid.blocks n i).0 (ltb-true 0 (length (m.block n i)) on) in test_some a (omega (arith, has, at)))
-    (λ on. let some = some_test a on in lt-ltb 0 (length (m.block n i)) ((is.running.laid.blocks n i).1 (omega (arith, some, at))))
+    (λ on. test_some a (omega (arith, (is.running.laid.blocks n i).0 (ltb-true 0 (length (m.block n i)) on))))
+    (λ on. lt-ltb 0 (length (m.block n i)) ((is.running.laid.blocks n i).1 (omega (arith, some_test a on))))
 
 pub kept_count : {a b : DeviceState} (v : LogMemory) (kept : Option PointerRun) (n from end count : ℕ) → Looks a b → KeepsRun b v kept
     → IsKeptFor kept n from → from < end → IfSome kept (CountsRun from end count)
@@ -225,11 +216,9 @@ pub kept_count : {a b : DeviceState} (v : LogMemory) (kept : Option PointerRun) 
 unfolding stored_in
 kept_count v None n from end count looks run inside order counted = absurd inside
 kept_count {a} {b} v (Some r) n from end count looks run inside order counted = λ k m0 m keeps is.
-    let low = inside.low in
-    let most = counted.inside in
     passing_same (is_stored m n) (λ i. not (pointer_in r i == 0)) from (end - from)
     (λ i le lt. block_test m is n i
-    (in_run a b v r looks run n i (record { own = inside.own; low = omega (arith, low, le); high = omega (arith, most, lt, order) }) k m0 m
+    (in_run a b v r looks run n i (record { own = inside.own; low = omega arith; high = omega arith }) k m0 m
     keeps is))
     ∙ counted.value
 
@@ -241,7 +230,7 @@ no_way_count a b v n from end none k m0 m keeps is =
   where
     later : (i : ℕ) → from ≤ i → HasNoWay v n from → HasNoWay v n i
     later i le none =
-        ⊎_elim (λ (past : 16624 ≤ from). inl (omega (arith, past, le))) (λ (gone : (n ≡ 0) ⊎ (address_in v.map n ≡ 0)). inr gone) none
+        elim none [ inl past ↦ inl (omega arith) | inr gone ↦ inr gone ]
 
 -- one part after the other
 pub record CountedTo (a b : DeviceState) (v : LogMemory) (n from at count : ℕ) : Type 0 where
@@ -265,26 +254,23 @@ pub counted_more : (a b c : DeviceState) {v : LogMemory} {n from at end count : 
 unfolding stored_in
 counted_more a b c {v} {n} {from} {at} {end} {count} more lawful was looks no_failure order few answer = record {
   looks = looks_then lawful was.looks looks;
-  no_failure = no_failure ∙ was.no_failure;
-  few = let before = was.few in omega (arith, before, few, order);
+  no_failure = cc;
+  few = omega arith;
   answer = λ k m0 m keeps is.
-      let low = was.few in
       let P : ℕ → Bool = is_stored m n in
       let before : passing P from (at - from) ≡ count = was.answer k m0 m (looks.carries.kept_before keeps) is in
       let part : passing P at (end - at) ≡ more = answer k m0 m keeps (still_log was.looks is) in
       let both : passing P from (end - from) ≡ passing P from (at - from) + passing P at (end - at) =
-      passing_split P from (at - from) (end - at) at (end - from) (omega (arith, low)) (omega (arith, low, order)) in
+      passing_split P from (at - from) (end - at) at (end - from) (omega arith) (omega arith) in
       both ∙ ap₂ (λ (x y : ℕ). x + y) before part;
 }
 
 pub counted_fault : {a b : DeviceState} (c : DeviceState) {v : LogMemory} {n from at count : ℕ} → CountedTo a b v n from at count
     → FailsFromDevice b c v
     → FailsFromDevice a c v
-counted_fault {a} {b} c {v} was failed k m0 m keeps is =
-    let rose = failed k m0 m keeps (still_log was.looks is) in
-    let before = was.no_failure in
-    omega (arith, rose, before)
+counted_fault c was failed k m0 m keeps is =
+    omega (arith, failed k m0 m keeps (still_log was.looks is))
 
 pub counted_all : {a b : DeviceState} {v : LogMemory} {n from at to count : ℕ} → at ≡ to → CountedTo a b v n from at count
     → AnswersCount a b v n from to count
-counted_all {a} {b} {v} {n} {from} {count} same was = subst (λ (e : ℕ). AnswersCount a b v n from e count) same was.answer
+counted_all same was = rw same at was.answer

@@ -1,5 +1,5 @@
 -- Where a pass of the cleaner may begin there are victims: the segments hold no more blocks than the tree's need says.
-use Rattle.std.proofs.Common.{◌≡◌, ◌<◌, ◌≤◌, ◌+◌, ◌*◌, ℕ, List, [], length, refl, Some, None, sym, ◌∙◌, ap, arith}
+use Rattle.std.proofs.Common.{◌≡◌, ◌<◌, ◌≤◌, ◌+◌, ◌*◌, ℕ, [], length, refl, None, sym, ◌∙◌, ap, arith}
 use Rattle.std.proofs.lemmas.List.{get_or_past}
 use Rattle.lfs_model.specs.Checkpoint.{CheckpointValue}
 use Rattle.lfs_model.specs.Device.{DeviceState}
@@ -40,23 +40,23 @@ pressed d v k m memory maps may = record {
   blocks =
       let w = may.log.running in
       let counted = stored_counted d.content m w.memory _ w.laid may.map none_inside (λ j high. w.tables.at (Map j) refl ∙ past j high) in
-      let same = sum_same (load_of v.usage) (λ s. live_of m w.memory s + held_of m w.memory s) (length v.usage.segments)
-      (λ s. let l = w.tables.live s in let h = w.tables.held s in omega (arith, l, h)) in
       let size : w.memory.segments ≡ length v.usage.segments = w.segments ∙ sym may.log.segments in
       let all = ap (sum_below (λ s. live_of m w.memory s + held_of m w.memory s)) size in
-      let need = may.need in
-      let is = may.meta_is in
       let loads = loads_below v.usage in
-      omega (arith, counted, same, all, need, is, loads);
+      omega (
+        arith,
+        sum_same (load_of v.usage) (λ s. live_of m w.memory s + held_of m w.memory s) (length v.usage.segments)
+            (λ s. let h = w.tables.held s in omega (arith, w.tables.live s)),
+      );
 }
   where
     none_of : (t : TableValue) → t.blocks ≡ [] → (x : Entry) → blocks_of t x ≡ None
-    none_of t none x = ap (λ (l : List (ℕ × List ℕ)). blocks_of (record t { blocks = l }) x) none
+    none_of t none x = rw none
 
     none_inside : (x : Entry) → IsOfFile x → may.log.running.memory.at x ≡ 1 → ⊥
     none_inside x file one = let f = may.log.running.cached.found x file one in
-        let bad : None ≡ Some f.0 = sym (none_of v.dirty may.nothing x) ∙ f.1 in absurd (cc)
+        cc
 
     -- the inode map has 32 blocks
     past : (j : ℕ) → 32 ≤ j → block_in v.map j ≡ 0
-    past j high = get_or_past v.map.blocks j 0 (let e = maps.blocks in omega (arith, e, high))
+    past j high = get_or_past v.map.blocks j 0 (omega arith)

@@ -21,13 +21,13 @@ passing_first p a n = one_more (p a) a (filter p (range_with_len (a + 1) n))
 -- a range in two parts
 pub passing_split : (p : ℕ → Bool) (a x y b n : ℕ) → a + x ≡ b → x + y ≡ n → passing p a n ≡ passing p a x + passing p b y
 passing_split p a zero y b n at all =
-    let from : a ≡ b = omega (arith, at) in
-    let many : n ≡ y = omega (arith, all) in
+    let from : a ≡ b = omega arith in
+    let many : n ≡ y = omega arith in
     let same = ap₂ (λ (s l : ℕ). passing p s l) from many in
-    omega (arith, same, passing_none p a)
-passing_split p a (suc x) y b zero at all = absurd (omega (arith, all))
+    omega arith
+passing_split p a (suc x) y b zero at all = omega arith
 passing_split p a (suc x) y b (suc n) at all =
-    let rest = passing_split p (a + 1) x y b n (omega (arith, at)) (omega (arith, all)) in
+    let rest = passing_split p (a + 1) x y b n (omega arith) (omega arith) in
     omega (arith, rest, passing_first p a n, passing_first p a x)
 
 pub passing_more : (p : ℕ → Bool) (a n i : ℕ) → a + n ≡ i → passing p a (n + 1) ≡ passing p a n + one_if (p i)
@@ -36,11 +36,11 @@ passing_more p a n i at =
     omega (arith, split, passing_first p i 0, passing_none p (i + 1))
 
 pub passing_same : (p q : ℕ → Bool) (a n : ℕ) → ((x : ℕ) → a ≤ x → x < a + n → p x ≡ q x) → passing p a n ≡ passing q a n
-passing_same p q a n same = ap (λ (xs : List ℕ). length xs) (filter_same p q a n same)
+passing_same p q a n same = rw (filter_same p q a n same)
 
 pub passing_nothing : (p : ℕ → Bool) (a n : ℕ) → ((x : ℕ) → a ≤ x → x < a + n → p x ≡ false) → passing p a n ≡ 0
 passing_nothing p a zero none = passing_none p a
 passing_nothing p a (suc n) none =
-    let rest = passing_nothing p (a + 1) n (λ x le lt. none x (omega (arith, le)) (omega (arith, lt))) in
+    let rest = passing_nothing p (a + 1) n (λ x le lt. none x (omega arith) (omega arith)) in
     let off : one_if (p a) ≡ 0 = ap one_if (none a (omega arith) (omega arith)) in
     omega (arith, rest, off, passing_first p a n)

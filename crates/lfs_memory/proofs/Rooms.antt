@@ -1,5 +1,5 @@
 -- How many blocks still find a place.
-use Rattle.std.proofs.Common.{rules, ◌≡◌, ◌≢◌, ◌<◌, ◌≤◌, ⊎_elim, ◌+◌, ◌-◌, ◌==◌, cond, ℕ, zero, suc, Bool, false, List, [], ◌∷◌, length}
+use Rattle.std.proofs.Common.{rules, ◌≡◌, ◌≢◌, ◌<◌, ◌≤◌, ◌+◌, ◌-◌, ◌==◌, cond, ℕ, zero, suc, Bool, false, List, [], ◌∷◌, length}
 use Rattle.std.proofs.Common.{refl, ◌∙◌, ap, arith, eqb-true, ◌⊎◌, inl, inr}
 use Rattle.std.proofs.lemmas.List.{length-append}
 use Rattle.std.specs.Prelude.{get_or, Option, Some, None, IfNone, IsSome}
@@ -10,17 +10,16 @@ use Rattle.lfs_model.specs.Summary.{BlockNameValue}
 use Rattle.lfs_segments.specs.Table.{SegmentNumbers, UsageTable, no_segment, clean_in, is_clean_in}
 use Rattle.lfs_memory.specs.declared.memory.LogMemory.{LogMemory}
 use Rattle.lfs_segments.specs.Chunk.{Chunk, room_in}
-use Rattle.lfs_segments.specs.Steps.{TakesSegment, GoesOn}
 use Rattle.lfs_memory.specs.Memory.{IsMemory, Places, room_of}
 
 pub room_none : (c : Chunk) → length c.names ≡ 0 → room_in c ≡ 0
-room_none c is = ap (λ (n : ℕ). cond {A = ℕ} (n == 0) 0 (63 - (c.start + n))) is
+room_none c is = rw is
 
 pub not_zero : (n : ℕ) → 0 < n → (n == 0) ≡ false
-not_zero n some = false_from_ne_true (n == 0) (λ h. let z = eqb-true n 0 h in omega (arith, z, some))
+not_zero n some = false_from_ne_true (n == 0) (λ h. omega (arith, eqb-true n 0 h))
 
 pub room_some : (c : Chunk) → 0 < length c.names → room_in c ≡ 63 - (c.start + length c.names)
-room_some c some = ap (λ (b : Bool). cond {A = ℕ} b 0 (63 - (c.start + length c.names))) (not_zero (length c.names) some)
+room_some c some = rw (not_zero (length c.names) some)
 
 none_up : (p : ℕ → Bool) (n : ℕ) → ((i : ℕ) → i < n → p i ≡ false) → count_up p n ≡ 0
 none_up p zero none = count_up_none p
@@ -37,33 +36,26 @@ no_clean segments none = none_up (is_clean_in segments) (length segments)
 
 -- a chunk has room, or a segment is clean
 pub has_clean : (v : LogMemory) → 0 < room_of v → length v.chunk.names ≡ 0 → 0 < clean_in v.usage.segments
-has_clean v some none = let r = room_none v.chunk none in omega (arith, some, r)
+has_clean v some none = omega (arith, room_none v.chunk none)
 
 pub takes_place : {v v' : LogMemory} {name : BlockNameValue} {lives : Bool} {age place : ℕ} → IsMemory v → Places v v' name lives age place
     → room_of v ≤ suc (room_of v')
-takes_place {v} {v'} {name} {age} memory places =
+takes_place {v} {v'} {name} memory places =
     let long : length v'.chunk.names ≡ suc (length v.chunk.names) = ap length places.names ∙ length-append v.chunk.names (name ∷ [])
     ∙ omega arith in
-    let after = room_some v'.chunk (omega (arith, long)) in
-    let same = places.noted.clean in
-    ⊎_elim
-    (λ (none : length v.chunk.names ≡ 0).
-    let before = room_none v.chunk none in
-    let noted = places.noted.used.own in
-    let used = places.opened.used in
-    ⊎_elim
-    (λ (t : TakesSegment v.usage places.middle v'.chunk.segment age). let c = t.count in let one = t.used.own in
-    omega (arith, after, same, c, before, none, long, noted, used, one))
-    (λ (g : GoesOn v.usage places.middle v'.chunk.segment age). let c = g.clean in omega (arith, after, same, c, before))
-    (places.begun none))
-    (λ (some : 0 < length v.chunk.names).
-    let w = places.went_on some in
-    let c = ap (λ (u : UsageTable). clean_in u.segments) w.0 in
-    let before = room_some v.chunk some in
-    let short = memory.short some in
-    let start = w.2 in
-    omega (arith, after, same, c, before, some, short, long, start))
-    (zero_or_more (length v.chunk.names))
+    let after = room_some v'.chunk (omega arith) in
+    elim (zero_or_more (length v.chunk.names)) [
+      | inl none ↦
+          let before = room_none v.chunk none in
+          elim (places.begun none) [
+            | inl t ↦ omega arith
+            | inr g ↦ omega arith
+          ]
+      | inr some ↦
+          let w = places.went_on some in
+          let short = memory.short some in
+          omega (arith, room_some v.chunk some, ap (λ (u : UsageTable). clean_in u.segments) w.0)
+    ]
   where
     zero_or_more : (n : ℕ) → (n ≡ 0) ⊎ (0 < n)
     zero_or_more zero = inl refl
@@ -71,5 +63,5 @@ takes_place {v} {v'} {name} {age} memory places =
 
 pub some_taken : (found : Option ℕ) (segments : List SegmentNumbers)
     → IfNone found ((s : ℕ) → s < length segments → (get_or segments s no_segment).used ≢ 0) → 0 < clean_in segments → IsSome found
-some_taken None segments none some = absurd (let z = no_clean segments none in omega (arith, z, some))
+some_taken None segments none some = absurd (omega (arith, no_clean segments none))
 some_taken (Some s) segments none some = search rules

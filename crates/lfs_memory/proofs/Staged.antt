@@ -1,6 +1,6 @@
 -- A batch of changes, from what its parts do.
 use Rattle.std.specs.Prelude.{Result, Ok, Err, OnErr, IsErrOf}
-use Rattle.std.proofs.Common.{◌≡◌, ◌<◌, ◌≤◌, ⊎_elim, ◌+◌, ℕ, true, false, List, [], ◌∷◌, length, refl, sym, ◌∙◌, ap, arith, inl, inr}
+use Rattle.std.proofs.Common.{◌≡◌, ◌<◌, ◌≤◌, ◌+◌, ℕ, true, false, List, [], ◌∷◌, length, refl, sym, ◌∙◌, ap, arith, inl, inr}
 use Rattle.lfs_model.specs.Checkpoint.{CheckpointValue}
 use Rattle.lfs_model.specs.Device.{DeviceState, IsLawful}
 use Rattle.lfs_model.specs.Entry.{Data, Inode}
@@ -8,8 +8,7 @@ use Rattle.lfs_model.specs.Memory.{parent}
 use Rattle.lfs_model.specs.Stands.{LogMap}
 use Rattle.lfs_model.proofs.Detaching.{is_of_yes}
 use Rattle.lfs_model.proofs.Raising.{raised_runs}
-use Rattle.lfs_inodes.specs.Blocks.{Capacity, blocks_of}
-use Rattle.lfs_inodes.specs.MapValue.{address_in}
+use Rattle.lfs_inodes.specs.Blocks.{Capacity}
 use Rattle.lfs_memory.specs.declared.batch.BlockEdit.{BlockEdit}
 use Rattle.lfs_memory.specs.declared.batch.HeaderEdit.{HeaderEdit}
 use Rattle.lfs_memory.specs.declared.batch.Cut.{Cut}
@@ -20,10 +19,10 @@ use Rattle.lfs_memory.specs.declared.batch.Removal.{Removal}
 use Rattle.lfs_memory.specs.declared.lifting.LiftFault.{LiftFault}
 use Rattle.lfs_memory.specs.declared.lifting.LiftFault.TheVariants as fault
 use Rattle.lfs_memory.specs.declared.memory.LogMemory.{LogMemory}
-use Rattle.lfs_memory.specs.Memory.{IsMemory, IsLoose, chunk_in, segment_in, tables_of}
+use Rattle.lfs_memory.specs.Memory.{IsMemory, IsLoose}
 use Rattle.lfs_memory.specs.Present.{Looks, FailsFromDevice}
-use Rattle.lfs_memory.specs.Lifting.{IsInMemory, Prepares}
-use Rattle.lfs_memory.specs.Changing.{HasAbove, Stays}
+use Rattle.lfs_memory.specs.Lifting.{Prepares}
+use Rattle.lfs_memory.specs.Changing.{Stays}
 use Rattle.lfs_memory.specs.Cutting.{Cuts}
 use Rattle.lfs_memory.specs.Hiding.{Hides, IsLinkExcused}
 use Rattle.lfs_memory.specs.Removing.{RemovesFile}
@@ -36,21 +35,6 @@ use Rattle.lfs_memory.proofs.Lifted.{prepares_then}
 use Rattle.lfs_memory.proofs.Presents.{looks_none, looks_then}
 
 -- ---- what a file loses
-pub nothing_lost : (d : DeviceState) (v : LogMemory) → IsMemory v → Loses d d v v loss.Nothing
-nothing_lost d v memory = record {
-  looks = looks_none d;
-  memory = memory;
-  segments = refl;
-  clean = refl;
-  chunk = refl;
-  capacity = refl;
-  few = omega arith;
-  stay = λ x kept has. has;
-  mapped = λ j is. is;
-  absent = λ l none. none;
-  log = λ k m0 m keeps is fits. is;
-}
-
 -- the version of the layout is raised, and memory is as it was
 pub version_lost : (d : DeviceState) (v : LogMemory) → IsMemory v → Loses d d v v loss.FirstVersion
 version_lost d v memory = record {
@@ -65,7 +49,7 @@ version_lost d v memory = record {
   mapped = λ j is. is;
   absent = λ l none. none;
   log = λ k m0 m keeps is fits. record {
-    running = raised_runs d (blocks_of v.dirty) (tables_of v) k m0 m (segment_in v.chunk) (chunk_in v.chunk) true is.running;
+    running = raised_runs d _ _ k m0 m _ _ true is.running;
     hidden = is.hidden;
     segments = is.segments;
   };
@@ -88,7 +72,7 @@ blocks_lost d c go = record {
 }
 
 in_range : (n : ℕ) → n ≤ 4095 → n < 4096
-in_range n few = omega (arith, few)
+in_range n few = omega arith
 
 pub link_lost : (d : DeviceState) {d' : DeviceState} {v v' : LogMemory} (l : LastLink) → Hides d d' v v' l.number l.kind l.form l.size
     → Loses d d' v v' (loss.Link l)
@@ -99,7 +83,7 @@ link_lost d l go = record {
   clean = go.clean;
   chunk = go.chunk;
   capacity = go.capacity;
-  few = let few = go.few in omega (arith, few);
+  few = omega arith;
   stay = λ x kept has. go.stay x has;
   mapped = go.mapped;
   absent = go.absent;
@@ -115,8 +99,8 @@ file_lost d r go = record {
   clean = go.clean;
   chunk = go.chunk;
   capacity = go.capacity;
-  few = let few = go.few in omega (arith, few);
-  stay = λ x kept has. go.stay x (λ own. let on = is_of_yes r.number x own in let bad : true ≡ false = sym on ∙ kept in absurd (cc)) has;
+  few = omega arith;
+  stay = λ x kept has. go.stay x (λ own. let on = is_of_yes r.number x own in cc) has;
   mapped = go.mapped;
   absent = go.absent;
   log = λ k m0 m keeps is fits. go.log k m0 m keeps is;
@@ -133,8 +117,10 @@ loss_excused d d' v x failed k m0 m keeps is fits = failed k m0 m keeps is
 module _ (d d' : DeviceState) (v v' : LogMemory) (x : Loss) (go : Loses d d' v v' x) where
   header_ready : {n links : ℕ} → is_lost x (Inode n) ≡ false → IsHeaderReady v n links → IsHeaderReady v' n links
   header_ready {n} apart was = record {
-    inside = ⊎_elim (λ (has : IsInMemory v (Inode n)). inl (go.stay (Inode n) apart has))
-        (λ (none : address_in v.map n ≡ 0). inr (go.absent n none)) was.inside;
+    inside = elim was.inside [
+      | inl has ↦ inl (go.stay (Inode n) apart has)
+      | inr none ↦ inr (go.absent n none)
+    ];
     mapped = λ some. go.mapped _ (was.mapped some);
   }
 
@@ -143,10 +129,10 @@ module _ (d d' : DeviceState) (v v' : LogMemory) (x : Loss) (go : Loses d d' v v
   headers_ready (e ∷ edits) apart was = (header_ready apart.0 was.0, headers_ready edits apart.1 was.1)
 
   block_ready : (n i : ℕ) → is_lost x (parent (Data n i)) ≡ false → HasParent v n i → HasParent v' n i
-  block_ready n i apart was = ⊎_elim
-      (λ (has : HasAbove (blocks_of v.dirty) (Data n i)). inl (go.stay (parent (Data n i)) apart has))
-      (λ (made : (address_in v.map n ≡ 0) × (i < 112)). inr (go.absent n made.0, made.1))
-      was
+  block_ready n i apart was = elim was [
+    | inl has ↦ inl (go.stay (parent (Data n i)) apart has)
+    | inr made ↦ inr (go.absent n made.0, made.1)
+  ]
 
   pub blocks_ready : (edits : List BlockEdit) → AreBlocksApart x edits → AreBlocksReady v edits → AreBlocksReady v' edits
   blocks_ready [] apart was = was
@@ -163,7 +149,7 @@ refuses_prepared x hs bs le go = record {
     clean = go.clean;
     chunk = go.chunk;
     capacity = go.capacity;
-    few = let few = go.few in omega (arith, few, le);
+    few = omega arith;
   };
   log = λ k m0 m keeps is fits. go.log k m0 m keeps is;
 }
@@ -184,7 +170,7 @@ module _ {a b : DeviceState} {v v1 : LogMemory} (x : Loss) (hs : List HeaderEdit
       → (IsErrOf r fault.Full → LacksRoom v (length hs + ways bs))
       → (IsErrOf r fault.Device → AreExcusedWithin a b v bs) → OnErr r (IsBatchExcused a b v x hs bs)
   prepared_excused r room full failed =
-      device_only r (IsBatchExcused a b v x hs bs) (λ is. let lacks = full is in omega (arith, lacks, room))
+      device_only r (IsBatchExcused a b v x hs bs) (λ is. omega arith)
       (λ is. λ k m0 m keeps log fits. failed is k m0 m keeps log fits.within)
 
   -- ---- what a file loses is lost
@@ -195,18 +181,15 @@ module _ {a b : DeviceState} {v v1 : LogMemory} (x : Loss) (hs : List HeaderEdit
 
     loss_excused_then : Looks b e → IsLossExcused b e v1 x → IsBatchExcused a e v x hs bs
     loss_excused_then looks failed k m0 m keeps is fits =
-        let rose = failed k m0 m keeps (first.log k m0 m (looks.carries.kept_before keeps) is) fits.fits_loss in
-        let before = first.looks.carries.failures in
-        omega (arith, rose, before)
+        omega (arith, failed k m0 m keeps (first.log k m0 m (looks.carries.kept_before keeps) is) fits.fits_loss)
 
     pub loss_excuses : (r : Result (Unit {0}) LiftFault) → length v.dirty.blocks + room_for_edits hs bs ≤ v.dirty.capacity.limit
         → Prepares b e v1 v2 3 → (IsErrOf r fault.Full → v2.dirty.capacity.limit ≤ length v2.dirty.blocks)
         → (IsErrOf r fault.Device → IsLossExcused b e v1 x) → OnErr r (IsBatchExcused a e v x hs bs)
     loss_excuses r room second full failed =
         device_only r (IsBatchExcused a e v x hs bs)
-        (λ is. let lacks = full is in let few = second.few in let before = first.few in
-        let same = ap (λ (c : Capacity). c.limit) second.capacity in let was = ap (λ (c : Capacity). c.limit) first.capacity in
-        omega (arith, lacks, few, before, same, was, room))
+        (λ is. let was = ap (λ (c : Capacity). c.limit) first.capacity in
+        omega (arith, ap (λ (c : Capacity). c.limit) second.capacity, full is))
         (λ is. loss_excused_then second.looks (failed is))
 
     module _ (go : Loses b e v1 v2 x) (ready_headers : AreHeadersReady v1 hs) (ready_blocks : AreBlocksReady v1 bs) where
@@ -225,11 +208,11 @@ module _ {a b : DeviceState} {v v1 : LogMemory} (x : Loss) (hs : List HeaderEdit
         stands = record {
           looks = looks_then lawful first.looks go.looks;
           memory = stays.memory go.memory;
-          segments = stays.segments ∙ go.segments ∙ first.segments;
-          clean = stays.clean ∙ go.clean ∙ first.clean;
-          chunk = stays.chunk ∙ go.chunk ∙ first.chunk;
-          capacity = stays.capacity ∙ go.capacity ∙ first.capacity;
-          few = let x = first.few in let y = go.few in let z = stays.blocks in omega (arith, x, y, z);
+          segments = cc;
+          clean = cc;
+          chunk = cc;
+          capacity = cc;
+          few = omega arith;
         }
 
         pub stages : Applies v2 hs bs v3 → TakesBatch a e v v3 x hs bs

@@ -40,18 +40,18 @@ module _ {d : DeviceState} {v : LogMemory} {k : CheckpointValue} {m0 m : LogMap}
             let less = counts_less gone (is_shown m) is.running.memory (of_shown (nameless_is ∙ ap not yes_lives)) (over.0) in
             let all = is.running.tables.live (over.0) in
             let here = counted (over.0) in
-            let past = over.1 in
             let what : counted_in v.usage lives (over.0) ≡ live_of v.usage (over.0) =
             ap (λ (b : Bool). counted_in v.usage b (over.0)) yes_lives in
-            omega (arith, less, all, here, past, what)
+            omega arith
         by_lives false not_lives =
-            let less = counts_less gone (is_held m) is.running.memory (of_held (nameless_is ∙ ap not not_lives)) (over.0) in
-            let all = is.running.tables.held (over.0) in
             let here = counted (over.0) in
-            let past = over.1 in
             let what : counted_in v.usage lives (over.0) ≡ held_of v.usage (over.0) =
             ap (λ (b : Bool). counted_in v.usage b (over.0)) not_lives in
-            omega (arith, less, all, here, past, what)
+            omega (
+              arith,
+              is.running.tables.held (over.0),
+              counts_less gone (is_held m) is.running.memory (of_held (nameless_is ∙ ap not not_lives)) (over.0),
+            )
 
   -- ---- the counts after they are taken
   module _ {usage : UsageTable} (counts : List ℕ) (go : TakesCounts v.usage usage lives (counts_in counts)) where
@@ -61,7 +61,7 @@ module _ {d : DeviceState} {v : LogMemory} {k : CheckpointValue} {m0 m : LogMap}
         let h = go.held s in
         let a = ap (λ (b : Bool). cond {A = ℕ} b (get_or counts s 0) 0) on in
         let b = ap (λ (b : Bool). cond {A = ℕ} (not b) (get_or counts s 0) 0) on in
-        (omega (arith, l, a), omega (arith, h, b))
+        (omega arith, omega arith)
 
     when_hidden : (s : ℕ) → lives ≡ false
         → (live_of usage s ≡ live_of v.usage s) × (held_of usage s + get_or counts s 0 ≡ held_of v.usage s)
@@ -70,7 +70,7 @@ module _ {d : DeviceState} {v : LogMemory} {k : CheckpointValue} {m0 m : LogMap}
         let h = go.held s in
         let a = ap (λ (b : Bool). cond {A = ℕ} b (get_or counts s 0) 0) off in
         let b = ap (λ (b : Bool). cond {A = ℕ} (not b) (get_or counts s 0) 0) off in
-        (omega (arith, l, a), omega (arith, h, b))
+        (omega arith, omega arith)
 
     is_true : (b : Bool) → not b ≡ false → b ≡ true
     is_true true h = refl

@@ -1,12 +1,12 @@
 -- A file loses its last link: what the tables and the blocks in memory hold then is the log map in which it has none.
-use Rattle.std.proofs.Common.{◌≡◌, ◌<◌, ⊎_elim, not, ℕ, Bool, true, false, List, get_or, Some, None, refl, sym, ◌∙◌, ap, subst, arith}
+use Rattle.std.proofs.Common.{◌≡◌, ◌<◌, not, ℕ, Bool, true, false, List, get_or, Some, None, refl, sym, ◌∙◌, ap, arith}
+use Rattle.std.proofs.Common.{inl, inr}
 use Rattle.lfs_model.specs.declared.Kind.{Kind}
-use Rattle.lfs_model.specs.Changing.{IsWithHeader}
 use Rattle.lfs_model.specs.Checkpoint.{CheckpointValue}
 use Rattle.lfs_model.specs.Detaching.{is_of, IsHeldFrom}
 use Rattle.lfs_model.proofs.Detaching.{is_of_true}
 use Rattle.lfs_model.specs.Device.{DeviceState, IsLawful}
-use Rattle.lfs_model.specs.Entry.{Entry, Data, Leaf, Double, Inode, Map, Usage, Header, header}
+use Rattle.lfs_model.specs.Entry.{Entry, Data, Leaf, Double, Inode, Map, Usage, header}
 use Rattle.lfs_model.specs.Memory.{parent, count_of}
 use Rattle.lfs_model.specs.Stands.{LogMap}
 use Rattle.lfs_model.proofs.Entries.{same_entry}
@@ -14,7 +14,7 @@ use Rattle.lfs_model.proofs.Losing.{link_losing}
 use Rattle.lfs_inodes.specs.Blocks.{blocks_of}
 use Rattle.lfs_inodes.specs.MapValue.{is_hidden_in}
 use Rattle.lfs_memory.specs.declared.memory.LogMemory.{LogMemory}
-use Rattle.lfs_memory.specs.Memory.{IsLoose, tables_of, segment_in, chunk_in}
+use Rattle.lfs_memory.specs.Memory.{IsLoose, tables_of, segment_in}
 use Rattle.lfs_memory.specs.Present.{Looks, FailsFromDevice}
 use Rattle.lfs_memory.specs.Lifting.{IsInMemory, Prepares, IsAbsent}
 use Rattle.lfs_memory.specs.Changing.{FitsHeader, headed, header_with, with_header}
@@ -39,21 +39,12 @@ module _ (d : DeviceState) (v v' : LogMemory) (k : CheckpointValue) (m0 m : LogM
   same_tops (Data l i) top = refl
   same_tops (Leaf l q) top = refl
   same_tops (Double l) top = refl
-  same_tops (Inode l) top = ap (λ (a : List ℕ). get_or a l 0) go.addresses
-  same_tops (Map j) top = ap (λ (a : List ℕ). get_or a j 0) go.blocks
+  same_tops (Inode l) top = rw go.addresses
+  same_tops (Map j) top = rw go.blocks
   same_tops (Usage j) top = go.usage.address j
 
   held_from : IsHeldFrom (tables_of v) (tables_of v') (counts_in counts)
-  held_from = record {
-    at = same_tops;
-    used = go.usage.used;
-    live = go.usage.live;
-    held = go.usage.held;
-    age = go.usage.age;
-    kept = go.usage.kept;
-    changed = go.usage.changed;
-    stale = go.usage.stale;
-  }
+  held_from = assumption same_tops
 
   pub links_lost : IsLoose d v' k m0 (with_header m n (Some (header_with kind form 0 size)))
   links_lost =
@@ -63,22 +54,21 @@ module _ (d : DeviceState) (v v' : LogMemory) (k : CheckpointValue) (m0 m : LogM
       let says : header (headed kind form n 0 size go.old) ≡ h = header_headed n holds fits in
       record {
         running = as_memory v v' go.chunk refl
-            (link_losing d (blocks_of v.dirty) (blocks_of v'.dirty) (tables_of v) (tables_of v') k m0 m m' (segment_in v.chunk)
-            (chunk_in v.chunk) n go.old (headed kind form n 0 size go.old) (counts_in counts)
+            (link_losing d _ _ _ _ k m0 m m' (segment_in v.chunk) _ n go.old (headed kind form n 0 size go.old) (counts_in counts)
             is.running go.there (holds_headed n holds fits)
-            (λ w high low. headed_words kind form n 0 size go.old w (omega (arith, high)))
-            (subst (λ (g : Header). IsWithHeader m n (Some g) m') (sym says) (is_with_header m n {h = Some h}))
+            (λ w high low. headed_words kind form n 0 size go.old w (omega arith))
+            (rw says (is_with_header m n {h = Some h}))
             (is.hidden n low ∙ shown) (nameless_with m n h) counted go.changes held_from);
         hidden = hidden_with v.map v'.map m n h is.hidden (sym go.hidden.own) go.hidden.others;
         segments = go.usage.size ∙ is.segments;
       }
 
 -- ---- the whole call: the inode comes into memory, its blocks are counted, and then what the tables and the inode say changes
-module _ (a b c : DeviceState) {v mid : LogMemory} (n : ℕ) (counts : List ℕ) (lawful : IsLawful a) (first : Prepares a b v mid 1)
+module _ {a b c : DeviceState} {v mid : LogMemory} (n : ℕ) (counts : List ℕ) (lawful : IsLawful a) (first : Prepares a b v mid 1)
     (looks : Looks b c) (low : n < 4096) (shown : is_hidden_in v.map n ≡ false)
     (counted : CountsFile b c mid n counts) where
   shown_then : is_hidden_in mid.map n ≡ false
-  shown_then = ap (λ (l : List Bool). get_or l n false) first.hidden ∙ shown
+  shown_then = rw first.hidden shown
 
   pub blocks_covered : AreUncovered mid.usage true counts → FailsFromDevice a c v
   blocks_covered over k m0 m keeps is =
@@ -91,25 +81,25 @@ module _ (a b c : DeviceState) {v mid : LogMemory} (n : ℕ) (counts : List ℕ)
     looks = looks_then lawful first.looks looks;
     memory = kept_memory mid v' first.memory go.usage.size go.chunk go.usage.used go.usage.kept go.usage.last go.usage.address
         (never_fresh mid.usage v'.usage go.usage.stale) go.capacity;
-    segments = go.usage.size ∙ first.segments;
-    clean = go.usage.clean ∙ first.clean;
-    chunk = go.chunk ∙ first.chunk;
-    capacity = go.capacity ∙ first.capacity;
-    few = let x = first.few in let y = go.few in omega (arith, x, y);
+    segments = cc;
+    clean = cc;
+    chunk = cc;
+    capacity = cc;
+    few = omega arith;
     stay = λ x was. stays x (first.stay x was);
     hidden = record { own = go.hidden.own; others = λ l ne. go.hidden.others l ne ∙ ap (λ (a : List Bool). get_or a l false) first.hidden };
-    mapped = λ j one. ap (λ (a : List ℕ). get_or a j 0) go.blocks ∙ first.mapped j one;
-    absent = λ l none. ap (λ (a : List ℕ). get_or a l 0) go.addresses ∙ first.absent l none;
+    mapped = λ j one. rw go.blocks (first.mapped j one);
+    absent = λ l none. rw go.addresses (first.absent l none);
     log = λ k m0 m keeps is fits _.
         let log = first.log k m0 m (looks.carries.kept_before keeps) is in
         still_log looks (links_lost b mid v' k m0 m log n low kind form size fits counts shown_then (counted k m0 m keeps log) go);
   }
     where
       stays : (x : Entry) → IsInMemory mid x → IsInMemory v' x
-      stays x there = ⊎_elim
-          (λ (here : x ≡ Inode n). (headed kind form n 0 size go.old, ap (blocks_of v'.dirty) here ∙ go.changes.own))
-          (λ (ne : x ≡ Inode n → ⊥). (there.0, go.changes.others x ne ∙ there.1))
-          (same_entry x (Inode n))
+      stays x there = elim (same_entry x (Inode n)) [
+        | inl here ↦ (headed kind form n 0 size go.old, ap (blocks_of v'.dirty) here ∙ go.changes.own)
+        | inr ne ↦ (there.0, go.changes.others x ne ∙ there.1)
+      ]
 
 -- ---- faults
 pub link_excused : (d d' : DeviceState) (v : LogMemory) (n : ℕ) → FailsFromDevice d d' v → IsLinkExcused d d' v n
@@ -117,4 +107,4 @@ link_excused d d' v n excused k m0 m keeps is shown has = excused k m0 m keeps i
 
 -- a file that isn't there
 pub absent_excused : (d d' : DeviceState) (v : LogMemory) (n : ℕ) → IsAbsent d d' v n → IsLinkExcused d d' v n
-absent_excused d d' v n absent k m0 m keeps is shown has = let bad : None ≡ Some has.0 = sym (absent k m0 m keeps is) ∙ has.1 in absurd (cc)
+absent_excused d d' v n absent k m0 m keeps is shown has = let bad : None ≡ Some has.0 = sym (absent k m0 m keeps is) ∙ has.1 in cc

@@ -1,4 +1,4 @@
-use Rattle.std.proofs.Common.{◌≤◌, ◌+◌, length, refl, subst, sym, ℕ}
+use Rattle.std.proofs.Common.{length, refl}
 use Rattle.std.specs.Prelude.{is_some}
 use Rattle.std.specs.Ordering.{nat_cmp}
 use Rattle.std.specs.FinMap.{find}
@@ -10,8 +10,7 @@ use Rattle.lfs_memory.proofs.Looses.{stays_put}
 pub returns : goal.returns
 unfolding zeros
 returns c = record {
-  stays = stays_put 1 _ refl refl c.fetch.ensures.capacity
-      (subst (λ (n : ℕ). n ≤ length c.args.memory.now.dirty.blocks + 1) (sym c.fetch.ensures.length)
+  stays = stays_put 1 _ refl refl c.fetch.ensures.capacity (rw c.fetch.ensures.length
       (at_most_one (is_some (find nat_cmp c.args.key.code c.args.memory.now.dirty.blocks)) (length c.args.memory.now.dirty.blocks)));
   map = refl;
   usage = refl;

@@ -8,11 +8,11 @@ loop-key-init c = record { prunes = Prunes.nothing; map = refl; usage = refl; ch
 
 pub loop-key-preserved : goal.loop-key-preserved
 loop-key-preserved c = record {
-  prunes = Prunes.more c.loop-key.memory.dirty c.moved.new.self (entry_of c.in-Some.key) c.loop-key.invariant.prunes c.in-Some.ensures.empty
+  prunes = Prunes.more c.loop-key.memory.dirty _ (entry_of c.in-Some.key) c.loop-key.invariant.prunes c.in-Some.ensures.empty
       c.moved.ensures.moves;
   map = c.loop-key.invariant.map;
   usage = c.loop-key.invariant.usage;
   chunk = c.loop-key.invariant.chunk;
   capacity = c.moved.ensures.capacity ∙ c.loop-key.invariant.capacity;
-  blocks = let a = c.moved.ensures.no_more in let b = c.loop-key.invariant.blocks in omega (arith, a, b);
+  blocks = omega arith;
 }

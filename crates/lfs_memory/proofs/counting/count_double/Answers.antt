@@ -25,5 +25,5 @@ pub returns-in_err-read_present-clause-failed : goal.returns-in_err-read_present
 returns-in_err-read_present-clause-failed g c =
     on_err c.from_residual.result _
     (double_unread (g.D.SectorDevice.state c.args.device.now) (g.D.SectorDevice.state c.read_present.new.device) c.args.memory.now
-     c.args.tail.first _ c.args.counts.now c.double-key.ensures
+    c.args.tail.first _ c.args.counts.now c.double-key.ensures
     c.if-address-eq0.false c.in_err-read_present.ensures.ends.unread)

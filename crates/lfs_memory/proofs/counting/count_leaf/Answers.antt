@@ -1,4 +1,4 @@
-use Rattle.std.proofs.Common.{rules, refl}
+use Rattle.std.proofs.Common.{rules}
 use Rattle.lfs_memory.proofs.Going.{ok_then, on_err}
 use Rattle.lfs_memory.proofs.CountedFiles.{leaf_before, leaf_skipped, leaf_over, leaf_counted, leaf_no_words, leaf_unread, on_err_then}
 use Rattle.lfs_memory.proofs.counting.count_leaf.Goals as goal
@@ -16,7 +16,7 @@ returns-then-address-eq0-clause-done g c =
 pub returns-then-not-count_one-clause-failed : goal.returns-then-not-count_one-clause-failed
 returns-then-not-count_one-clause-failed g c =
     leaf_over (g.D.SectorDevice.state c.args.device.now) c.args.memory.now c.args.tail.number c.args.index c.args.address
-    c.pointers_before-start.ensures c.if-start-eq-BLOCK_POINTERS.false _ refl c.args.counts.now
+    c.pointers_before-start.ensures c.if-start-eq-BLOCK_POINTERS.false c.args.counts.now
     (g.D.SectorDevice.state c.args.device.now) (c.if-not-count_one.ensures.wanted (search rules))
     (c.if-not-count_one.ensures.over (search rules))
 
@@ -24,7 +24,7 @@ pub returns-clause-done : goal.returns-clause-done
 returns-clause-done g c =
     ok_then c.count_words.result _ _
     (leaf_counted (g.D.SectorDevice.state c.args.device.now) c.args.memory.now c.args.tail.number c.args.index c.args.address
-    c.pointers_before-start.ensures c.if-start-eq-BLOCK_POINTERS.false _ refl c.args.counts.now
+    c.pointers_before-start.ensures c.if-start-eq-BLOCK_POINTERS.false c.args.counts.now
     (g.D.SectorDevice.state c.read_present.new.device) _ c.leaf-key.ensures c.if-address-eq0.false
     (c.if-not-count_one.ensures.done (search rules)) c.count_words.new.counts c.in_ok-read_present.ensures.read) c.count_words.ensures.done
 
@@ -32,7 +32,7 @@ pub returns-clause-failed : goal.returns-clause-failed
 returns-clause-failed g c =
     on_err_then c.count_words.result _ _
     (leaf_no_words (g.D.SectorDevice.state c.args.device.now) c.args.memory.now c.args.tail.number c.args.index c.args.address
-    c.pointers_before-start.ensures c.if-start-eq-BLOCK_POINTERS.false _ refl c.args.counts.now
+    c.pointers_before-start.ensures c.if-start-eq-BLOCK_POINTERS.false c.args.counts.now
     (g.D.SectorDevice.state c.read_present.new.device) _ c.leaf-key.ensures c.if-address-eq0.false
     (c.if-not-count_one.ensures.done (search rules)) c.in_ok-read_present.ensures.read) c.count_words.ensures.failed
 
@@ -40,5 +40,5 @@ pub returns-in_err-read_present-clause-failed : goal.returns-in_err-read_present
 returns-in_err-read_present-clause-failed g c =
     on_err c.from_residual.result _
     (leaf_unread (g.D.SectorDevice.state c.args.device.now) (g.D.SectorDevice.state c.read_present.new.device) c.args.memory.now
-     c.args.tail.first _ c.args.counts.now c.leaf-key.ensures
+    c.args.tail.first _ c.args.counts.now c.leaf-key.ensures
     c.if-address-eq0.false c.in_err-read_present.ensures.ends.unread)

@@ -1,7 +1,6 @@
-use Rattle.std.proofs.Common.{◌∙◌, arith, refl, sym}
+use Rattle.std.proofs.Common.{arith, refl}
 use Rattle.lfs_memory.specs.Counting.{FailsLeaves}
 use Rattle.lfs_memory.proofs.Going.{on_err}
-use Rattle.lfs_memory.proofs.Lifted.{word_read}
 use Rattle.lfs_memory.proofs.Presents.{looks_none, looks_then}
 use Rattle.lfs_memory.proofs.CountedFiles.{leaves_none, leaves_more, leaves_fail, leaves_end}
 use Rattle.lfs_memory.proofs.counting.count_leaves.Goals as goal
@@ -24,19 +23,17 @@ loop-index-preserved g c =
     let now = c.in_ok-count_leaf.ensures in
     record {
       counts = leaves_more old mid new c.args.memory.now c.args.tail.number c.args.root.now c.loop-index.index c.args.tail.first
-          was.looks now.looks (sym (word_read c.args.root.now c.loop-index.index c.loop-index.index refl c.word-address.ensures))
+          was.looks now.looks c.word-address.ensures
           c.args.counts.now c.loop-index.counts was.counts c.count_leaf.new.counts now.done;
       looks = looks_then (g.met.D.SectorDevice.lawful c.args.device.now) was.looks now.looks;
-      no_failure = now.no_failure ∙ was.no_failure;
+      no_failure = cc;
     }
 
 pub returns-clause-done : goal.returns-clause-done
 returns-clause-done g c =
-    let low = c.loop-index-test.false in
-    let most = c.loop-index.auto.index-end in
     leaves_end (g.D.SectorDevice.state c.args.device.now) (g.D.SectorDevice.state c.loop-index.device) c.args.memory.now c.args.tail.number
     c.args.root.now c.loop-index.index 128 c.args.tail.first
-    c.args.counts.now c.loop-index.counts (omega (arith, low, most)) c.loop-index.invariant.counts
+    c.args.counts.now c.loop-index.counts (omega arith) c.loop-index.invariant.counts
 
 pub returns-in_err-count_leaf-clause-failed : goal.returns-in_err-count_leaf-clause-failed
 returns-in_err-count_leaf-clause-failed g c =
@@ -47,6 +44,6 @@ returns-in_err-count_leaf-clause-failed g c =
     (FailsLeaves old new c.args.memory.now c.args.tail.number c.args.root.now 128 c.args.tail.first c.args.counts.now)
     (leaves_fail old mid new c.args.memory.now c.args.tail.number c.args.root.now c.loop-index.index c.args.tail.first
     c.loop-index.invariant.looks c.in_err-count_leaf.ensures.looks
-    (sym (word_read c.args.root.now c.loop-index.index c.loop-index.index refl c.word-address.ensures))
+    c.word-address.ensures
     c.args.counts.now c.loop-index.counts c.loop-index.invariant.counts 128
     c.loop-index-test.true c.in_err-count_leaf.ensures.failed)

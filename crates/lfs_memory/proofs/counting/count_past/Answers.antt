@@ -11,18 +11,15 @@ returns-then-not-branch-clause-counted g c =
 
 pub returns-clause-counted : goal.returns-clause-counted
 returns-clause-counted g c =
-    ok_then c.count_inode.result _ _
-    (past_counted (g.D.SectorDevice.state c.args.device.now) (g.D.SectorDevice.state c.read_inode.new.device) c.args.memory.now
-    c.args.number c.args.first c.clear.new.self c.clear.ensures c.in_ok-read_inode.ensures.looks.looks c.count_inode.ensures.looks
+    ok_then c.count_inode.result _ _ (past_counted _ _ _
+    _ _ _ c.clear.ensures c.in_ok-read_inode.ensures.looks.looks c.count_inode.ensures.looks
     (c.in_ok-read_inode.ensures.some c.if-not-branch.false).1
-    (c.in_ok-read_inode.ensures.bytes c.if-not-branch.false) c.count_inode.new.counts) c.count_inode.ensures.done
+    (c.in_ok-read_inode.ensures.bytes c.if-not-branch.false) _) c.count_inode.ensures.done
 
 pub returns-clause-looks : goal.returns-clause-looks
 returns-clause-looks g c = record {
-  failed = on_err_then c.count_inode.result _ _
-      (past_fails (g.D.SectorDevice.state c.args.device.now) (g.D.SectorDevice.state c.read_inode.new.device) c.args.memory.now
-      c.args.number
-      c.args.first c.clear.new.self c.clear.ensures c.in_ok-read_inode.ensures.looks.looks c.count_inode.ensures.looks
+  failed = on_err_then c.count_inode.result _ _ (past_fails _ _ _ _
+      _ _ c.clear.ensures c.in_ok-read_inode.ensures.looks.looks c.count_inode.ensures.looks
       (c.in_ok-read_inode.ensures.some c.if-not-branch.false).1
       (c.in_ok-read_inode.ensures.bytes c.if-not-branch.false)) c.count_inode.ensures.failed;
   no_failure = search rules;

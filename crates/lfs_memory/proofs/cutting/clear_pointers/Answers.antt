@@ -1,4 +1,3 @@
-use Rattle.lfs_inodes.specs.Blocks.{blocks_of}
 use Rattle.lfs_memory.proofs.CutPointers.{clears_pointers}
 use Rattle.lfs_memory.proofs.cutting.clear_pointers.Goals as goal
 

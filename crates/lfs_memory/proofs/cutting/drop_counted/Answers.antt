@@ -4,9 +4,8 @@ use Rattle.lfs_memory.proofs.cutting.drop_counted.Goals as goal
 
 pub returns-then-not-are_covered-clause-looks : goal.returns-then-not-are_covered-clause-looks
 returns-then-not-are_covered-clause-looks g c = record {
-  failed = let low = c.requires.number.few in
-      uncovered_past c.args.memory.now c.args.number c.args.first c.count_past.new.counts
-      (omega (arith, low)) (ap not c.is_hidden-lives.ensures) c.count_past.ensures.looks.looks c.in_ok-count_past.ensures.counted
+  failed = uncovered_past _ _ _ _
+      (omega arith) (ap not c.is_hidden-lives.ensures) c.count_past.ensures.looks.looks c.in_ok-count_past.ensures.counted
       (c.if-not-are_covered.ensures.no (search rules));
   no_failure = search rules;
   looks = search rules;

@@ -1,5 +1,5 @@
-use Rattle.lfs_memory.proofs.Going.{err_ok}
-use Rattle.lfs_memory.proofs.CutEdges.{passed_on, above_cut_leaf, cut_leaf_ready}
+use Rattle.lfs_memory.proofs.Lifted.{ends_passed}
+use Rattle.lfs_memory.proofs.CutEdges.{above_cut_leaf, cut_leaf_ready}
 use Rattle.lfs_memory.proofs.cutting.lift_part.Goals as goal
 
 pub lift_child-requires-clause-above : goal.lift_child-requires-clause-above
@@ -7,13 +7,7 @@ lift_child-requires-clause-above g c =
     above_cut_leaf c.args.memory.now _ c.leaf-leaf.ensures c.if-first-le-DIRECT_BLOCKS.false c.if-first-eq0.false c.requires.above
 
 pub returns-in_err-lift_child-clause-ends : goal.returns-in_err-lift_child-clause-ends
-returns-in_err-lift_child-clause-ends g c = record {
-  full = λ is.
-      c.in_err-lift_child.ensures.ends.full (passed_on c.from_residual.result c.in_err-lift_child.field-0.0 _ c.from_residual.ensures is);
-  failed = λ is.
-      c.in_err-lift_child.ensures.ends.failed (passed_on c.from_residual.result c.in_err-lift_child.field-0.0 _ c.from_residual.ensures is);
-  no_failure = err_ok c.from_residual.result _ _ c.from_residual.ensures;
-}
+returns-in_err-lift_child-clause-ends g c = ends_passed c.in_err-lift_child.ensures.ends c.from_residual.ensures
 
 pub returns-clause-leaf : goal.returns-clause-leaf
 returns-clause-leaf g c =

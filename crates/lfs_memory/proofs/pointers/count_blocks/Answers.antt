@@ -1,5 +1,5 @@
-use Rattle.std.proofs.Common.{◌≡◌, arith, rules}
-use Rattle.lfs_memory.proofs.Going.{err_ok, on_err}
+use Rattle.std.proofs.Common.{◌≡◌, arith}
+use Rattle.lfs_memory.proofs.Presents.{looks_failed, looks_then}
 use Rattle.lfs_memory.proofs.PointerRuns.{counted_none, counted_more, counted_fault, counted_all}
 use Rattle.lfs_memory.proofs.pointers.count_blocks.Goals as goal
 
@@ -12,9 +12,9 @@ loop-at-init g c = record {
 
 pub loop-at-preserved : goal.loop-at-preserved
 loop-at-preserved g c =
-    let old = g.D.SectorDevice.state c.args.device.now in
+    let old = g.D.SectorDevice.state _ in
     let mid = g.D.SectorDevice.state c.loop-at.device in
-    let new = g.D.SectorDevice.state c.count_part.new.device in
+    let new = g.D.SectorDevice.state _ in
     let was = c.loop-at.invariant in
     let part = c.in_ok-part.ensures in
     record {
@@ -22,22 +22,18 @@ loop-at-preserved g c =
       kept = c.count_part.ensures.kept;
       counted =
           counted_more old mid new c.in_ok-part.part.0
-          (g.met.D.SectorDevice.lawful c.args.device.now) was.counted c.count_part.ensures.looks.looks part.looks.no_failure part.further.0
+          (g.met.D.SectorDevice.lawful _) was.counted c.count_part.ensures.looks.looks part.looks.no_failure part.further.0
           part.few
           part.answer;
     }
 
 pub returns-in_err-part-clause-looks : goal.returns-in_err-part-clause-looks
-returns-in_err-part-clause-looks g c = record {
-  failed = on_err c.from_residual.result _ (counted_fault (g.D.SectorDevice.state c.count_part.new.device)
-       c.loop-at.invariant.counted c.in_err-part.ensures.looks.failed);
-  no_failure = err_ok c.from_residual.result _ _ c.from_residual.ensures;
-  looks = search rules;
-}
+returns-in_err-part-clause-looks g c =
+    looks_failed c.from_residual.ensures.0
+    (looks_then (g.met.D.SectorDevice.lawful c.args.device.now) c.loop-at.invariant.counted.looks c.count_part.ensures.looks.looks)
+    (counted_fault (g.D.SectorDevice.state c.count_part.new.device) c.loop-at.invariant.counted c.in_err-part.ensures.looks.failed)
 
 pub returns-clause-answer : goal.returns-clause-answer
 returns-clause-answer g c =
-    let most = c.loop-at.invariant.most in
-    let ended = c.loop-at-test.false in
-    let end : c.loop-at.at ≡ c.args.to = omega (arith, most, ended) in
+    let end : c.loop-at.at ≡ c.args.to = omega arith in
     counted_all end c.loop-at.invariant.counted

@@ -4,7 +4,7 @@ use Rattle.lfs_memory.proofs.pointers.count_part.Goals as goal
 
 pub returns-clause-answer : goal.returns-clause-answer
 returns-clause-answer g c =
-    kept_count c.args.memory.now c.keep_run.new.kept c.args.number c.args.from c.count_kept.result.1 c.count_kept.result.0
+    kept_count _ _ _ _ c.count_kept.result.1 c.count_kept.result.0
     c.keep_run.ensures.looks.looks c.keep_run.ensures.kept (c.in_ok-keep_run.ensures.from c.if-not-branch.false)
     c.count_kept.ensures.further.0
     c.count_kept.ensures.value

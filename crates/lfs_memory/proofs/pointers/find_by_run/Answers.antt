@@ -4,10 +4,9 @@ use Rattle.lfs_memory.proofs.pointers.find_by_run.Goals as goal
 
 pub returns-clause-finds : goal.returns-clause-finds
 returns-clause-finds g c = record {
-  answer = kept_found c.args.memory.now c.keep_run.new.kept c.args.number c.args.index c.kept_pointer.result
+  answer = kept_found _ _ _ _ c.kept_pointer.result
       c.keep_run.ensures.looks.looks c.keep_run.ensures.kept (c.in_ok-keep_run.ensures.from c.if-not-branch.false) c.kept_pointer.ensures;
-  some = λ some. kept_some (g.D.SectorDevice.state c.keep_run.new.device) c.args.memory.now c.keep_run.new.kept c.args.number c.args.index
-      c.keep_run.ensures.kept (c.in_ok-keep_run.ensures.from c.if-not-branch.false);
+  some = λ some. kept_some _ _ _ _ _ c.keep_run.ensures.kept (c.in_ok-keep_run.ensures.from c.if-not-branch.false);
   looks = search rules;
 }
 
@@ -15,6 +14,6 @@ pub returns-then-not-branch-clause-finds : goal.returns-then-not-branch-clause-f
 returns-then-not-branch-clause-finds g c = record {
   answer = no_way (g.D.SectorDevice.state c.args.device.now) (g.D.SectorDevice.state c.keep_run.new.device) c.args.memory.now
       c.args.number c.args.index (c.in_ok-keep_run.ensures.none (search rules));
-  some = λ some. absurd (omega (arith, some));
+  some = λ some. omega arith;
   looks = search rules;
 }

@@ -7,12 +7,7 @@ use Rattle.lfs_memory.proofs.pointers.read_inode_run.Goals as goal
 pub returns-in-Ok-clause-read : goal.returns-in-Ok-clause-read
 returns-in-Ok-clause-read g c =
     inode_run (g.D.SectorDevice.state c.args.device.now) (g.D.SectorDevice.state c.present_pointers.new.device) c.args.memory.now _
-    (record {
-      untouched = c.present_pointers.ensures.follows.looks.untouched;
-      carries = c.present_pointers.ensures.follows.looks.carries;
-      time = c.present_pointers.ensures.follows.looks.time;
-      told = c.present_pointers.ensures.follows.looks.told;
-    })
+    (assumption c.present_pointers.ensures.follows.looks)
     c.requires.inode.number.some c.requires.inode.is c.requires.inode.there c.inode-inode.ensures c.in-Ok.pointers c.in-Ok.ensures.value
 
 pub returns-in-Err-clause-looks : goal.returns-in-Err-clause-looks
@@ -20,30 +15,19 @@ returns-in-Err-clause-looks g c =
     record {
       failed =
           inode_run_failed (g.D.SectorDevice.state c.args.device.now) (g.D.SectorDevice.state c.present_pointers.new.device)
-          c.args.memory.now _ (record {
-            untouched = c.present_pointers.ensures.follows.looks.untouched;
-            carries = c.present_pointers.ensures.follows.looks.carries;
-            time = c.present_pointers.ensures.follows.looks.time;
-            told = c.present_pointers.ensures.follows.looks.told;
-          })
+          c.args.memory.now _ (assumption c.present_pointers.ensures.follows.looks)
           c.requires.inode.number.some c.requires.inode.is c.requires.inode.there c.inode-inode.ensures c.in-Err.field-0
           (λ is. c.in-Err.ensures.unreadable (ap Err is)) (λ is. c.in-Err.ensures.follows.failed (ap Err is));
       no_failure = tt;
-      looks = record {
-        untouched = c.present_pointers.ensures.follows.looks.untouched;
-        carries = c.present_pointers.ensures.follows.looks.carries;
-        time = c.present_pointers.ensures.follows.looks.time;
-        told = c.present_pointers.ensures.follows.looks.told;
-      };
+      looks = assumption c.present_pointers.ensures.follows.looks;
     }
 
 pub returns-then-is_lacking-clause-looks : goal.returns-then-is_lacking-clause-looks
 returns-then-is_lacking-clause-looks g c =
-    let d = g.D.SectorDevice.state c.args.device.now in
+    let d = g.D.SectorDevice.state _ in
     record {
       failed =
-          inode_lacks d d c.args.memory.now _ (looks_none d) c.requires.inode.number.some c.requires.inode.is c.requires.inode.there
-          c.inode-inode.ensures
+          inode_lacks d d _ _ (looks_none d) c.requires.inode.number.some c.requires.inode.is c.requires.inode.there c.inode-inode.ensures
           (c.is_lacking.ensures.inside c.if-is_lacking.true) (c.is_lacking.ensures.none c.if-is_lacking.true);
       no_failure = tt;
       looks = looks_none d;

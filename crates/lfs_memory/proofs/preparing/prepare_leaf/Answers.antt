@@ -1,17 +1,13 @@
-use Rattle.std.proofs.Common.{OnOk, subst}
-use Rattle.lfs_model.specs.Entry.{Entry}
-use Rattle.lfs_memory.specs.Lifting.{IsInMemory}
 use Rattle.lfs_memory.proofs.Lifted.{ends_then, prepares_then}
 use Rattle.lfs_memory.proofs.preparing.prepare_leaf.Goals as goal
 
 pub returns-clause-prepares : goal.returns-clause-prepares
 returns-clause-prepares g c =
     prepares_then
-    (g.met.D.SectorDevice.lawful c.args.device.now) c.prepare_pointers-2.ensures.prepares c.prepare_pointers-3.ensures.prepares
+    (g.met.D.SectorDevice.lawful _) c.prepare_pointers-2.ensures.prepares c.prepare_pointers-3.ensures.prepares
 
 pub returns-clause-inside : goal.returns-clause-inside
-returns-clause-inside g c = subst (λ (x : Entry). OnOk c.prepare_pointers-3.result (IsInMemory c.prepare_pointers-3.new.memory x))
-    c.leaf-leaf.ensures c.prepare_pointers-3.ensures.inside
+returns-clause-inside g c = rw c.leaf-leaf.ensures at c.prepare_pointers-3.ensures.inside
 
 pub returns-clause-ends : goal.returns-clause-ends
 returns-clause-ends g c =

@@ -29,7 +29,7 @@ returns-then-not-found-clause-ends g c = record {
 
 pub returns-clause-prepares : goal.returns-clause-prepares
 returns-clause-prepares g c =
-    prepares_then (g.met.D.SectorDevice.lawful c.args.device.now) c.lift_inode.ensures.prepares c.prepare_leaf.ensures.prepares
+    prepares_then (g.met.D.SectorDevice.lawful _) c.lift_inode.ensures.prepares c.prepare_leaf.ensures.prepares
 
 pub returns-clause-ends : goal.returns-clause-ends
 returns-clause-ends g c = record {
@@ -40,7 +40,7 @@ returns-clause-ends g c = record {
   short = search rules;
   failed = λ is. excused_within (g.D.SectorDevice.state c.args.device.now) (g.D.SectorDevice.state c.prepare_leaf.new.device)
       c.args.memory.now c.args.edit.now.number c.args.edit.now.index (prepares_excused
-       c.lift_inode.ensures.prepares c.prepare_leaf.ensures.prepares.looks
+      c.lift_inode.ensures.prepares c.prepare_leaf.ensures.prepares.looks
       (c.prepare_leaf.ensures.ends.failed is));
   no_failure = search rules;
 }

@@ -24,7 +24,7 @@ record FindsAbove (a b : DeviceState) (v : LogMemory) (up : Entry) (address : �
 -- the inode map has that to an inode
 by_map : {a b : DeviceState} {v : LogMemory} {f address found : ℕ} {k : BlockKind} (code : ℕ) → b ≡ a → k ≡ kind_by (code / 134217728)
     → k ≡ kind.Inode → f ≡ code / 32768 % 4096 → address ≡ found → found ≡ address_in v.map f → FindsAbove a b v (entry_at code) address
-by_map {a} {v = v} {f} {found = found} {k} code same is inode file one at = rw (same, one) (record {
+by_map {a} {v = v} code same is inode file one at = rw (same, one) (record {
   answer = located_top a v {x = entry_at code} (file_is code file) (let top = inode_is code is inode in ap parent top ∙ sym top) at;
   looks = search rules;
   no_failure = refl;
@@ -37,8 +37,7 @@ by_block same is answer looks no_failure = rw (same, is) (record { answer = answ
 
 pub returns-in_default-clause-answer : goal.returns-in_default-clause-answer
 returns-in_default-clause-answer g t c =
-    located_top (g.D.SectorDevice.state c.args.device.now) c.args.memory.now
-    (file_is c.args.key.code c.file.ensures.file) c.in_default.ensures.none c.address.ensures
+    located_top _ _ (file_is _ c.file.ensures.file) c.in_default.ensures.none c.address.ensures
 
 pub returns-then-address-eq0-clause-answer : goal.returns-then-address-eq0-clause-answer
 returns-then-address-eq0-clause-answer g t c =
@@ -72,7 +71,6 @@ returns g t c =
           let found = w.in_ok-address-in_default-kind.ensures in
           by_block (ap state w.device-is) w.address-is found.answer found.looks.looks found.looks.no_failure
     ] in
-    let last = state c.present_word.new.device in
     let ends = c.present_word.ensures.ends in
     let file : IsOfFile up = (_, file_is c.in-Some.above.code refl) in
     record {

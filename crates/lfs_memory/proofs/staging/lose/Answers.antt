@@ -1,6 +1,3 @@
-use Rattle.std.proofs.Common.{sym, subst}
-use Rattle.lfs_memory.specs.declared.batch.Loss.{Loss}
-use Rattle.lfs_memory.specs.Staging.{Loses, IsLossExcused}
 use Rattle.lfs_memory.proofs.Going.{ok_then}
 use Rattle.lfs_memory.proofs.Staged.{blocks_lost, link_lost, file_lost, link_excused, loss_excused, version_lost}
 use Rattle.lfs_memory.proofs.staging.lose.Goals as goal
@@ -9,8 +6,7 @@ pub returns-in-Blocks-clause-done : goal.returns-in-Blocks-clause-done
 returns-in-Blocks-clause-done g c =
     let d = g.D.SectorDevice.state c.args.device.now in
     let d' = g.D.SectorDevice.state c.cut_file.new.device in
-    ok_then c.cut_file.result _ _
-    (λ go. subst (λ (x : Loss). Loses d d' c.args.memory.now c.cut_file.new.memory x) (sym c.in-Blocks.is)
+    ok_then c.cut_file.result _ _ (λ go. rw c.in-Blocks.is
     (blocks_lost d c.in-Blocks.cut go)) c.cut_file.ensures.cuts
 
 pub returns-in-Blocks-clause-failed : goal.returns-in-Blocks-clause-failed
@@ -22,22 +18,21 @@ pub returns-in-Link-clause-done : goal.returns-in-Link-clause-done
 returns-in-Link-clause-done g c =
     let d = g.D.SectorDevice.state c.args.device.now in
     let d' = g.D.SectorDevice.state c.hide_file.new.device in
-    ok_then c.hide_file.result _ _
-    (λ go. subst (λ (x : Loss). Loses d d' c.args.memory.now c.hide_file.new.memory x) (sym c.in-Link.is)
+    ok_then c.hide_file.result _ _ (λ go. rw c.in-Link.is
     (link_lost d c.in-Link.link go)) c.hide_file.ensures.hides
 
 pub returns-in-Link-clause-failed : goal.returns-in-Link-clause-failed
 returns-in-Link-clause-failed g c is =
-    let d = g.D.SectorDevice.state c.args.device.now in
-    let d' = g.D.SectorDevice.state c.hide_file.new.device in
-    subst (λ (x : Loss). IsLossExcused d d' c.args.memory.now x) (sym c.in-Link.is)
+    let d = g.D.SectorDevice.state _ in
+    let d' = g.D.SectorDevice.state _ in
+    rw c.in-Link.is
     (link_excused d d' c.args.memory.now c.in-Link.link (c.hide_file.ensures.failed is))
 
 pub returns-in-Ok-clause-done : goal.returns-in-Ok-clause-done
 returns-in-Ok-clause-done g c =
     let d = g.D.SectorDevice.state c.args.device.now in
     let d' = g.D.SectorDevice.state c.remove_file.new.device in
-    subst (λ (x : Loss). Loses d d' c.args.memory.now c.remove_file.new.memory x) (sym c.in-File.is)
+    rw c.in-File.is
     (file_lost d c.in-File.removal c.in-Ok.ensures.removed)
 
 pub returns-in-Err-clause-failed : goal.returns-in-Err-clause-failed
@@ -47,6 +42,6 @@ returns-in-Err-clause-failed g c is =
 
 pub returns-in-FirstVersion-clause-done : goal.returns-in-FirstVersion-clause-done
 returns-in-FirstVersion-clause-done g c =
-    let d = g.D.SectorDevice.state c.args.device.now in
-    subst (λ (x : Loss). Loses d d c.args.memory.now c.args.memory.now x) (sym c.in-FirstVersion.is)
-    (version_lost d c.args.memory.now c.requires.memory)
+    let d = g.D.SectorDevice.state _ in
+    rw c.in-FirstVersion.is
+    (version_lost d _ c.requires.memory)

@@ -1,6 +1,5 @@
 use Rattle.std.proofs.Common.{List, subst, rules}
 use Rattle.lfs_memory.specs.declared.batch.BlockEdit.{BlockEdit}
-use Rattle.lfs_memory.specs.declared.batch.HeaderEdit.{HeaderEdit}
 use Rattle.lfs_memory.specs.Staging.{IsBatchExcused}
 use Rattle.lfs_memory.proofs.staging.stage_loose.Goals as goal
 
@@ -13,8 +12,7 @@ returns-in-Err-clause-ends g c =
       failed = λ is. subst
           (λ (bs : List BlockEdit). IsBatchExcused d d' c.args.memory.now c.args.changes.now.loss c.args.changes.now.headers.items bs)
           c.as_slice-blocks.ensures.value
-          (subst (λ (hs : List HeaderEdit). IsBatchExcused d d' c.args.memory.now c.args.changes.now.loss hs c.as_slice-blocks.result.now)
-          c.as_slice-headers.ensures.value c.in-Err.ensures.failed);
+          (rw c.as_slice-headers.ensures.value at c.in-Err.ensures.failed);
       other = search rules;
       no_failure = search rules;
     }
