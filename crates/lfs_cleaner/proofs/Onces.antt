@@ -1,12 +1,12 @@
 -- One pass where it is due, behind a commit of what is unsaved.
-use Rattle.std.proofs.Common.{◌≡◌, ◌<◌, ◌≤◌, ◌+◌, ◌*◌, ◌/◌, inl, ⊎_elim, ℕ, false, sym, subst, arith}
+use Rattle.std.proofs.Common.{◌≡◌, ◌<◌, ◌≤◌, ◌+◌, ◌*◌, ◌/◌, inl, ⊎_elim, ℕ, false, arith}
 use Rattle.std.proofs.Math.Nat.{mul-le-mul_right, one-mul}
 use Rattle.lfs_model.specs.Checkpoint.{IsSegmentCount}
 use Rattle.lfs_model.specs.Device.{DeviceState, IsLawful}
 use Rattle.lfs_log.specs.LogState.{AreAllSaved, LogState, Reads}
 use Rattle.lfs_log.specs.Saving.{commit_orders, pass_orders}
 use Rattle.lfs_cleaner.specs.Passing.{FailsPass, IsUnfit, RefusesPass}
-use Rattle.lfs_cleaner.specs.Room.{CleansOnce, CommitsUnsaved, FailsPasses, KeepsMap, LacksPasses, MayNotMakeRoom, PassesInNeed}
+use Rattle.lfs_cleaner.specs.Room.{CleansOnce, CommitsUnsaved, FailsPasses, KeepsMap, LacksPasses, MayNotMakeRoom}
 use Rattle.lfs_cleaner.specs.Room.{PassesWhereDue, once_orders, room_orders}
 use Rattle.lfs_cleaner.proofs.Rooms.{keeps_none, keeps_reads, keeps_weaker, read_fault, repeats_passes}
 use Rattle.lfs_log.proofs.LogReads.{segment_count}
@@ -24,41 +24,35 @@ once_within {n} count = let least = count.least in more (n / 8) (8 * n + 4) (ome
     more : (eighth p : ℕ) → 1 ≤ eighth → commit_orders + p ≤ commit_orders + eighth * p
     more eighth p le = let times = mul-le-mul_right p le in let one = one-mul p in omega (arith, times, one)
 
-module _ {D : Type 0} (state : D → DeviceState) where
+module _ {D : Type 0} {state : D → DeviceState} where
   -- a pass may be made where room can be
-  unfit_lacks : (h : LogState D) {now : LogState D} → IsLawful (state h.device) → h.halted ≡ false → AreAllSaved h
-      → 4 * h.clean < h.segments
+  unfit_lacks : {h now : LogState D} → IsLawful (state h.device) → h.halted ≡ false → AreAllSaved h → 4 * h.clean < h.segments
       → Reads state h now → IsUnfit state h now → MayNotMakeRoom state h now
-  unfit_lacks h lawful running nothing few reads unfit k m0 m keeps may =
-      let least = (segment_count state lawful may.holds).least in
+  unfit_lacks lawful running nothing few reads unfit k m0 m keeps may =
+      let least = (segment_count _ lawful may.holds).least in
       let next =
-      may_pass state nothing (passes_none state {h = h} lawful running) few k m (reads.looks.carries.kept_before keeps) may
+      may_pass nothing (passes_none lawful running) few (reads.looks.carries.kept_before keeps) may
       (omega (arith, least)) in
       unfit next.0 next.1 m keeps next.2
 
-  pub keeps_due : (h now : LogState D) → IsLawful (state h.device) → h.halted ≡ false → PassesWhereDue state h now → now.totals ≡ h.totals
+  pub keeps_due : {h now : LogState D} → IsLawful (state h.device) → h.halted ≡ false → PassesWhereDue state h now → now.totals ≡ h.totals
       → KeepsMap state h now 1
-  keeps_due h now lawful running due totals =
-      ⊎_elim
-      (λ (need : PassesInNeed state h now). (repeats_passes state h need totals).keeps)
-      (λ none. subst (λ (x : LogState D). KeepsMap state h x 1) (sym none.1)
-      (keeps_weaker state {y = 1} (keeps_none state h lawful running) (omega arith))) due
+  keeps_due lawful running due totals = ⊎_elim (λ need. (repeats_passes _ need totals).keeps)
+      (λ none. rw none.1 (keeps_weaker _ (keeps_none _ _ lawful running) (omega arith))) due
 
   -- ---- a pass that isn't made
-  pub lacks_pass : (h : LogState D) {now : LogState D} → IsLawful (state h.device) → h.halted ≡ false → AreAllSaved h
+  pub lacks_pass : {h now : LogState D} → IsLawful (state h.device) → h.halted ≡ false → AreAllSaved h
       → 4 * h.clean < h.segments → RefusesPass state h now → LacksPasses state h now 0
-  lacks_pass h {now} lawful running nothing few refuses = record {
-    keeps = keeps_reads state lawful running refuses.reads;
-    never = unfit_lacks h lawful running nothing few refuses.reads refuses.unfit;
+  lacks_pass lawful running nothing few refuses = record {
+    keeps = keeps_reads _ lawful running refuses.reads;
+    never = unfit_lacks lawful running nothing few refuses.reads refuses.unfit;
   }
 
-  pub fails_pass : (h : LogState D) {now : LogState D} → IsLawful (state h.device) → h.halted ≡ false → FailsPass state h now
+  pub fails_pass : {h now : LogState D} → IsLawful (state h.device) → h.halted ≡ false → FailsPass state h now
       → FailsPasses state h now 0
-  fails_pass h {now} lawful running fails = record {
-    keeps = keeps_reads state lawful running fails.reads;
-    fault = read_fault state h now fails.fault;
-  }
+  fails_pass {now} lawful running fails =
+      record { keeps = keeps_reads _ lawful running fails.reads; fault = read_fault _ now fails.fault }
 
   -- a pass behind a commit
-  pub once_behind : (a b c : LogState D) → CommitsUnsaved state a b → PassesWhereDue state b c → CleansOnce state a c
-  once_behind a b c commits passes = inl (record { between = b; commits = commits; passes = passes })
+  pub once_behind : {a b c : LogState D} → CommitsUnsaved state a b → PassesWhereDue state b c → CleansOnce state a c
+  once_behind {b} commits passes = inl (record { between = b; commits = commits; passes = passes })

@@ -1,5 +1,5 @@
 -- Where a pass may be made it has victims, and what they bring into memory fits.
-use Rattle.std.proofs.Common.{◌≡◌, ◌<◌, ◌+◌, ◌-◌, ◌/◌, ◌^◌, ℕ, zero, suc, List, [], ◌∷◌, length, get_or, ◌∙◌, subst, arith}
+use Rattle.std.proofs.Common.{◌≡◌, ◌<◌, ◌+◌, ◌-◌, ◌/◌, ◌^◌, ℕ, zero, suc, List, [], ◌∷◌, length, get_or, ◌∙◌, arith}
 use Rattle.std.specs.List.{AllByRecursion}
 use Rattle.lfs_model.specs.Checkpoint.{CheckpointValue}
 use Rattle.lfs_model.specs.Device.{DeviceState}
@@ -17,43 +17,36 @@ victim_at t [] all i lt = absurd (omega (arith, lt))
 victim_at t (v ∷ vs) all zero lt = all.0
 victim_at t (v ∷ vs) all (suc i) lt = victim_at t vs all.1 i (omega (arith, lt))
 
-module _ {D : Type 0} (state : D → DeviceState) (h : LogState D) (k : CheckpointValue) (m0 m : LogMap) (can : CanPass state h k m0 m)
-    (whole : IsWhole h) where
-  pub may_pass : {meta : ℕ} (most : ℕ) (vs : List ℕ) → most ≡ h.segments / 8 + 1 → AreVictims h.usage meta most vs → MayPass h vs
-  may_pass most vs is are = record {
-    nothing = can.nothing.blocks;
-    many = can.many;
-    least = let gain = are.gain in omega (arith, gain);
-    most = let few = are.few in omega (arith, few, is);
-    each = λ i lt. (let used = victim_at h.usage vs are.each i lt in
-        record { inside = used.0; used = used.1; before = can.untaken (get_or vs i 0); apart = used.2 });
-  }
+may_pass : {D : Type 0} {state : D → DeviceState} {h : LogState D} {k : CheckpointValue} {m0 m : LogMap} {meta most : ℕ} {vs : List ℕ}
+    → CanPass state h k m0 m → most ≡ h.segments / 8 + 1 → AreVictims h.usage meta most vs → MayPass h vs
+may_pass {h} {vs} can is are = record {
+  nothing = can.nothing.blocks;
+  many = can.many;
+  least = let gain = are.gain in omega (arith, gain);
+  most = let few = are.few in omega (arith, few, is);
+  each = λ i lt. (let used = victim_at h.usage vs are.each i lt in
+      record { inside = used.0; used = used.1; before = can.untaken (get_or vs i 0); apart = used.2 });
+}
 
 -- what holds of victims by numbers holds of them by the same numbers
 pub carried : (P : UsageTable → ℕ → ℕ → ℕ → List ℕ → Type 0) {t u : UsageTable} {a b m n x y : ℕ} (vs : List ℕ) {ws : List ℕ} → t ≡ u
     → a ≡ b → m ≡ n
     → x ≡ y → vs ≡ ws → P t a m x vs → P u b n y ws
 carried P {u} {a} {b} {m} {n} {x} {y} vs table meta most now same is =
-    subst (λ (z : List ℕ). P u b n y z) same
-    (subst (λ (z : ℕ). P u b n z vs) now
-    (subst (λ (z : ℕ). P u b z x vs) most
-    (subst (λ (z : ℕ). P u z m x vs) meta
-    (subst (λ (z : UsageTable). P z a m x vs) table is))))
+    rw (← same) (rw (← now) (rw (← most) (rw (← meta) (rw (← table) is))))
 
 -- ---- so a pass isn't refused
-module _ {D : Type 0} {state : D → DeviceState} {h : LogState D} (h' : LogState D) (k : CheckpointValue) (m0 m : LogMap)
-    (can : CanPass state h k m0 m)
-    (whole : IsWhole h) where
-  pub pressed_there : {meta : ℕ} → meta ≡ h.totals.meta_blocks → IsPressed h.usage meta
-  pressed_there {meta} is =
+module _ {D : Type 0} {state : D → DeviceState} {h : LogState D} {k : CheckpointValue} {m0 m : LogMap} (can : CanPass state h k m0 m) where
+  pub pressed_there : IsWhole h → {meta : ℕ} → meta ≡ h.totals.meta_blocks → IsPressed h.usage meta
+  pressed_there whole {meta} is =
       pressed state h k m0 m can.holds whole can.nothing.blocks meta can.map can.few (is ∙ can.counted) can.need
 
-  pub not_refused : (state h'.device).keeps_model → {meta : ℕ} (most : ℕ) (vs : List ℕ) → meta ≡ h.totals.meta_blocks
+  pub not_refused : (h' : LogState D) → (state h'.device).keeps_model → {meta most : ℕ} {vs : List ℕ} → meta ≡ h.totals.meta_blocks
       → most ≡ h.segments / 8 + 1 → AreVictims h.usage meta most vs
       → (MayPass h vs → h.number < 2 ^ 64 - 1 → ArePacked state h h' vs)
       → ⊥
-  not_refused keeps {meta} most vs is is_most are lacks =
-      let packed = lacks (may_pass state h k m0 m can whole most vs is_most are) can.number k m0 m keeps can.holds can.map in
+  not_refused h' keeps is is_most are lacks =
+      let packed = lacks (may_pass can is_most are) can.number k m0 m keeps can.holds can.map in
       let gain = are.gain in
       let counted = is ∙ can.counted in
       omega (arith, packed, gain, counted)

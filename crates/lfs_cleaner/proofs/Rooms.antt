@@ -1,12 +1,10 @@
 -- Commits and passes, one after the other: the log map stays, and what a stop leaves is the one or the other.
-use Rattle.std.proofs.Common.{◌≡◌, ◌≤◌, ◌+◌, inl, inr, ⊎_elim, ℕ, zero, suc, false, List, refl, sym, ◌∙◌, subst}
+use Rattle.std.proofs.Common.{◌≡◌, ◌≤◌, ◌+◌, inl, inr, ⊎_elim, ℕ, zero, suc, false, List, refl, ◌∙◌, subst}
 use Rattle.std.proofs.Common.{arith}
-use Rattle.std.specs.Prelude.{◌⊎◌}
 use Rattle.lfs_model.specs.Checkpoint.{CheckpointValue}
 use Rattle.lfs_model.specs.Content.{Content}
 use Rattle.lfs_model.specs.Crash.{StandsOn}
 use Rattle.lfs_model.specs.Device.{DeviceState, IsLawful, Carries}
-use Rattle.lfs_model.specs.Encodes.{IsLogMap}
 use Rattle.lfs_model.specs.Stands.{LogMap}
 use Rattle.lfs_model.specs.TreeOf.{dropped}
 use Rattle.lfs_model.proofs.Moments.{carries_none, carries_then, started, joined, weaker}
@@ -32,15 +30,15 @@ module _ {D : Type 0} (state : D → DeviceState) where
     rest = λ rest. rest;
     holds = λ k m0 m keeps is map. record { checkpoint = k; acknowledged = m0; either = inl refl; same = refl; holds = is };
     moment = λ k m0 m keeps is map.
-        started (IsSaved state k.segments m0 m) lawful (λ c left. inl (acknowledged state is c left));
+        started _ lawful (λ c left. inl (acknowledged _ is c left));
   }
 
   -- after a commit, and after a pass
   pub rest_saves : {h h' : LogState D} → Saves state h h' → IsAtRest h'
   rest_saves s = record { nothing = s.empty; untaken = s.untaken; many = s.many }
 
-  pub rest_cleans : (h h' : LogState D) (vs : List ℕ) → Cleans state h h' vs → IsAtRest h'
-  rest_cleans h h' vs s = record { nothing = s.empty; untaken = s.untaken; many = s.many }
+  rest_cleans : {h h' : LogState D} {vs : List ℕ} → Cleans state h h' vs → IsAtRest h'
+  rest_cleans s = record { nothing = s.empty; untaken = s.untaken; many = s.many }
 
   pub keeps_reads : {a b : LogState D} → IsLawful (state a.device) → a.halted ≡ false → Reads state a b → KeepsMap state a b 0
   keeps_reads {a} {b} lawful running reads = record {
@@ -51,60 +49,47 @@ module _ {D : Type 0} (state : D → DeviceState) where
     segments = reads.segments;
     totals = reads.totals;
     saved = λ all. reads.saved ∙ all;
-    rest = λ rest. rest_reads state a b reads rest;
+    rest = λ rest. rest_reads _ a b reads rest;
     holds = λ k m0 m keeps is map.
-        record { checkpoint = k; acknowledged = m0; either = inl refl; same = refl; holds = held_still state reads is };
+        record { checkpoint = k; acknowledged = m0; either = inl refl; same = refl; holds = held_still _ reads is };
     moment = λ k m0 m keeps is map.
-        weaker (λ c. StandsOn k.segments c m0) (IsSaved state k.segments m0 m) (λ c there. inl there)
-        (looks_leave state m lawful reads.looks is);
+        weaker (λ c. StandsOn k.segments c m0) _ (λ c there. inl there) (looks_leave _ m lawful reads.looks is);
   }
 
-  pub saves_all : (h : LogState D) {h' : LogState D} → Saves state h h' → SavesAll state h h'
-  saves_all h {h'} s = record { saved = s.saved; rest = rest_saves s; holds = s.holds }
+  pub saves_all : {h h' : LogState D} → Saves state h h' → SavesAll state h h'
+  saves_all s = record { saved = s.saved; rest = rest_saves s; holds = s.holds }
 
-  pub cleans_all : (h h' : LogState D) (vs : List ℕ) → Cleans state h h' vs → SavesAll state h h'
-  cleans_all h h' vs s = record { saved = s.saved; rest = rest_cleans h h' vs s; holds = s.holds }
+  cleans_all : {h h' : LogState D} {vs : List ℕ} → Cleans state h h' vs → SavesAll state h h'
+  cleans_all s = record { saved = s.saved; rest = rest_cleans s; holds = s.holds }
 
-  saved_over : (h h' : LogState D) → h'.segments ≡ h.segments → SavesAll state h h'
-      → (k : CheckpointValue) (m0 m : LogMap) → (state h'.device).keeps_model → Holds state h k m0 m → IsLogMap (dropped m)
-      → HoldsOver state k.segments m0 m h'
-  saved_over h h' same all k m0 m keeps is map =
-      let next = all.holds k m0 m keeps is map in
-      record {
-        checkpoint = next.0;
-        acknowledged = dropped m;
-        either = inr refl;
-        same = same_segments state next.0 same is next.1;
-        holds = next.1;
-      }
-
-  pub keeps_saves : (h h' : LogState D) → Saves state h h' → h'.totals ≡ h.totals → KeepsMap state h h' 1
-  keeps_saves h h' s totals = record {
-    carries = s.carries;
-    running = s.running;
-    later = (let n = s.number in omega (arith, n));
-    number = (let n = s.number in omega (arith, n));
-    segments = s.segments;
+  keeps_all : {h h' : LogState D} → SavesAll state h h' → Carries (state h.device) (state h'.device) → h'.halted ≡ false
+      → h'.number ≡ h.number + 1 → h'.segments ≡ h.segments → h'.totals ≡ h.totals → LeavesSaved state h h' → KeepsMap state h h' 1
+  keeps_all all carries running number segments totals moment = record {
+    carries = carries;
+    running = running;
+    later = omega (arith, number);
+    number = omega (arith, number);
+    segments = segments;
     totals = totals;
-    saved = λ all. s.saved;
-    rest = λ rest. rest_saves s;
-    holds = saved_over h h' s.segments (saves_all h s);
-    moment = s.moment;
+    saved = λ was. all.saved;
+    rest = λ was. all.rest;
+    holds = λ k m0 m keeps is map.
+        let next = all.holds k m0 m keeps is map in
+        record {
+          checkpoint = next.0;
+          acknowledged = dropped m;
+          either = inr refl;
+          same = same_segments _ _ segments is next.1;
+          holds = next.1;
+        };
+    moment = moment;
   }
 
-  pub keeps_cleans : (h h' : LogState D) (vs : List ℕ) → Cleans state h h' vs → h'.totals ≡ h.totals → KeepsMap state h h' 1
-  keeps_cleans h h' vs s totals = record {
-    carries = s.carries;
-    running = s.running;
-    later = (let n = s.number in omega (arith, n));
-    number = (let n = s.number in omega (arith, n));
-    segments = s.segments;
-    totals = totals;
-    saved = λ all. s.saved;
-    rest = λ rest. rest_cleans h h' vs s;
-    holds = saved_over h h' s.segments (cleans_all h h' vs s);
-    moment = s.moment;
-  }
+  pub keeps_saves : {h h' : LogState D} → Saves state h h' → h'.totals ≡ h.totals → KeepsMap state h h' 1
+  keeps_saves s totals = keeps_all (saves_all s) s.carries s.running s.number s.segments totals s.moment
+
+  keeps_cleans : {h h' : LogState D} {vs : List ℕ} → Cleans state h h' vs → h'.totals ≡ h.totals → KeepsMap state h h' 1
+  keeps_cleans s totals = keeps_all (cleans_all s) s.carries s.running s.number s.segments totals s.moment
 
   pub keeps_weaker : {a b : LogState D} {x y : ℕ} → KeepsMap state a b x → x ≤ y → KeepsMap state a b y
   keeps_weaker one le = record {
@@ -122,20 +107,18 @@ module _ {D : Type 0} (state : D → DeviceState) where
 
   -- ---- one step after another
   -- what is one of the two for the log map in the middle is one of the two for that at the start
-  module _ (a b : LogState D) (k : CheckpointValue) {m0 : LogMap} (m : LogMap) (over : HoldsOver state k.segments m0 m b) where
-    pub saved_still : (c : Content) → IsSaved state over.checkpoint.segments over.acknowledged m c → IsSaved state k.segments m0 m c
+  module _ {b : LogState D} (k : CheckpointValue) {m0 m : LogMap} (over : HoldsOver state k.segments m0 m b) where
+    saved_still : (c : Content) → IsSaved state over.checkpoint.segments over.acknowledged m c → IsSaved state k.segments m0 m c
     saved_still c is = ⊎_elim
         (λ (first : StandsOn over.checkpoint.segments c over.acknowledged).
-        let here : StandsOn k.segments c over.acknowledged = subst (λ (l : ℕ). StandsOn l c over.acknowledged) over.same first in
+        let here : StandsOn k.segments c over.acknowledged = rw (← over.same) first in
         ⊎_elim
-        (λ (old : over.acknowledged ≡ m0). inl (subst (λ (l : LogMap). StandsOn k.segments c l) old here))
-        (λ (new : over.acknowledged ≡ dropped m). inr (subst (λ (l : LogMap). StandsOn k.segments c l) new here))
-        over.either)
-        (λ (second : StandsOn over.checkpoint.segments c (dropped m)). inr (subst (λ (l : ℕ). StandsOn l c (dropped m)) over.same second))
-        is
+        (λ (old : over.acknowledged ≡ m0). inl (rw (← old) here))
+        (λ (new : over.acknowledged ≡ dropped m). inr (rw (← new) here)) over.either)
+        (λ (second : StandsOn over.checkpoint.segments c (dropped m)). inr (rw (← over.same) second)) is
 
-    over_then : (c : LogState D) → HoldsOver state over.checkpoint.segments over.acknowledged m c → HoldsOver state k.segments m0 m c
-    over_then c next = record {
+    over_then : {c : LogState D} → HoldsOver state over.checkpoint.segments over.acknowledged m c → HoldsOver state k.segments m0 m c
+    over_then next = record {
       checkpoint = next.checkpoint;
       acknowledged = next.acknowledged;
       either = ⊎_elim
@@ -148,15 +131,12 @@ module _ {D : Type 0} (state : D → DeviceState) where
     }
 
   module _ {a b : LogState D} (c : LogState D) {x : ℕ} (one : KeepsMap state a b x) where
-    module _ (after : Carries (state b.device) (state c.device)) (moment : LeavesSaved state b c) where
-      moment_then : LeavesSaved state a c
-      moment_then k m0 m keeps is map =
-          let back = after.kept_before keeps in
-          let over = one.holds k m0 m back is map in
-          joined (IsSaved state k.segments m0 m)
-          (IsSaved state over.checkpoint.segments over.acknowledged m) (IsSaved state k.segments m0 m)
-          (one.moment k m0 m back is map) (moment over.checkpoint over.acknowledged m keeps over.holds map) (λ x p. p)
-          (saved_still a b k m over)
+    moment_then : Carries (state b.device) (state c.device) → LeavesSaved state b c → LeavesSaved state a c
+    moment_then after moment k m0 m keeps is map =
+        let back = after.kept_before keeps in
+        let over = one.holds k m0 m back is map in
+        joined _ _ _ (one.moment k m0 m back is map) (moment over.checkpoint over.acknowledged m keeps over.holds map) (λ x p. p)
+        (saved_still k over)
 
     pub keeps_then : {y : ℕ} → KeepsMap state b c y → KeepsMap state a c (x + y)
     keeps_then two = record {
@@ -170,7 +150,7 @@ module _ {D : Type 0} (state : D → DeviceState) where
       rest = λ rest. two.rest (one.rest rest);
       holds = λ k m0 m keeps is map.
           let over = one.holds k m0 m (two.carries.kept_before keeps) is map in
-          over_then a b k m over c (two.holds over.checkpoint over.acknowledged m keeps over.holds map);
+          over_then k over (two.holds over.checkpoint over.acknowledged m keeps over.holds map);
       moment = moment_then two.carries two.moment;
     }
 
@@ -200,8 +180,7 @@ module _ {D : Type 0} (state : D → DeviceState) where
       cause = fault_then two.carries two.cause;
       left = λ k m0 m keeps is map.
           let over = one.holds k m0 m (two.carries.kept_before keeps) is map in
-          λ content left.
-          saved_still a b k m over content (two.left over.checkpoint over.acknowledged m keeps over.holds map content left);
+          λ content left. saved_still k over _ (two.left over.checkpoint over.acknowledged m keeps over.holds map content left);
       moment = moment_then two.carries two.moment;
     }
 
@@ -227,36 +206,35 @@ module _ {D : Type 0} (state : D → DeviceState) where
     moment = one.moment;
   }
 
-  pub read_fault : (a b : LogState D) → IsReadFault state a b → IsRoomFault state a b
-  read_fault a b failed k m0 m keeps is map = failed k m0 m keeps is
+  pub read_fault : {a : LogState D} (b : LogState D) → IsReadFault state a b → IsRoomFault state a b
+  read_fault b failed k m0 m keeps is map = failed k m0 m keeps is
 
   -- ---- passes that are done
-  pub repeats_none : (h : LogState D) → IsLawful (state h.device) → h.halted ≡ false → Repeats state h h 0
-  repeats_none h lawful running =
-      record { passes = (0, omega arith, refl); keeps = keeps_none h lawful running; no_failure = refl; saved = inl refl }
+  pub repeats_none : {h : LogState D} → IsLawful (state h.device) → h.halted ≡ false → Repeats state h h 0
+  repeats_none lawful running =
+      record { passes = (0, omega arith, refl); keeps = keeps_none _ lawful running; no_failure = refl; saved = inl refl }
 
-  pub repeats_passes : (h : LogState D) {h' : LogState D} → PassesInNeed state h h' → h'.totals ≡ h.totals → Repeats state h h' 1
-  repeats_passes h {h'} need totals =
-      let vs = need.passes.victims in
+  pub repeats_passes : {h h' : LogState D} → PassesInNeed state h h' → h'.totals ≡ h.totals → Repeats state h h' 1
+  repeats_passes {h} need totals =
       let s = need.passes.cleans in
       record {
         passes = (1, omega arith, (h, refl, need));
-        keeps = keeps_cleans h h' vs s totals;
+        keeps = keeps_cleans s totals;
         no_failure = s.no_failure;
-        saved = inr (cleans_all h h' vs s);
+        saved = inr (cleans_all s);
       }
 
   -- what was done first, and then the rest
   passes_then : (a b c : LogState D) (x y : ℕ) → PassesOn state x a b → PassesOn state y b c
       → (count : ℕ) × (count ≤ x + y) × PassesOn state count a c
-  passes_then a b c x zero one two = (x, omega arith, subst (λ (h : LogState D). PassesOn state x a h) (sym two) one)
+  passes_then a b c x zero one two = (x, omega arith, rw two one)
   passes_then a b c x (suc y) one two =
       let rest = passes_then a b two.0 x y one two.1 in
       let few = rest.1 in
       (suc rest.0, omega (arith, few), (two.0, rest.2, two.2))
 
-  pub repeats_then : (a b c : LogState D) (x y : ℕ) → Repeats state a b x → Repeats state b c y → Repeats state a c (x + y)
-  repeats_then a b c x y one two = record {
+  pub repeats_then : {a b c : LogState D} {x y : ℕ} → Repeats state a b x → Repeats state b c y → Repeats state a c (x + y)
+  repeats_then {a} {b} {c} one two = record {
     passes =
         let w = one.passes in
         let w' = two.passes in
@@ -268,7 +246,7 @@ module _ {D : Type 0} (state : D → DeviceState) where
     keeps = keeps_then c one.keeps two.keeps;
     no_failure = two.no_failure ∙ one.no_failure;
     saved = ⊎_elim
-        (λ (same : c ≡ b). subst (λ (h : LogState D). (h ≡ a) ⊎ SavesAll state a h) (sym same) one.saved)
+        (λ (same : c ≡ b). rw same one.saved)
         (λ (all : SavesAll state b c). inr (saved_then c one.keeps two.keeps.carries all)) two.saved;
   }
 

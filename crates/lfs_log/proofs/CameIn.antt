@@ -1,6 +1,6 @@
 -- Which blocks come into memory: what calls one after the other bring, and that these blocks stood on the device before.
 use Rattle.std.proofs.Common.{◌≡◌, ◌<◌, ◌≤◌, ⊎_elim, ◌+◌, ℕ, zero, suc, List, [], ◌∷◌, length, get_or, Some, None, refl, sym, ◌∙◌, ap}
-use Rattle.std.proofs.Common.{subst, arith, inl, inr}
+use Rattle.std.proofs.Common.{arith, inl, inr}
 use Rattle.std.proofs.lemmas.Bool.{cases_eq}
 use Rattle.lfs_model.specs.Checkpoint.{CheckpointValue}
 use Rattle.lfs_model.specs.Counting.{segment_of}
@@ -35,7 +35,7 @@ pub lacks_own : (v : LogMemory) (x : Entry) → (IsInMemory v x → ⊥) → Lac
 lacks_own v x out = (x, on_way x, out)
 
 pub lacks_above : (v : LogMemory) (x : Entry) {up : Entry} → up ≡ parent x → LacksOnWay v up → LacksOnWay v x
-lacks_above v x {up} named lacks = (lacks.0, way_above x lacks.0 named lacks.1, lacks.2)
+lacks_above v x {up} named lacks = (lacks.0, way_above x _ named lacks.1, lacks.2)
 
 pub way_then : (v v' v'' : LogMemory) (x : Entry) {up : Entry} → up ≡ parent x → BringsWay v v' up → BringsOne v' v'' x → BringsWay v v'' x
 way_then v v' v'' x {up} named one two y there = ⊎_elim
@@ -59,12 +59,12 @@ no_data_above x (Usage j) named is = is
 
 file_above : (n : ℕ) (x : Entry) → IsOfFile x → IsOfFile (climb n x)
 file_above zero x is = is
-file_above (suc n) x is = file_above n (parent x) (is.0, file_of_parent x ∙ is.1)
+file_above (suc n) x is = file_above n _ (is.0, file_of_parent x ∙ is.1)
 
 -- a block of data is above no other
 data_own : (n : ℕ) (x : Entry) → IsDataBlock (climb n x) → climb n x ≡ x
 data_own zero x is = refl
-data_own (suc n) x is = let same = data_own n (parent x) is in absurd (no_data_above x (parent x) refl (subst IsDataBlock same is))
+data_own (suc n) x is = let same = data_own n _ is in absurd (no_data_above x _ refl (rw (← same) is))
 
 -- ---- a block that stands where it was looked for comes in, with those above it
 module _ (a b c : DeviceState) (v v' : LogMemory) (x : Entry) (there address : ℕ) (file : IsOfFile x)
@@ -78,19 +78,19 @@ module _ (a b c : DeviceState) (v v' : LogMemory) (x : Entry) (there address : �
 
     some_above : (n : ℕ) (y : Entry) → 0 < M.at y → 0 < M.at (climb n y)
     some_above zero y some = some
-    some_above (suc n) y some = some_above n (parent y) (is.running.laid.down y some)
+    some_above (suc n) y some = some_above n _ (is.running.laid.down y some)
 
     stands : (y : Entry) → IsOnWay x y → (M.at y ≡ 1 → ⊥) → StandsWhere (IsBetween address (address + 1)) M y
     stands y way not_one =
         let own = own_at in
-        let some : 0 < M.at y = subst (λ (z : Entry). 0 < M.at z) (sym way.1) (some_above way.0 x (omega (arith, own, above))) in (
+        let some : 0 < M.at y = rw way.1 (some_above way.0 x (omega (arith, own, above))) in (
           omega (arith, some, not_one),
-          λ own_data. (let e : y ≡ x = way.1 ∙ data_own way.0 x (subst IsDataBlock way.1 own_data) in let at = ap M.at e ∙ own in
+          λ own_data. (let e : y ≡ x = way.1 ∙ data_own way.0 x (rw (← way.1) own_data) in let at = ap M.at e ∙ own in
               (omega (arith, at), omega (arith, at))),
         )
 
     inside_one : (y : Entry) → IsOnWay x y → M.at y ≡ 1 → IsInMemory v y
-    inside_one y way one = is.running.cached.found y (subst IsOfFile (sym way.1) (file_above way.0 x file)) one
+    inside_one y way one = is.running.cached.found y (rw way.1 (file_above way.0 x file)) one
 
   pub came_there : BringsWay v v' x → CameFrom a c v v' (IsBetween address (address + 1))
   came_there brings k m0 m keeps is y inside = ⊎_elim
@@ -104,7 +104,7 @@ module _ (a b c : DeviceState) (v v' : LogMemory) (x : Entry) (there address : �
   pub misses_there : ((y : Entry) → IsInMemory v y → IsInMemory v' y) → LacksOnWay v' x → Misses a c v v' (IsBetween address (address + 1))
   misses_there stay lacks = record {
     block = lacks.0;
-    file = let way = lacks.1 in subst IsOfFile (sym way.1) (file_above way.0 x file);
+    file = let way = lacks.1 in rw way.1 (file_above way.0 x file);
     outside = lacks.2;
     stood = λ k m0 m keeps is.
         stands k m0 m keeps is lacks.0 lacks.1 (λ one. lacks.2 (stay lacks.0 (inside_one k m0 m keeps is lacks.0 lacks.1 one)));
@@ -112,14 +112,14 @@ module _ (a b c : DeviceState) (v v' : LogMemory) (x : Entry) (there address : �
 
 -- ---- no block comes in
 pub came_none : (d d' : DeviceState) (v v' : LogMemory) (P : ℕ → Type 0) → v'.dirty ≡ v.dirty → CameFrom d d' v v' P
-came_none d d' v v' P same k m0 m keeps is x there = inl (subst (λ (t : TableValue). (b : List ℕ) × (blocks_of t x ≡ Some b)) same there)
+came_none d d' v v' P same k m0 m keeps is x there = inl (rw (← same) there)
 
 -- ---- one call after the other
 -- what stands somewhere stood there before
 stood_before : (P : ℕ → Type 0) (M M' : Memory) (x : Entry) → ((y : Entry) → 2 ≤ M'.at y → M.at y ≡ M'.at y) → StandsWhere P M' x
     → StandsWhere P M x
 stood_before P M M' x traces stands = let same = traces x stands.0 in
-    (let above = stands.0 in omega (arith, same, above), λ is. subst P (sym same) (stands.1 is))
+    (let above = stands.0 in omega (arith, same, above), λ is. rw same (stands.1 is))
 
 module _ (a b c : DeviceState) (v v' v'' : LogMemory) (P : ℕ → Type 0) (one : Relocates a b v v')
     (back : c.keeps_model → b.keeps_model) where
@@ -161,7 +161,7 @@ module _ (d d' : DeviceState) (v v' : LogMemory) (P Q : ℕ → Type 0) (wider :
 
 -- ---- a block that comes in where the table grows by one
 pub brings_same : (v v' : LogMemory) (x : Entry) → v'.dirty ≡ v.dirty → BringsOne v v' x
-brings_same v v' x same y there = inl (subst (λ (t : TableValue). (b : List ℕ) × (blocks_of t y ≡ Some b)) same there)
+brings_same v v' x same y there = inl (rw (← same) there)
 
 pub still_out : (v v' : LogMemory) (x : Entry) → v'.dirty ≡ v.dirty → blocks_of v.dirty x ≡ None → IsInMemory v' x → ⊥
 still_out v v' x same none there =
@@ -186,7 +186,7 @@ among_one vs i s is lt at between =
     let from = between.0 in
     let to = between.1 in
     let here : segment_of at ≡ s = omega (arith, from, to) in
-    subst (IsIn vs) (sym (here ∙ is)) (in_list vs i lt)
+    rw (here ∙ is) (in_list vs i lt)
 
 -- ---- after the device was only looked at, before or behind
 pub came_looked : (a b c : DeviceState) (v v' : LogMemory) (P : ℕ → Type 0) → (c.keeps_model → b.keeps_model) → CameFrom a b v v' P

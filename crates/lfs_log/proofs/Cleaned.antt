@@ -1,13 +1,12 @@
 -- Segments whose blocks came into memory: nothing lives there, and a commit makes them clean.
-use Rattle.std.proofs.Common.{◌≡◌, ◌<◌, ◌≤◌, ⊎_elim, ℕ, zero, suc, Bool, true, false, List, [], ◌∷◌, Option, length, get_or, refl}
-use Rattle.std.proofs.Common.{sym, ◌∙◌, ap, ap₂, subst, arith, ◌&&◌, eq-eqb}
+use Rattle.std.proofs.Common.{◌≡◌, ◌<◌, ◌≤◌, ⊎_elim, ℕ, zero, suc, Bool, true, false, List, [], ◌∷◌, length, get_or, refl}
+use Rattle.std.proofs.Common.{sym, ◌∙◌, ap, ap₂, arith, ◌&&◌, eq-eqb}
 use Rattle.std.specs.List.{AllByRecursion}
 use Rattle.std.proofs.lemmas.Bool.{cond-true}
 use Rattle.lfs_model.specs.Checkpoint.{CheckpointValue}
 use Rattle.lfs_model.specs.Device.{DeviceState}
-use Rattle.lfs_model.specs.Entry.{Entry}
 use Rattle.lfs_model.specs.Members.{IsIn, AreApart}
-use Rattle.lfs_model.specs.Running.{Running, IsTight}
+use Rattle.lfs_model.specs.Running.{Running}
 use Rattle.lfs_model.specs.Stands.{LogMap, count_up}
 use Rattle.lfs_model.proofs.EmptySegment.{empty_segment}
 use Rattle.lfs_model.proofs.Live.{count_up_none, count_up_more}
@@ -17,7 +16,7 @@ use Rattle.lfs_memory.specs.segments.Spare.{is_emptied, emptied_in}
 use Rattle.lfs_memory.specs.segments.Steps.{Releases, is_empty}
 use Rattle.lfs_memory.specs.segments.Table.{SegmentNumbers, UsageTable, no_segment, used_of}
 use Rattle.lfs_memory.specs.inodes.MapValue.{MapValue}
-use Rattle.lfs_memory.specs.inodes.Blocks.{Blocks, TableValue, blocks_in, blocks_of}
+use Rattle.lfs_memory.specs.inodes.Blocks.{Blocks, TableValue, blocks_of}
 use Rattle.lfs_memory.specs.declared.memory.LogMemory.{LogMemory}
 use Rattle.lfs_memory.specs.Changing.{Tightens}
 use Rattle.lfs_memory.specs.Memory.{IsLog, IsLoose, tables_of, segment_in, chunk_in}
@@ -38,11 +37,11 @@ module _ {a b : DeviceState} {v v' : LogMemory} (vs : List ℕ) (one : Relocates
       let s = get_or vs i 0 in
       let now = vacates k m0 m keeps is in
       let laid = now.0.running.laid in
-      let empty = empty_segment b.content m now.0.running.memory (segment_in v'.chunk) (get_or vs i 0) laid
+      let empty = empty_segment _ m _ _ _ laid
       (λ y above same. now.2 i lt y (omega (arith, above, same)) (omega (arith, above, same))) in
       let was = victims i lt in
       record {
-        used = subst (λ (n : ℕ). 0 < n) (sym (one.gathers.used (get_or vs i 0))) was.used;
+        used = rw (one.gathers.used (get_or vs i 0)) was.used;
         before = one.gathers.kept (get_or vs i 0) ∙ was.before ∙ sym (one.gathers.used (get_or vs i 0));
         live = now.0.running.tables.live (get_or vs i 0) ∙ empty.0;
         held = now.0.running.tables.held (get_or vs i 0) ∙ empty.1;
@@ -59,7 +58,7 @@ empties {a} {b} {v} {v'} {v''} {vs} one emptied go = record {
   segments = go.stays.segments ∙ one.segments;
   clean = go.stays.clean ∙ one.clean;
   chunk = ap (λ (c : Chunk). c.names) (go.stays.chunk ∙ one.chunk);
-  emptied = subst (λ (u : UsageTable). AreEmptied u vs) (sym go.usage) emptied;
+  emptied = rw go.usage emptied;
   log = λ k m0 m keeps is. tightened_log k m go (one.gathers.traces k m0 m keeps (loose a v k m0 m is)).0;
 }
 
@@ -76,13 +75,6 @@ table_by t {bs} limit blocks same =
 abbrev pub beside : LogMemory → TableValue → Chunk → LogMemory
 beside v t c = record { map = v.map; usage = v.usage; dirty = t; chunk = c }
 
--- with tables that are copies of its own
-pub by_tables : (P : LogMemory → Type 0) (v : LogMemory) {map : MapValue} {usage : UsageTable} (t : TableValue) (c : Chunk) → map ≡ v.map
-    → usage ≡ v.usage → P (record { map = map; usage = usage; dirty = t; chunk = c }) → P (beside v t c)
-by_tables P v {map} {usage} t c same_map same_usage is =
-    subst (λ (u : UsageTable). P (record { map = v.map; usage = u; dirty = t; chunk = c })) same_usage
-    (subst (λ (m : MapValue). P (record { map = m; usage = usage; dirty = t; chunk = c })) same_map is)
-
 module _ (v : LogMemory) (t : TableValue) (c : Chunk) (same : t.blocks ≡ v.dirty.blocks) (ended : v.chunk.names ≡ [])
     (closed : c.names ≡ []) where
   begun : (segment_in v.chunk ≡ segment_in c) × (chunk_in v.chunk ≡ chunk_in c)
@@ -95,46 +87,49 @@ module _ (v : LogMemory) (t : TableValue) (c : Chunk) (same : t.blocks ≡ v.dir
       → Running d (blocks_of v.dirty) (tables_of v) k m0 m (segment_in v.chunk) (chunk_in v.chunk)
       → Running d (blocks_of t) (tables_of v) k m0 m (segment_in c) (chunk_in c)
   running_beside d k m0 m is =
-      subst (λ (bs : Blocks). Running d (blocks_in bs) (tables_of v) k m0 m (segment_in c) (chunk_in c)) (sym same)
-      (subst (λ (o : Option (List Entry)). Running d (blocks_of v.dirty) (tables_of v) k m0 m (segment_in c) o) begun.1
-      (subst (λ (s : ℕ). Running d (blocks_of v.dirty) (tables_of v) k m0 m s (chunk_in v.chunk)) begun.0 is))
+      rw same (rw (← begun.1) (rw (← begun.0) is))
 
   pub log_beside : {d : DeviceState} (k : CheckpointValue) {m0 : LogMap} (m : LogMap) → IsLog d v k m0 m → IsLog d (beside v t c) k m0 m
   log_beside {d} k {m0} m is = record {
     running = running_beside d k m0 m is.running;
     hidden = is.hidden;
     segments = is.segments;
-    tight = subst (λ (bs : Blocks). IsTight (blocks_in bs)) (sym same) is.tight;
+    tight = rw same is.tight;
   }
 
   pub loose_beside : (d : DeviceState) (k : CheckpointValue) (m0 m : LogMap) → IsLoose d v k m0 m → IsLoose d (beside v t c) k m0 m
   loose_beside d k m0 m is =
       record { running = running_beside d k m0 m is.running; hidden = is.hidden; segments = is.segments }
 
-  pub empties_beside : (a : DeviceState) {b : DeviceState} {v' : LogMemory} {vs : List ℕ} → Empties a b (beside v t c) v' vs
-      → Empties a b v v' vs
-  empties_beside a one = record {
-    looks = one.looks;
-    memory = one.memory;
-    segments = one.segments;
-    clean = one.clean;
-    chunk = one.chunk ∙ closed ∙ sym ended;
-    emptied = one.emptied;
-    log = λ k m0 m keeps is. one.log k m0 m keeps (log_beside k m is);
-  }
+  -- with tables that are copies of its own
+  module _ {map : MapValue} {usage : UsageTable} (same_map : map ≡ v.map) (same_usage : usage ≡ v.usage) (a b : DeviceState) where
+    abbrev copied : LogMemory
+    copied = record { map = map; usage = usage; dirty = t; chunk = c }
 
-  pub fails_beside : (a b : DeviceState) → FailsFromDevice a b (beside v t c) → FailsFromDevice a b v
-  fails_beside a b failed k m0 m keeps is = failed k m0 m keeps (loose_beside a k m0 m is)
+    pub empties_beside : {v' : LogMemory} {vs : List ℕ} → Empties a b copied v' vs → Empties a b v v' vs
+    empties_beside {v'} {vs} copy =
+        let one : Empties a b (beside v t c) v' vs = rw (← same_map, ← same_usage) copy in
+        record {
+          looks = one.looks;
+          memory = one.memory;
+          segments = one.segments;
+          clean = one.clean;
+          chunk = one.chunk ∙ closed ∙ sym ended;
+          emptied = one.emptied;
+          log = λ k m0 m keeps is. one.log k m0 m keeps (log_beside k m is);
+        }
 
-  pub overfills : (a b : DeviceState) {most : ℕ} {w : LogMemory} {vs : List ℕ} → t.capacity.limit ≡ most
-      → Crowds a b (beside v t c) w vs → Overfills a b v vs most
-  overfills a b {most} {w} {vs} limit one = record {
-    room = t.capacity.room;
-    chunk = c;
-    closed = closed;
-    after = w;
-    crowds = subst (λ (t : TableValue). Crowds a b (beside v t c) w vs) (table_by t most same limit) one;
-  }
+    pub fails_beside : FailsFromDevice a b copied → FailsFromDevice a b v
+    fails_beside failed k m0 m keeps is = failed k m0 m keeps (rw (same_map, same_usage) (loose_beside a k m0 m is))
+
+    pub overfills : {most : ℕ} {w : LogMemory} {vs : List ℕ} → t.capacity.limit ≡ most → Crowds a b copied w vs → Overfills a b v vs most
+    overfills {most} {w} {vs} limit one = record {
+      room = t.capacity.room;
+      chunk = c;
+      closed = closed;
+      after = w;
+      crowds = rw (← table_by t most same limit) (rw (← same_map, ← same_usage) one);
+    }
 
 -- ---- how many were emptied
 no_test : ℕ → Bool
@@ -142,7 +137,7 @@ no_test s = false
 
 none_pass : (n : ℕ) → count_up no_test n ≡ 0
 unfolding no_test
-none_pass zero = count_up_none no_test
+none_pass zero = count_up_none _
 none_pass (suc n) = let rest = none_pass n in let more = count_up_more no_test n in omega (arith, rest, more)
 
 in_each : (P : ℕ → Type 0) (vs : List ℕ) → ((i : ℕ) → i < length vs → P (get_or vs i 0)) → AllByRecursion P vs
@@ -152,7 +147,7 @@ in_each P (v ∷ vs) each = (each 0 (omega arith), in_each P vs (λ i lt. each (
 pub at_one : (P : ℕ → Type 0) (vs : List ℕ) (s : ℕ) → ((i : ℕ) → i < length vs → P (get_or vs i 0)) → IsIn vs s → P s
 at_one P [] s each is = absurd is
 at_one P (v ∷ vs) s each is = ⊎_elim
-    (λ (here : s ≡ v). subst P (sym here) (each 0 (omega arith)))
+    (λ (here : s ≡ v). rw here (each 0 (omega arith)))
     (λ (there : IsIn vs s). at_one P vs s (λ i lt. each (suc i) (omega (arith, lt))) there)
     is
 

@@ -1,6 +1,6 @@
 -- Blocks that are written between commits are counted as early.
 use Rattle.std.proofs.Common.{◌≡◌, ◌<◌, ◌≤◌, ⊎_elim, ◌+◌, ◌==◌, cond, ℕ, Bool, Some, None, List, [], ◌∷◌, ◌++◌, length, refl, sym, ◌∙◌, ap}
-use Rattle.std.proofs.Common.{subst, arith, nat_lt}
+use Rattle.std.proofs.Common.{arith, nat_lt}
 use Rattle.lfs_model.specs.Summary.{BlockNameValue}
 use Rattle.lfs_memory.specs.segments.Table.{UsageTable, used_of, kept_of, clean_in}
 use Rattle.lfs_memory.specs.segments.Chunk.{Chunk, due_in, room_behind, room_in}
@@ -15,6 +15,8 @@ use Rattle.lfs_memory.proofs.Going.{goes_none, goes_then}
 use Rattle.lfs_memory.proofs.of_segments.Early.{early_noted, early_taken}
 use Rattle.lfs_memory.proofs.Begun.{zero_or_more}
 use Rattle.lfs_memory.proofs.Rooms.{room_none, room_some}
+use Rattle.lfs_log.specs.Placing.{SavesBlocks, StopsSaving}
+use Rattle.lfs_log.specs.Telling.{orders_due}
 use Rattle.lfs_log.specs.Early.{GoesEarly, IsBegunFresh, IsFresh, WritesChunks, blocks_due}
 
 -- nothing begins behind a segment that has room for no more than a summary
@@ -52,8 +54,7 @@ module _ (v v' : LogMemory) (name : BlockNameValue) (lives : Bool) (age place : 
   early_middle : early_in p.middle.segments ≡ early_in v.usage.segments
   early_middle = ⊎_elim
       (λ (none : length v.chunk.names ≡ 0). early_taken (taken none))
-      (λ (some : 0 < length v.chunk.names). ap (λ (t : UsageTable). early_in t.segments) (p.went_on some).0)
-      (zero_or_more (length v.chunk.names))
+      (λ (some : 0 < length v.chunk.names). ap (λ (t : UsageTable). early_in t.segments) (p.went_on some).0) (zero_or_more _)
 
   pub placed_fresh : IsBegunFresh v'
   placed_fresh = (some_names v.chunk.names p.names, p.noted.kept v'.chunk.segment ∙ kept_middle)
@@ -63,13 +64,13 @@ module _ (v v' : LogMemory) (name : BlockNameValue) (lives : Bool) (age place : 
       longer (x ∷ xs) = omega arith
 
       some_names : (xs : List BlockNameValue) → v'.chunk.names ≡ xs ++ name ∷ [] → 0 < length v'.chunk.names
-      some_names xs is = subst (λ (ys : List BlockNameValue). 0 < length ys) (sym is) (longer xs)
+      some_names xs is = rw is (longer xs)
 
   pub placed_early : early_in v'.usage.segments ≡ early_in v.usage.segments + 1
   placed_early =
       let inside = p.opened.inside in
       let size = p.noted.size in
-      let noted = early_noted lives (omega (arith, inside, size)) kept_middle p.noted in
+      let noted = early_noted _ (omega (arith, inside, size)) kept_middle p.noted in
       let same = early_middle in
       omega (arith, noted, same)
 
@@ -96,7 +97,7 @@ begun_fresh is = record {
 -- the same chunk and table
 pub begun_same : (v v' : LogMemory) → v'.usage ≡ v.usage → v'.chunk ≡ v.chunk → IsBegunFresh v → IsBegunFresh v'
 begun_same v v' usage chunk is = (
-  subst (λ (c : Chunk). 0 < length c.names) (sym chunk) is.0,
+  rw chunk is.0,
   ap (λ (u : UsageTable). kept_of u v'.chunk.segment) usage ∙ ap (λ (c : Chunk). kept_of v.usage c.segment) chunk ∙ is.1,
 )
 
@@ -156,10 +157,10 @@ ended_now d v lawful memory closed =
 pub ended_goes : {d : DeviceState} (v : LogMemory) {u : UsageTable} → u ≡ Ended v.usage → IsLawful d → IsMemory v → v.chunk.names ≡ []
     → Goes d d v (record v { usage = u }) 0
 ended_goes {d} v is lawful memory closed =
-    subst (λ (t : UsageTable). Goes d d v (record v { usage = t }) 0) (sym is) (ended_now d v lawful memory closed)
+    rw is (ended_now d v lawful memory closed)
 
 pub ended_fresh : (v : LogMemory) {u : UsageTable} → u ≡ Ended v.usage → v.chunk.names ≡ [] → IsFresh (record v { usage = u })
-ended_fresh v is closed = subst (λ (t : UsageTable). IsFresh (record v { usage = t })) (sym is) (record {
+ended_fresh v is closed = rw is (record {
   closed = λ _. refl;
   begun = λ some. absurd (let none = ap length closed in omega (arith, some, none));
 })
@@ -176,7 +177,7 @@ one_segment v v' closed room =
     omega (arith, none, few, room)
 
 -- the orders that it gave, by those that were due
-pub chunk_told : (v v' : LogMemory) {u : UsageTable} (t t' n : ℕ) → u ≡ Ended v.usage → v.chunk.names ≡ [] → room_of v ≤ room_of v' + 63
+chunk_told : (v v' : LogMemory) {u : UsageTable} (t t' n : ℕ) → u ≡ Ended v.usage → v.chunk.names ≡ [] → room_of v ≤ room_of v' + 63
     → t' + clean_in v'.usage.segments ≤ t + due_in v.chunk u + clean_in u.segments + n → t' ≤ t + n + 1
 chunk_told v v' {u} t t' n is closed room due =
     let one = one_segment v v' closed room in
@@ -184,6 +185,27 @@ chunk_told v v' {u} t t' n is closed room due =
     ∙ ap (λ (w : UsageTable). room_behind w w.last) is in
     let same = ap (λ (w : UsageTable). clean_in w.segments) is in
     omega (arith, one, gone, same, due)
+
+-- of its blocks, and of what was left of it then
+pub saved_told : {a b : DeviceState} (c : DeviceState) (v w' : LogMemory) {w : LogMemory} {u : UsageTable} {n p : ℕ} → u ≡ Ended v.usage
+    → v.chunk.names ≡ [] → SavesBlocks a b (record v { usage = u }) w n p → n ≤ 63 → p ≤ 63 → w'.usage ≡ w.usage
+    → length c.told + clean_in w'.usage.segments ≤ orders_due b w → length c.told ≤ length a.told + 63 + 1
+saved_told {a} c v w' {w} is closed saves few less same told =
+    let tells = saves.tells in
+    let room = saves.goes.room in
+    let before = ap (λ (t : UsageTable). clean_in t.segments) is in
+    let after = ap (λ (t : UsageTable). clean_in t.segments) same in
+    chunk_told v w (length a.told) (length c.told) 63 is closed (omega (arith, before, room, few)) (omega (arith, tells, told, after, less))
+
+-- and where a block wasn't saved
+pub stopped_told : {a b : DeviceState} (v : LogMemory) {w : LogMemory} {u : UsageTable} {n p : ℕ} → u ≡ Ended v.usage → v.chunk.names ≡ []
+    → StopsSaving a b (record v { usage = u }) w n p → n ≤ 63 → length b.told ≤ length a.told + p + 2
+stopped_told {a} {b} v {w} {p} is closed stops few =
+    let tells = stops.tells in
+    let room = stops.room in
+    let before = ap (λ (t : UsageTable). clean_in t.segments) is in
+    let le = chunk_told v w (length a.told) (length b.told) (p + 1) is closed (omega (arith, before, room, few)) (omega (arith, tells)) in
+    omega (arith, le)
 
 -- as many blocks are unsaved: those that left memory are counted where they stand
 pub chunk_due : (v v' v'' : LogMemory) {u : UsageTable} → u ≡ Ended v.usage → v''.dirty ≡ v'.dirty → v''.usage ≡ v'.usage

@@ -1,11 +1,10 @@
 -- The log over its device, as full chunks of data blocks are written between commits.
-use Rattle.std.proofs.Common.{◌≡◌, ◌<◌, ◌≤◌, ◌⊎◌, ⊎_elim, inl, inr, ◌+◌, cond, ℕ, Bool}
+use Rattle.std.proofs.Common.{refl, ◌≡◌, ◌<◌, ◌≤◌, ◌⊎◌, inl, ◌+◌, cond, ℕ, Bool}
 use Rattle.std.proofs.Common.{true, false, [], length, sym, ◌∙◌, ap, ap₂, subst}
 use Rattle.std.proofs.Common.{arith}
 use Rattle.std.specs.Prelude.{max}
-use Rattle.lfs_model.specs.Crash.{StandsOn, StandsForOn}
+use Rattle.lfs_model.specs.Crash.{StandsOn}
 use Rattle.lfs_model.specs.Device.{DeviceState}
-use Rattle.lfs_model.specs.TreeOf.{dropped}
 use Rattle.lfs_model.proofs.Moments.{weaker}
 use Rattle.lfs_model.proofs.Settled.{settled_stands}
 use Rattle.lfs_memory.specs.segments.Table.{clean_in}
@@ -17,79 +16,82 @@ use Rattle.lfs_log.specs.Early.{WritesChunks, full_chunk}
 use Rattle.lfs_log.specs.Thresholds.{reserve_of}
 use Rattle.lfs_memory.proofs.of_inodes.Data.{no_data}
 use Rattle.lfs_log.specs.LogState.{Halts, IsAtRest, WritesEarly}
-use Rattle.lfs_log.specs.Held.{Held, IsReadyToSave, NothingWaits, WaitsForPass, WaitsUnlessSaved, seen}
+use Rattle.lfs_log.specs.Held.{Held, WaitsForPass, WaitsUnlessSaved, seen}
 use Rattle.lfs_log.proofs.Unsaved.{none_left}
+use Rattle.std.proofs.Math.Logic.{⊎_map}
 
-module _ {D : Type 0} (state : D → DeviceState) where
-  pub writes_early : {h : Held D} (h' : Held D) → WritesChunks (state h.device) (state h'.device) h.memory h'.memory → h'.number ≡ h.number
-      → h'.version ≡ h.version → h'.upgraded ≡ h.upgraded → h'.saved ≡ h.saved → h'.halted ≡ false
-      → (h' ≡ h) ⊎ (reserve_of (length h'.memory.usage.segments) ≤ clean_in h'.memory.usage.segments)
-      → (data_count h.memory.dirty < full_chunk → h' ≡ h) → WritesEarly state (seen h) (seen h')
-  writes_early {h} h' c number version upgraded saved running reserve idle = record {
-    carries = c.goes.1.carries;
-    running = running;
-    number = number;
-    upgraded = upgraded;
-    saved = saved;
-    segments = c.goes.1.segments;
-    fewer = c.fewer;
-    only_data = c.only_data;
-    unsaved = ap₂ (λ (all : Bool) (n : ℕ). cond all 0 (max 1 n)) saved
-        (ap₂ (λ (n : ℕ) (raised : Bool). n + cond raised 1 0) c.due upgraded);
-    reserve = subst (λ (n : ℕ). (seen h' ≡ seen h) ⊎ (reserve_of n ≤ clean_in h'.memory.usage.segments)) c.goes.1.segments
-        (⊎_elim (λ (same : h' ≡ h). inl (ap seen same))
-        (λ (kept : reserve_of (length h'.memory.usage.segments) ≤ clean_in h'.memory.usage.segments). inr kept) reserve);
-    idle = λ few. ap seen (idle few);
-    rest = rest_early;
-    taken = c.taken;
-    emptied = emptied_stay c.goes.1.segments c.goes.1.emptied;
-    told = c.told;
-    no_failure = c.goes.1.no_failure;
-    holds = λ k m0 m keeps is. record {
-      log = c.goes.1.log k m0 m keeps is.log;
-      segments = is.segments ∙ sym c.goes.1.segments;
-      number = is.number ∙ sym number;
-      version = is.version ∙ sym version;
-      running = running;
-      nothing_new = λ all. is.nothing_new (sym saved ∙ all);
-      rest = λ all. rest_early (is.rest (sym saved ∙ all));
-    };
-    moment = λ k m0 m keeps is. c.goes.1.quiet k m0 m keeps is.log;
-  }
+module _ {D : Type 0} {state : D → DeviceState} where
+  pub writes_early : {h : Held D} {d : D} {v : LogMemory} → WritesChunks (state h.device) (state d) h.memory v → h.halted ≡ false
+      → ((d ≡ h.device) × (v ≡ h.memory)) ⊎ (reserve_of (length v.usage.segments) ≤ clean_in v.usage.segments)
+      → (data_count h.memory.dirty < full_chunk → (d ≡ h.device) × (v ≡ h.memory))
+      → WritesEarly state (seen h) (seen (record h { device = d; memory = v }))
+  writes_early {h} {d} {v} c running reserve idle =
+      let goes = c.goes.1 in
+      record {
+        carries = goes.carries;
+        running = running;
+        number = refl;
+        upgraded = refl;
+        saved = refl;
+        segments = goes.segments;
+        fewer = c.fewer;
+        only_data = c.only_data;
+        unsaved = ap (λ (n : ℕ). cond h.saved 0 (max 1 (n + cond h.upgraded 1 0))) c.due;
+        reserve = subst (λ (n : ℕ). (seen after ≡ seen h) ⊎ (reserve_of n ≤ clean_in v.usage.segments)) goes.segments
+            (⊎_map all_same (λ (kept : reserve_of (length v.usage.segments) ≤ clean_in v.usage.segments). kept) reserve);
+        idle = λ few. all_same (idle few);
+        rest = rest_early;
+        taken = c.taken;
+        emptied = emptied_stay goes.segments goes.emptied;
+        told = c.told;
+        no_failure = goes.no_failure;
+        holds = λ k m0 m keeps is. record {
+          log = goes.log k m0 m keeps is.log;
+          segments = is.segments ∙ sym goes.segments;
+          number = is.number;
+          version = is.version;
+          running = running;
+          nothing_new = is.nothing_new;
+          rest = λ all. rest_early (is.rest all);
+        };
+        moment = λ k m0 m keeps is. goes.quiet k m0 m keeps is.log;
+      }
     where
-      -- nothing is written where no block waits
-      unwritten : h.memory.dirty.blocks ≡ [] → h' ≡ h
-      unwritten empty = let none = no_data h.memory.dirty empty in idle (omega (arith, none))
+      after : Held D
+      after = record h { device = d; memory = v }
 
-      rest_early : IsAtRest (seen h) → IsAtRest (seen h')
+      all_same : (d ≡ h.device) × (v ≡ h.memory) → seen after ≡ seen h
+      all_same same = ap₂ (λ (d : D) (v : LogMemory). seen (record h { device = d; memory = v })) same.0 same.1
+
+      -- nothing is written where no block waits
+      rest_early : IsAtRest (seen h) → IsAtRest (seen after)
       rest_early rest =
           let empty = rest.nothing.blocks in
-          let none = none_left h.memory.dirty.blocks (omega (arith, empty)) in
-          subst (λ (x : Held D). IsAtRest (seen x)) (sym (unwritten none)) rest
+          let none = no_data h.memory.dirty (none_left h.memory.dirty.blocks (omega (arith, empty))) in
+          rw (all_same (idle (omega (arith, none)))) rest
 
   -- a write that failed: what is acknowledged stays
-  pub early_halts : (h h' : Held D) → Stops (state h.device) (state h'.device) h.memory → h'.halted ≡ true → h'.saved ≡ false
+  pub early_halts : {h h' : Held D} → Stops (state h.device) (state h'.device) h.memory → h'.halted ≡ true → h'.saved ≡ false
       → h'.number ≡ h.number → Halts state (seen h) (seen h')
-  early_halts h h' stops halted unsaved number = record {
+  early_halts {h'} stops halted unsaved number = record {
     carries = stops.carries;
     halted = halted;
     unsaved = unsaved;
     number = number;
     cause = λ k m0 m keeps is. stops.cause k m0 m keeps is.log;
     left = λ k m0 m keeps is map c left. inl (settled_stands (state h'.device) k m0 (stops.settled k m0 m keeps is.log) c left);
-    moment = λ k m0 m keeps is map. weaker (λ x. StandsOn k.segments x m0)
-        (StandsForOn k.segments m0 (dropped m)) (λ x h. inl h) (stops.quiet k m0 m keeps is.log);
+    moment = λ k m0 m keeps is map. weaker (λ x. StandsOn k.segments x m0) _ (λ x h. inl h) (stops.quiet k m0 m keeps is.log);
   }
 
 -- nothing is written where nothing waits, so what is saved stays so, and so does what was relocated
-module _ (v v' : LogMemory) (idle : data_count v.dirty < full_chunk → v' ≡ v) where
+module _ {v v' : LogMemory} (idle : data_count v.dirty < full_chunk → v' ≡ v) where
   unwritten : v.dirty.blocks ≡ [] → v' ≡ v
   unwritten empty = let none = no_data v.dirty empty in idle (omega (arith, none))
 
-  pub early_waits : (upgraded saved : Bool) → WaitsUnlessSaved v upgraded saved → WaitsUnlessSaved v' upgraded saved
-  early_waits upgraded saved waits all =
-      subst (λ (x : LogMemory). NothingWaits x upgraded) (sym (unwritten (waits all).blocks)) (waits all)
+  pub early_waits : {upgraded saved : Bool} → WaitsUnlessSaved v upgraded saved → WaitsUnlessSaved v' upgraded saved
+  early_waits {upgraded} waits all =
+      rw (unwritten (waits all).blocks) (waits all)
 
-  pub early_ready : (pass : LogMemory) (relocated : Bool) → WaitsForPass v pass relocated → WaitsForPass v' pass relocated
-  early_ready pass relocated waits on =
-      subst (λ (x : LogMemory). IsReadyToSave x pass) (sym (unwritten (waits on).nothing)) (waits on)
+  pub early_ready : {pass : LogMemory} {relocated : Bool} → WaitsForPass v pass relocated → WaitsForPass v' pass relocated
+  early_ready {pass} waits on =
+      rw (unwritten (waits on).nothing) (waits on)

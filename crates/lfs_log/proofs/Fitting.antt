@@ -1,6 +1,6 @@
 -- What a pass of the cleaner brings into memory fits: its blocks of data stood in the
 -- victims, and of inodes and blocks of pointers there are no more than the log map has.
-use Rattle.std.proofs.Common.{◌≡◌, ◌<◌, ◌≤◌, ◌⊎◌, ⊎_elim, ◌+◌, ℕ, List, [], ◌∷◌, length, Some, None, refl, sym, ◌∙◌, ap, subst}
+use Rattle.std.proofs.Common.{◌≡◌, ◌<◌, ◌≤◌, ◌⊎◌, ⊎_elim, ◌+◌, ℕ, List, [], ◌∷◌, length, Some, None, refl, sym, ◌∙◌, ap}
 use Rattle.std.proofs.Common.{arith, inl, inr}
 use Rattle.std.specs.Prelude.{sum_by}
 use Rattle.lfs_model.specs.Checkpoint.{CheckpointValue}
@@ -16,8 +16,8 @@ use Rattle.lfs_memory.specs.inodes.Blocks.{Blocks, Capacity, TableValue, blocks_
 use Rattle.lfs_memory.specs.segments.Victims.{load_of}
 use Rattle.lfs_memory.specs.declared.memory.LogMemory.{LogMemory}
 use Rattle.lfs_memory.specs.Lifting.{IsInMemory}
-use Rattle.lfs_memory.specs.Memory.{IsLog, IsLoose, segment_in}
-use Rattle.lfs_log.specs.Cleaning.{Crowds, Overfills, limited}
+use Rattle.lfs_memory.specs.Memory.{IsLog, IsLoose}
+use Rattle.lfs_log.specs.Cleaning.{Crowds, Overfills}
 use Rattle.lfs_log.specs.Relocating.{IsAmong, IsDataBlock, StandsWhere}
 use Rattle.lfs_memory.proofs.Looses.{loose}
 use Rattle.lfs_log.proofs.Cleaned.{loose_beside}
@@ -72,7 +72,7 @@ sorts (x ∷ xs) apart files =
       data_apart = (λ is. apart.0 (rest.data_each x is).0, rest.data_apart);
       meta_apart = rest.meta_apart;
       data_each = λ y is. ⊎_elim
-          (λ (here : y ≡ x). (inl here, subst IsDataBlock (sym here) own))
+          (λ (here : y ≡ x). (inl here, rw here own))
           (λ (later : IsIn rest.datas y). (inr (rest.data_each y later).0, (rest.data_each y later).1))
           is;
       meta_each = λ y is. (inr (rest.meta_each y is).0, (rest.meta_each y is).1);
@@ -85,7 +85,7 @@ sorts (x ∷ xs) apart files =
       meta_apart = (λ is. apart.0 (rest.meta_each x is).0, rest.meta_apart);
       data_each = λ y is. (inr (rest.data_each y is).0, (rest.data_each y is).1);
       meta_each = λ y is. ⊎_elim
-          (λ (here : y ≡ x). (inl here, subst IsMeta (sym here) own))
+          (λ (here : y ≡ x). (inl here, rw here own))
           (λ (later : IsIn rest.metas y). (inr (rest.meta_each y later).0, (rest.meta_each y later).1))
           is;
     })
@@ -112,9 +112,8 @@ module _ (d : DeviceState) (v : LogMemory) (k : CheckpointValue) (m0 m : LogMap)
       → length xs ≤ sum_by (load_of v.usage) vs + meta_in m
   blocks_fit vs xs apart files stand =
       let parts = sorts xs apart files in
-      let metas = metas_counted d.content m is.running.memory (segment_in v.chunk) is.running.laid map
-      (λ x pointers one. absurd (not_one x (pointers_of_file x pointers) one))
-      parts.metas parts.meta_apart
+      let metas = metas_counted _ m _ _ is.running.laid map
+      (λ x pointers one. absurd (not_one x (pointers_of_file x pointers) one)) _ parts.meta_apart
       (λ x there. (let own = parts.meta_each x there in (own.1, let up = (stand x own.0).0 in omega (arith, up)))) in
       let datas = segments_counted m is.running.laid (load_of v.usage)
       (λ s. let l = is.running.tables.live s in let h = is.running.tables.held s in omega (arith, l, h))
@@ -134,10 +133,10 @@ crowd_fits d {v} {w} k m0 m vs keeps is map nothing one =
     (λ (stood : StandsWhere (IsAmong vs) is.running.memory x). stood) (one.came k m0 m keeps is x (has_entry one.order x there)) in
     let fit = blocks_fit d v k m0 m is map nothing vs (wanted.block ∷ entries w.dirty)
     (λ there. wanted.outside (has_entry one.order wanted.block there), apart_entries one.order)
-    (λ x there. ⊎_elim (λ (here : x ≡ wanted.block). subst IsOfFile (sym here) wanted.file)
+    (λ x there. ⊎_elim (λ (here : x ≡ wanted.block). rw here wanted.file)
     (λ (later : IsIn (entries w.dirty) x). file_entry w.dirty x later) there)
     (λ x there. ⊎_elim
-    (λ (here : x ≡ wanted.block). subst (StandsWhere (IsAmong vs) is.running.memory) (sym here) (wanted.stood k m0 m keeps is))
+    (λ (here : x ≡ wanted.block). rw here (wanted.stood k m0 m keeps is))
     (λ (later : IsIn (entries w.dirty) x). came x later)
     there) in
     let count = count_entries one.order in

@@ -26,11 +26,11 @@ ready_still looks is =
     }
 
 -- what was relocated is, from now on, what a pass makes of its memory
-pub pass_still : {a b : DeviceState} {v pass pass' : LogMemory} (upgraded saved halted relocated relocated' : Bool)
+pub pass_still : {a b : DeviceState} {v pass pass' : LogMemory} {upgraded saved halted relocated relocated' : Bool}
     (kept : Option PointerRun) → Looks a b → KeepsPass v pass pass' → WaitsForPass v pass' relocated'
     → HoldsUnlessHalted a v pass halted × KeepsRun a v kept × WaitsUnlessSaved v upgraded saved × WaitsForPass v pass relocated
     → HoldsUnlessHalted b v pass' halted × KeepsRun b v kept × WaitsUnlessSaved v upgraded saved × WaitsForPass v pass' relocated'
-pass_still {a} {b} {v} {pass} upgraded saved halted relocated relocated' kept looks keeps waits is = (
+pass_still {v} kept looks keeps waits is = (
   (λ on.
       let still = ready_still looks (is.0 on) in
       let reserved = still.prepared.reserved in
@@ -44,8 +44,8 @@ pass_still {a} {b} {v} {pass} upgraded saved halted relocated relocated' kept lo
   waits,
 )
 
-pub kept_still : {a b : DeviceState} (v pass : LogMemory) (upgraded saved halted relocated : Bool) (kept : Option PointerRun) → Looks a b
+pub kept_still : {a b : DeviceState} {v pass : LogMemory} {upgraded saved halted relocated : Bool} (kept : Option PointerRun) → Looks a b
     → HoldsUnlessHalted a v pass halted × KeepsRun a v kept × WaitsUnlessSaved v upgraded saved × WaitsForPass v pass relocated
     → HoldsUnlessHalted b v pass halted × KeepsRun b v kept × WaitsUnlessSaved v upgraded saved × WaitsForPass v pass relocated
-kept_still {a} {b} v pass upgraded saved halted relocated kept looks is =
+kept_still {v} kept looks is =
     ((λ on. ready_still looks (is.0 on)), run_still v kept looks is.1, is.2, is.3)

@@ -3,7 +3,7 @@ use Rattle.std.proofs.Common.{◌≡◌, ◌<◌, ◌≤◌, ◌==◌, ⊎_elim,
 use Rattle.std.proofs.Common.{refl, sym, ◌∙◌, ap, ap₂, arith}
 use Rattle.std.proofs.Math.Path.{fun_ext}
 use Rattle.std.proofs.lemmas.Bool.{cases_eq, lt-ltb, and_parts, leb-true, cond-true, cond-false, eqb-true, le-ltb}
-use Rattle.lfs_model.specs.Checkpoint.{CheckpointValue, layout_version}
+use Rattle.lfs_model.specs.Checkpoint.{CheckpointValue}
 use Rattle.lfs_model.specs.Content.{Content, block}
 use Rattle.lfs_model.specs.Decodes.{IsSized}
 use Rattle.lfs_model.specs.Encodes.{IsLogMap}
@@ -65,14 +65,14 @@ module _ {c : Content} {k : CheckpointValue} (m : LogMap) (sized : IsSized c) (s
     where
       by : (o : Option Header) → m.header n ≡ o → m.header n ≡ (dropped m).header n
       by None is = is ∙ sym (ap (λ (o : Option Header). kept o o None) is)
-      by (Some h) is = sym (kept_some n h (m.header n) None is)
+      by (Some h) is = sym (kept_some n h _ None is)
 
   block_same : (n i : ℕ) → m.block n i ≡ (dropped m).block n i
   block_same n i = by (m.header n) refl
     where
       by : (o : Option Header) → m.header n ≡ o → m.block n i ≡ (dropped m).block n i
       by None is = no_data n i is ∙ sym (ap (λ (o : Option Header). kept o (m.block n i) []) is)
-      by (Some h) is = sym (kept_some n h (m.block n i) [] is)
+      by (Some h) is = sym (kept_some n h _ [] is)
 
   pub all_linked : m ≡ dropped m
   all_linked =
@@ -95,8 +95,7 @@ kept_same false o x none off = refl
 pub same_dropped : (m : LogMap) (n : ℕ) → is_nameless m n ≡ true → dropped (without_file n m) ≡ dropped m
 same_dropped m n off =
     ap₂ (λ (hs : ℕ → Option Header) (bs : ℕ → ℕ → List ℕ). record { header = hs; block = bs; version = m.version })
-    (fun_ext (λ k. kept_same (k == n) (m.header k) (m.header k) None (gone k)))
-    (fun_ext (λ k. fun_ext (λ i. kept_same (k == n) (m.header k) (m.block k i) [] (gone k))))
+    (fun_ext (λ k. kept_same _ _ _ None (gone k))) (fun_ext (λ k. fun_ext (λ i. kept_same _ _ _ [] (gone k))))
   where
     gone : (k : ℕ) → (k == n) ≡ true → is_unlinked (m.header k) ≡ true
     gone k here = ap (λ (l : ℕ). is_unlinked (m.header l)) (eqb-true k n here) ∙ off

@@ -1,5 +1,5 @@
 -- What the layers above know of a log that holds a log map, and of calls that only read it.
-use Rattle.std.proofs.Common.{◌≡◌, ℕ, false, length, Some, refl, sym, ◌∙◌, ap, subst, arith}
+use Rattle.std.proofs.Common.{Option, ◌≡◌, ℕ, false, length, Some, refl, sym, ◌∙◌, ap, subst, arith}
 use Rattle.lfs_model.specs.Checkpoint.{CheckpointValue, IsSegmentCount}
 use Rattle.lfs_model.specs.Crash.{StandsOn}
 use Rattle.lfs_model.specs.Device.{DeviceState, IsLawful, AllLeft, LeavesOnly}
@@ -14,12 +14,38 @@ use Rattle.lfs_model.proofs.Settled.{settled_stands}
 use Rattle.lfs_memory.specs.declared.memory.LogMemory.{LogMemory}
 use Rattle.lfs_memory.specs.segments.Early.{AreUntaken}
 use Rattle.lfs_memory.specs.segments.Table.{UsageTable}
-use Rattle.lfs_memory.specs.Memory.{IsLog}
+use Rattle.lfs_memory.specs.Memory.{IsLoose, IsLog}
 use Rattle.lfs_memory.specs.Present.{Looks}
 use Rattle.lfs_memory.proofs.Looses.{loose, tight_again}
 use Rattle.lfs_memory.proofs.Presents.{looks_none, looks_quiet, looks_then, still_log}
 use Rattle.lfs_log.specs.LogState.{LogState, Holds, IsAtRest, IsReadFault, IsWhole, Reads}
 use Rattle.lfs_log.proofs.Unsaved.{kept_saved}
+
+module _ {D : Type 0} {state : D → DeviceState} where
+  -- memory and device hold what the log does
+  pub loose_in : {h : LogState D} {k : CheckpointValue} {m0 m : LogMap} → Holds state h k m0 m → IsLoose (state h.device) h.inner k m0 m
+  loose_in {h} {k} {m0} {m} is = loose _ _ k m0 m is.log
+
+  -- a call that only looks at the device, whatever was relocated
+  pub reads_looked : {h : LogState D} {d : D} {relocated : Option LogMemory} → Looks (state h.device) (state d)
+      → Reads state h (record h { device = d; relocated = relocated })
+  reads_looked looks = record {
+    looks = looks;
+    halted = refl;
+    number = refl;
+    version = refl;
+    upgraded = refl;
+    saved = refl;
+    unsaved = refl;
+    totals = refl;
+    segments = refl;
+    clean = refl;
+    emptied = refl;
+    waiting = refl;
+    file_data = refl;
+    usage = refl;
+    inner = refl;
+  }
 
 module _ {D : Type 0} (state : D → DeviceState) where
   -- ---- what is acknowledged
@@ -43,7 +69,7 @@ module _ {D : Type 0} (state : D → DeviceState) where
       → IsSegmentCount h.segments
   segment_count {h} {k} {m0} {m} lawful is =
       let fits = ((newest_fits (state h.device).content lawful.now).0 k).0 (settled is).newest in
-      subst IsSegmentCount is.segments fits.held.fits.segments
+      rw (← is.segments) fits.held.fits.segments
 
   pub whole_count : (h : LogState D) → IsWhole h → h.halted ≡ false → IsSegmentCount h.segments
   whole_count h whole running =
@@ -53,7 +79,7 @@ module _ {D : Type 0} (state : D → DeviceState) where
   pub looks_leave : {h : LogState D} {d : DeviceState} {k : CheckpointValue} {m0 : LogMap} (m : LogMap) → IsLawful (state h.device)
       → Looks (state h.device) d → Holds state h k m0 m → LeavesOnly (state h.device) d (λ c. StandsOn k.segments c m0)
   looks_leave {h} {d} {k} {m0} m lawful looks is =
-      looks_quiet d k m0 m lawful looks (loose (state h.device) h.inner k m0 m is.log)
+      looks_quiet d k m0 m lawful looks (loose_in is)
 
   -- ---- calls that only read
   pub rest_reads : (a b : LogState D) → Reads state a b → IsAtRest a → IsAtRest b
@@ -72,8 +98,7 @@ module _ {D : Type 0} (state : D → DeviceState) where
   pub held_still : {a b : LogState D} {k : CheckpointValue} {m0 m : LogMap} → Reads state a b → Holds state a k m0 m → Holds state b k m0 m
   held_still {a} {b} {k} {m0} {m} reads is = record {
     log = subst (λ (v : LogMemory). IsLog (state b.device) v k m0 m) (sym reads.inner)
-        (let s = still_log reads.looks (loose (state a.device) a.inner k m0 m is.log) in
-        tight_again s is.log.tight);
+        (tight_again (still_log reads.looks (loose_in is)) is.log.tight);
     segments = is.segments ∙ sym reads.segments;
     number = is.number ∙ sym reads.number;
     version = is.version ∙ sym reads.version;
@@ -83,23 +108,7 @@ module _ {D : Type 0} (state : D → DeviceState) where
   }
 
   pub reads_none : (a : LogState D) → Reads state a a
-  reads_none a = record {
-    looks = looks_none (state a.device);
-    halted = refl;
-    number = refl;
-    version = refl;
-    upgraded = refl;
-    saved = refl;
-    unsaved = refl;
-    totals = refl;
-    segments = refl;
-    clean = refl;
-    emptied = refl;
-    waiting = refl;
-    file_data = refl;
-    usage = refl;
-    inner = refl;
-  }
+  reads_none a = reads_looked {h = a} (looks_none _)
 
   pub reads_more : {a b c : LogState D} → IsLawful (state a.device) → Reads state a b → Reads state b c → Reads state a c
   reads_more {a} {b} {c} lawful one two = record {

@@ -1,6 +1,6 @@
 -- A block of the inode map goes to the next place, or isn't stored.
 use Rattle.std.proofs.Common.{⊎_elim, ◌≤◌, ◌≡◌, ◌<◌, ◌+◌, ◌*◌, cond, ℕ, Bool, true, false, List, [], ◌∷◌, ◌++◌, Option, Some, None, refl}
-use Rattle.std.proofs.Common.{sym, ◌∙◌, ap, subst, arith}
+use Rattle.std.proofs.Common.{sym, ◌∙◌, ap, arith}
 use Rattle.std.proofs.lemmas.Bool.{cases_lt}
 use Rattle.std.proofs.lemmas.List.{get_or_past}
 use Rattle.std.specs.Prelude.{get_or}
@@ -13,7 +13,7 @@ use Rattle.lfs_model.specs.Summary.{BlockNameValue, IsPlaced}
 use Rattle.lfs_model.specs.declared.BlockKind.TheVariants as kind
 use Rattle.lfs_model.specs.Memory.{parent, shown, is_shown}
 use Rattle.lfs_model.specs.Running.{Dirty, Tables, Running, IsAddressed}
-use Rattle.lfs_model.specs.Committing.{IsWritten, SpellsMap}
+use Rattle.lfs_model.specs.Committing.{SpellsMap}
 use Rattle.lfs_model.proofs.Leaving.{map_dropping}
 use Rattle.lfs_model.proofs.Stepping.{map_stepping}
 use Rattle.lfs_model.proofs.Moments.{carries_none, started}
@@ -127,7 +127,7 @@ module _ (v : LogMemory) {v' : LogMemory} (name : BlockNameValue) {age place : �
       let running = begun memory p is in
       let next = map_stepping d d' (blocks_of v.dirty) t (tables_by map' v'.usage) k m0 m v'.chunk.segment es j bytes
       running (room_left memory p) wanted (spells m t (map_of v.map p.middle m is.hidden) (settled_inodes d t k m running empty j))
-      (subst (λ (n : ℕ). IsWritten d d' n bytes) same_place (record { content = is_put keeps; crash = crash })) (noted memory p is map' refl
+      (rw (← same_place) (record { content = is_put keeps; crash = crash })) (noted memory p is map' refl
       (map_table p.middle v'.usage j sets p.noted.blocks.address)) in
       record {
         running = as_chunk (sym (segment_after memory p))

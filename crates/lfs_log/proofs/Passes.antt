@@ -18,14 +18,14 @@ use Rattle.lfs_memory.specs.segments.Table.{used_of}
 use Rattle.lfs_memory.specs.inodes.Blocks.{TableValue}
 use Rattle.lfs_memory.specs.declared.memory.LogMemory.{LogMemory}
 use Rattle.lfs_memory.specs.Memory.{IsLog}
-use Rattle.lfs_log.specs.Cleaning.{AreEmptied, ArePacked, Cleans, CleansOf, Empties, HaltsRelocated}
+use Rattle.lfs_log.specs.Cleaning.{AreEmptied, Emptied, ArePacked, Cleans, CleansOf, Empties, HaltsRelocated}
 use Rattle.lfs_log.specs.Cleaning.{HoldsRelocated, IsRelocated, MayClean, MayPass, Overfills, most_brought}
 use Rattle.lfs_log.specs.LogState.{AreAllSaved, Halts, Holds, LeavesSaved, LeavesSavedOf, LogState, Reads}
 use Rattle.lfs_log.specs.Held.{Held, IsReadyToSave, seen}
 use Rattle.lfs_log.specs.Saving.{CommitsAll, orders_for, pass_orders, segments_for}
 use Rattle.lfs_log.proofs.Cleaned.{at_one, beside, emptied_least, log_beside}
 use Rattle.lfs_log.proofs.Fitting.{overfilled}
-use Rattle.lfs_log.proofs.LogReads.{held_still, looks_leave}
+use Rattle.lfs_log.proofs.LogReads.{reads_looked, held_still, looks_leave}
 use Rattle.lfs_log.proofs.Unsaved.{none_left}
 use Rattle.lfs_log.proofs.Volumes.{acknowledged}
 
@@ -58,7 +58,7 @@ ready_to_save {v'} {vs} may apart one few =
 -- ---- whether it may begin, and whether its blocks fit
 pub may_begin : {D : Type 0} (h : Held D) {vs : List ℕ} → MayPass (seen h) vs → MayClean h.memory vs
 may_begin h may = record {
-  nothing = let none = may.nothing in none_left h.memory.dirty.blocks (omega (arith, none));
+  nothing = let none = may.nothing in none_left _ (omega (arith, none));
   many = may.many;
   least = may.least;
   most = may.most;
@@ -74,53 +74,37 @@ pub few_orders : {v pass : LogMemory} (before after : ℕ) → IsReadyToSave v p
     → after ≤ before + orders_for (length pass.dirty.blocks) → after ≤ before + pass_orders (length v.usage.segments)
 few_orders before after ready size told = let few = ready.few in omega (arith, few, size, told)
 
-module _ {D : Type 0} (state : D → DeviceState) where
-  pub are_packed : (h h' : Held D) {vs : List ℕ} → MayPass (seen h) vs → h.memory.chunk.names ≡ []
-      → Overfills (state h.device) (state h'.device) h.memory vs (most_brought (length vs)) → ArePacked state (seen h) (seen h') vs
-  are_packed h h' {vs} may closed over k m0 m keeps is map =
+module _ {D : Type 0} {state : D → DeviceState} where
+  pub are_packed : {h : Held D} (d : D) {vs : List ℕ} → MayPass (seen h) vs → h.memory.chunk.names ≡ []
+      → Overfills (state h.device) (state d) h.memory vs (most_brought (length vs))
+      → ArePacked state (seen h) (seen (record h { device = d })) vs
+  are_packed {h} d {vs} may closed over k m0 m keeps is map =
       overfilled k m0 m vs keeps is.log map (may_begin h may).nothing closed over
 
   -- ---- what was relocated
-  module _ (h : Held D) (device : D) {pass : LogMemory} {vs : List ℕ} (one : Empties (state h.device) (state device) h.memory pass vs) where
-    pub relocates : h.halted ≡ false → h.number < 2 ^ 64 - 1 → (state device).failures ≡ (state h.device).failures
-        → IsRelocated state (seen h) (seen (record h { device = device; relocated = Some pass })) vs
-    relocates running number unfailed = record {
-      reads = reads;
-      running = running;
-      number = number;
-      emptied = (pass, refl, one.emptied);
-      no_failure = unfailed;
-      holds = λ k m0 m keeps is. record {
-        holds = held_still state reads is;
-        relocated = λ v there. subst (λ (o : Option LogMemory). IfSome o (λ v. IsLog (state device) v k m0 m)) there
-            (one.log k m0 m keeps is.log);
-      };
-    }
-      where
-        reads : Reads state (seen h) (seen (record h { device = device; relocated = Some pass }))
-        reads = record {
-          looks = one.looks;
-          halted = refl;
-          number = refl;
-          version = refl;
-          upgraded = refl;
-          saved = refl;
-          unsaved = refl;
-          totals = refl;
-          segments = refl;
-          clean = refl;
-          emptied = refl;
-          waiting = refl;
-          file_data = refl;
-          usage = refl;
-          inner = refl;
-        }
+  pub relocates : {h : Held D} {d : D} {pass : LogMemory} {vs : List ℕ} → Empties (state h.device) (state d) h.memory pass vs
+      → h.halted ≡ false → h.number < 2 ^ 64 - 1 → (state d).failures ≡ (state h.device).failures
+      → IsRelocated state (seen h) (seen (record h { device = d; relocated = Some pass })) vs
+  relocates {h} {d} {pass} one running number unfailed =
+      let reads : Reads state (seen h) (seen (record h { device = d; relocated = Some pass })) = reads_looked one.looks in
+      record {
+        reads = reads;
+        running = running;
+        number = number;
+        emptied = (pass, refl, one.emptied);
+        no_failure = unfailed;
+        holds = λ k m0 m keeps is. record {
+          holds = held_still _ reads is;
+          relocated = λ v there. subst (λ (o : Option LogMemory). IfSome o (λ v. IsLog (state d) v k m0 m)) there
+              (one.log k m0 m keeps is.log);
+        };
+      }
 
   -- ---- its commit, whose tables the log's memory takes
-  module _ (h : Held D) {v : LogMemory} (there : h.relocated ≡ Some v) (ready : IsReadyToSave h.memory v)
+  module _ {h : Held D} {v : LogMemory} (there : h.relocated ≡ Some v) (ready : IsReadyToSave h.memory v)
       (size : length v.usage.segments ≡ length h.memory.usage.segments) where
-    pub relocated_done : (device : D) {w : LogMemory} (t : TableValue) (c : Chunk) → t.blocks ≡ [] → c.names ≡ [] → h.halted ≡ false
-        → CommitsAll (state h.device) (state device) v w h.version h.number → (vs : List ℕ) → AreEmptied v.usage vs
+    pub relocated_done : {device : D} {w : LogMemory} {t : TableValue} {c : Chunk} → t.blocks ≡ [] → c.names ≡ [] → h.halted ≡ false
+        → CommitsAll (state h.device) (state device) v w h.version h.number → (vs : List ℕ) → Emptied (seen h) vs
         → CleansOf state (HoldsRelocated state (seen h)) (seen h) (seen (record h {
           device = device;
           memory = beside w t c;
@@ -129,12 +113,12 @@ module _ {D : Type 0} (state : D → DeviceState) where
           saved = true;
           relocated = None;
         })) vs
-    relocated_done device {w} t c empty closed running done vs emptied = record {
+    relocated_done {device} {w} {t} {c} empty closed running done vs emptied = record {
       carries = done.carries;
       running = running;
       number = refl;
       segments = done.segments ∙ size;
-      cleaned = λ s is. at_one (λ (s : ℕ). used_of w.usage s ≡ 0) vs s (λ i lt. done.cleaned (get_or vs i 0) (emptied i lt)) is;
+      cleaned = λ s is. at_one (λ (s : ℕ). used_of w.usage s ≡ 0) vs s (λ i lt. done.cleaned (get_or vs i 0) (victims i lt)) is;
       gains =
           let gained = done.gains in
           let pays = ready.gains in
@@ -151,7 +135,7 @@ module _ {D : Type 0} (state : D → DeviceState) where
           subst (λ (l : ℕ). AllLeft (state device) (λ c. StandsOn l c (dropped m)))
           (sym n.1.log.segments ∙ done.segments ∙ size ∙ is.holds.log.segments)
           (settled_stands (state device) n.0 (dropped m) n.1.log.running.settled);
-      moment = λ k m0 m keeps is map. done.moment k m0 m keeps (acknowledged state h is.holds (is.relocated v there) map);
+      moment = λ k m0 m keeps is map. done.moment k m0 m keeps (acknowledged h is.holds (is.relocated v there) map);
     }
       where
         after : Held D
@@ -165,13 +149,17 @@ module _ {D : Type 0} (state : D → DeviceState) where
               relocated = None;
             }
 
+        victims : AreEmptied v.usage vs
+        victims = same_some (λ (v : LogMemory). AreEmptied v.usage vs) emptied.1 there emptied.2
+
         nothing : AreAllSaved (seen after)
         nothing = record { blocks = ap length empty; version = refl; sectors = done.untaken }
 
         holds : (k : CheckpointValue) (m0 m : LogMap) → (state device).keeps_model → HoldsRelocated state (seen h) k m0 m
             → IsLogMap (dropped m) → (next : CheckpointValue) × Holds state (seen after) next (dropped m) m
         holds k m0 m keeps is map =
-            let n = done.log k m0 m keeps (acknowledged state h is.holds (is.relocated v there) map) in ( n.0,
+            let n = done.log k m0 m keeps (acknowledged h is.holds (is.relocated v there) map) in (
+              n.0,
               record {
                 log = log_beside w t c (empty ∙ sym done.dirty) done.chunk closed n.0 m n.2;
                 segments = sym n.2.segments;
@@ -183,14 +171,15 @@ module _ {D : Type 0} (state : D → DeviceState) where
               },
             )
 
-  -- ---- both: a pass
+-- ---- both: a pass
+module _ {D : Type 0} (state : D → DeviceState) where
   module _ {a b : LogState D} (c : LogState D) {vs : List ℕ} (lawful : IsLawful (state a.device)) (one : IsRelocated state a b vs) where
     moment_then : ((state c.device).keeps_model → (state b.device).keeps_model) → LeavesSavedOf state (HoldsRelocated state b) b c
         → LeavesSaved state a c
     moment_then back moment k m0 m keeps is map =
         let P : Content → Type 0 = λ x. StandsOn k.segments x m0 in
         let Q : Content → Type 0 = StandsForOn k.segments m0 (dropped m) in
-        joined P Q Q (looks_leave state m lawful one.reads.looks is)
+        joined P Q Q (looks_leave _ m lawful one.reads.looks is)
         (moment k m0 m keeps (one.holds k m0 m (back keeps) is) map) (λ x s. inl s) (λ x s. s)
 
     pub pass_done : CleansOf state (HoldsRelocated state b) b c vs → Cleans state a c vs

@@ -1,5 +1,5 @@
 -- The segments of a log that holds a log map hold no more blocks than the totals of its files say.
-use Rattle.std.proofs.Common.{◌≡◌, ◌<◌, ◌≤◌, ◌+◌, ◌*◌, ℕ, [], length, refl, Some, None, sym, ◌∙◌, ap, subst, arith}
+use Rattle.std.proofs.Common.{◌≡◌, ◌<◌, ◌≤◌, ◌+◌, ◌*◌, ℕ, [], length, refl, Some, None, sym, ◌∙◌, ap, arith}
 use Rattle.std.proofs.lemmas.List.{get_or_past}
 use Rattle.lfs_model.specs.Checkpoint.{CheckpointValue}
 use Rattle.lfs_model.specs.declared.limits.TheConstants.{LEAST_NEED, NEED_OF_META, NEED_OF_SEGMENT}
@@ -15,7 +15,7 @@ use Rattle.lfs_memory.specs.inodes.Blocks.{Blocks, blocks_in}
 use Rattle.lfs_memory.specs.inodes.MapValue.{IsMap, block_in}
 use Rattle.lfs_memory.specs.declared.memory.LogMemory.{LogMemory}
 use Rattle.lfs_memory.specs.Memory.{IsMemory, IsLog}
-use Rattle.lfs_memory.specs.segments.Table.{UsageTable, clean_in}
+use Rattle.lfs_memory.specs.segments.Table.{clean_in}
 use Rattle.lfs_memory.specs.segments.Victims.{IsPressed, load_of}
 use Rattle.lfs_memory.proofs.of_segments.LoadsBelow.{loads_below}
 use Rattle.lfs_log.specs.LogState.{LogState, Holds, IsWhole}
@@ -60,10 +60,6 @@ module _ {D : Type 0} (state : D → DeviceState) (h : LogState D) (k : Checkpoi
       let empty = whole.blocks in
       let many = whole.segments in
       let clean = whole.clean in
-      subst (λ (t : UsageTable). IsPressed t meta) (sym whole.usage)
-      (pressed_here h.inner k m0 m is.log (none_left h.inner.dirty.blocks (omega (arith, empty, nothing)))
-      (whole.memory is.running) whole.map map
-      (subst (λ (t : UsageTable). 4 * clean_in t.segments < length t.segments) whole.usage (omega (arith, few, many, clean)))
-      counted
-      (subst (λ (t : UsageTable). data_in m + NEED_OF_META * meta_in m + LEAST_NEED ≤ NEED_OF_SEGMENT * length t.segments) whole.usage
+      rw whole.usage (pressed_here h.inner k m0 m is.log (none_left h.inner.dirty.blocks (omega (arith, empty, nothing)))
+      (whole.memory is.running) whole.map map (rw (← whole.usage) (omega (arith, few, many, clean))) counted (rw (← whole.usage)
       (omega (arith, need, many))))

@@ -1,13 +1,13 @@
 -- The end of a commit: what its device calls leave of the log.
 use Rattle.std.proofs.Common.{◌≡◌, ◌<◌, ◌≤◌, ◌⊎◌, inl, ⊎_elim, ◌+◌, ◌*◌, ◌/◌, ◌%◌, ◌==◌, ◌&&◌, cond, eq-eqb, eqb-true, Bool, true, false, ℕ}
-use Rattle.std.proofs.Common.{List, [], length, get_or, None, refl, sym, ◌∙◌, ap, subst, arith}
+use Rattle.std.proofs.Common.{List, [], length, get_or, None, refl, sym, ◌∙◌, ap, arith}
 use Rattle.std.proofs.lemmas.Bool.{cases_eq, cases_lt, cond-true, cond-false, false_from_ne_true}
 use Rattle.std.proofs.lemmas.List.{get_or_past}
 use Rattle.lfs_model.specs.Entry.{Inode, Map, Usage}
-use Rattle.lfs_model.specs.Checkpoint.{CheckpointValue, IsSegmentCount, checkpoint_sector}
+use Rattle.lfs_model.specs.Checkpoint.{CheckpointValue, checkpoint_sector}
 use Rattle.lfs_model.specs.Content.{Content}
 use Rattle.lfs_model.specs.Crash.{StandsForOn}
-use Rattle.lfs_model.specs.Device.{DeviceState, IsLawful, IsUntouched, MayWrite, Carries, Elapses, Only, AllLeft, LeavesOnly, ComesFrom}
+use Rattle.lfs_model.specs.Device.{DeviceState, IsLawful, MayWrite, Carries, Only, AllLeft, LeavesOnly, ComesFrom}
 use Rattle.lfs_model.specs.Device.{put}
 use Rattle.lfs_model.specs.Stands.{LogMap, count_up}
 use Rattle.lfs_model.specs.TreeOf.{dropped}
@@ -26,10 +26,9 @@ use Rattle.lfs_memory.specs.segments.Table.{address_of}
 use Rattle.lfs_memory.specs.segments.Steps.{Releases, is_empty}
 use Rattle.lfs_memory.specs.segments.Spare.{spare_in}
 use Rattle.lfs_memory.specs.inodes.Blocks.{Blocks, blocks_in, blocks_of}
-use Rattle.lfs_memory.specs.inodes.MapValue.{block_in}
 use Rattle.lfs_memory.specs.declared.memory.LogMemory.{LogMemory}
 use Rattle.lfs_memory.specs.Memory.{tables_of, segment_in, chunk_in, IsMemory, IsLog}
-use Rattle.lfs_log.specs.Publishing.{IsAllOut, IsNext, IsAcknowledged, Publishes, PublishFails}
+use Rattle.lfs_log.specs.Publishing.{Syncs, IsAllOut, IsNext, IsAcknowledged, Publishes, PublishFails}
 use Rattle.lfs_memory.proofs.Opened.{closed_segment, closed_chunk, as_chunk}
 use Rattle.lfs_log.proofs.UsageWrites.{table_same}
 
@@ -37,7 +36,7 @@ use Rattle.lfs_log.proofs.UsageWrites.{table_same}
 many_clean : (t : UsageTable) {n : ℕ} → length t.segments ≡ n → length t.segments ≤ 8 * spare_in t.segments
     → n ≤ 8 * count_up (λ s. cond (live_of t s == 0) 0 (used_of t s) == 0) n
 unfolding spare_in
-many_clean t same many = subst (λ (i : ℕ). i ≤ 8 * count_up (λ s. cond (live_of t s == 0) 0 (used_of t s) == 0) i) same many
+many_clean t same many = rw (← same) many
 
 -- ---- what a release does
 both_zero : {l h : ℕ} → l ≡ 0 → h ≡ 0 → ((l == 0) && (h == 0)) ≡ true
@@ -78,7 +77,7 @@ module _ (v : LogMemory) (u : UsageTable) (go : Releases v.usage u) where
 
   pub released_memory : IsMemory v → v.chunk.names ≡ [] → IsMemory (record v { usage = u })
   released_memory good none = record {
-    count = subst IsSegmentCount (sym go.size) good.count;
+    count = rw go.size good.count;
     opened = λ some. let e = ap length none in absurd (omega arith);
     short = good.short;
     usages = λ j one. places_same (λ b. b.stale) j ∙ good.usages j (sym (places_same (λ b. b.address) j) ∙ one);
@@ -124,27 +123,26 @@ array_is xs n long inside past j = ⊎_elim
     (cases_lt j n)
 
 -- ---- the sync
-module _ (d d1 : DeviceState) (v : LogMemory) (version number : ℕ) (lawful : IsLawful d) (same : IsUntouched d d1) (carries : Carries d d1)
-    (time : Elapses d d1) where
+module _ (d d1 : DeviceState) (v : LogMemory) (version number : ℕ) (lawful : IsLawful d) (syncs : Syncs d d1) where
   synced : (k : CheckpointValue) (m0 m : LogMap) → IsLog d v k m0 m → IsLog d1 v k m0 m
   synced k m0 m log = record {
-    running = staying d d1 _ (tables_of v) k m0 m (segment_in v.chunk) (chunk_in v.chunk) log.running same;
+    running = staying d d1 _ (tables_of v) k m0 m (segment_in v.chunk) (chunk_in v.chunk) log.running syncs.untouched;
     hidden = log.hidden;
     segments = log.segments;
     tight = log.tight;
   }
 
   sync_left : (k : CheckpointValue) (m0 : LogMap) {m : LogMap} → IsLog d v k m0 m → AllLeft d1 (StandsForOn k.segments m0 (dropped m))
-  sync_left k m0 log c left = inl (settled_stands d1 k m0 (settled_still d d1 k m0 log.running.settled same) c left)
+  sync_left k m0 log c left = inl (settled_stands d1 k m0 (settled_still d d1 k m0 log.running.settled syncs.untouched) c left)
 
   sync_moment : (k : CheckpointValue) (m0 m : LogMap) → IsLog d v k m0 m → LeavesOnly d d1 (StandsForOn k.segments m0 (dropped m))
   sync_moment k m0 m log =
-      goes_on (StandsForOn k.segments m0 (dropped m)) (started (StandsForOn k.segments m0 (dropped m)) lawful
-      (λ c left. inl (settled_stands d k m0 log.running.settled c left))) carries time (sync_left k m0 log)
+      goes_on _ (started _ lawful
+      (λ c left. inl (settled_stands d k m0 log.running.settled c left))) syncs.carries syncs.time (sync_left k m0 log)
 
   pub sync_fails : d.failures < d1.failures → PublishFails d d1 v version number
   sync_fails failed = record {
-    carries = carries;
+    carries = syncs.carries;
     failed = failed;
     left = λ k m0 m keeps is. sync_left k m0 is.log;
     moment = λ k m0 m keeps is. sync_moment k m0 m is.log;
@@ -180,7 +178,7 @@ module _ (d d1 : DeviceState) (v : LogMemory) (version number : ℕ) (lawful : I
             let count = held.log.segments in
             absurd (omega (arith, low, high, size, count)))
             (cases_lt j ((length v.usage.segments + 63) / 64));
-        fresh = λ j lt. out.fresh j (subst (λ (n : ℕ). j < (n + 63) / 64) (sym held.log.segments) lt);
+        fresh = λ j lt. out.fresh j (rw held.log.segments lt);
       }
 
       many : ManyClean (tables_of v) k.segments
@@ -200,7 +198,7 @@ module _ (d d1 : DeviceState) (v : LogMemory) (version number : ℕ) (lawful : I
 
       planned : IsPlanned k d1.content (next.number % 2) (checkpoint_sector next) next (dropped m)
       planned = planning d1 (blocks_of v.dirty) (tables_of v) k next m0 m 1024 (next.number % 2)
-          (checkpoint_sector next) running held.map all_out many leads (checkpoint_some (checkpoint_sector next) next is.fits refl) refl
+          (checkpoint_sector next) running held.map all_out many leads (checkpoint_some _ next is.fits refl) refl
 
       torn : d2.keeps_model → (c : Content) → ComesFrom d1 (MayWrite (next.number % 2) (checkpoint_sector next)) c
           → StandsForOn k.segments m0 (dropped m) c
@@ -211,12 +209,11 @@ module _ (d d1 : DeviceState) (v : LogMemory) (version number : ℕ) (lawful : I
 
       either : d2.keeps_model → LeavesOnly d d2 (StandsForOn k.segments m0 (dropped m))
       either keeps =
-          joined (StandsForOn k.segments m0 (dropped m)) (ComesFrom d1 (MayWrite (next.number % 2) (checkpoint_sector next)))
-          (StandsForOn k.segments m0 (dropped m)) (sync_moment k m0 m held.log) moment (λ c s. s) (torn keeps)
+          joined _ _ _ (sync_moment k m0 m held.log) moment (λ c s. s) (torn keeps)
 
     pub replace_fails : d1.failures < d2.failures → PublishFails d d2 v version number
     replace_fails failed = record {
-      carries = carries_then carries more;
+      carries = carries_then syncs.carries more;
       failed = omega arith;
       left = λ k m0 m keeps held c l. torn k m0 m held keeps c (left c l);
       moment = λ k m0 m keeps held. either k m0 m held keeps;
@@ -242,7 +239,7 @@ module _ (d d1 : DeviceState) (v : LogMemory) (version number : ℕ) (lawful : I
 
       pub published : Publishes d d2 v (record v { usage = u }) version number
       published = record {
-        carries = carries_then carries more;
+        carries = carries_then syncs.carries more;
         memory = released_memory v u go good out.chunk;
         segments = go.size;
         released = go;

@@ -11,7 +11,7 @@ use Rattle.lfs_memory.specs.inodes.Blocks.{blocks_of}
 use Rattle.lfs_memory.specs.inodes.MapValue.{address_in}
 use Rattle.lfs_memory.specs.declared.memory.LogMemory.{LogMemory}
 use Rattle.lfs_memory.specs.Lifting.{Gathers, IsInMemory, Prepares}
-use Rattle.lfs_memory.specs.Memory.{IsMemory, tables_of, segment_in, chunk_in}
+use Rattle.lfs_memory.specs.Memory.{IsMemory, tables_of, segment_in}
 use Rattle.lfs_memory.specs.Present.{AnswersAddress, FailsFromDevice, Looks}
 use Rattle.lfs_memory.proofs.Gathered.{gathers_looks, gathers_then}
 use Rattle.lfs_memory.proofs.Presents.{inode_at, looks_then}

@@ -1,5 +1,5 @@
 -- Calls by which blocks come into memory, one after the other, and how they end.
-use Rattle.std.proofs.Common.{◌≡◌, ◌≤◌, ◌+◌, ℕ, Bool, true, refl, sym, ◌∙◌, ap, subst}
+use Rattle.std.proofs.Common.{◌≡◌, ◌≤◌, ◌+◌, ℕ, Bool, true, refl, ◌∙◌, ap}
 use Rattle.std.specs.Prelude.{Result, Ok, Err, IsErr, IsErrAnd, IsErrOf}
 use Rattle.lfs_model.specs.Device.{DeviceState, IsLawful}
 use Rattle.lfs_model.specs.Entry.{Entry}
@@ -40,7 +40,7 @@ module _ {a b c : DeviceState} {v v' v'' : LogMemory} where
   lifting_then {r = r} one same looks ends = record {
     full = ends.full;
     failed = λ is. relocated_excused a b c v one looks (ends.failed is);
-    no_failure = ok_then r (c.failures ≡ b.failures) (c.failures ≡ a.failures) (λ next. next ∙ same) ends.no_failure;
+    no_failure = ok_then r _ _ (λ next. next ∙ same) ends.no_failure;
   }
 
   -- ---- a block, behind the one above it
@@ -99,8 +99,7 @@ module _ {a b : DeviceState} {v v' : LogMemory} {P : ℕ → Type 0} where
   pub relocating_on : {T : Type 0} (r : Result T LiftFault) (e : LiftFault) → IsErr r × IsErrAnd r (λ y. y ≡ e)
       → (let s : Result T LiftFault = Err e in EndsRelocating a b v v' P s) → EndsRelocating a b v v' P r
   relocating_on (Ok x) e is one = absurd is.1
-  relocating_on {T = T} (Err y) e is one = subst (λ (z : LiftFault). let s : Result T LiftFault = Err z in EndsRelocating a b v v' P s)
-      (sym is.1) one
+  relocating_on {T = T} (Err y) e is one = rw is.1 one
 
   pub relocating_wider : {T : Type 0} {r : Result T LiftFault} (Q : ℕ → Type 0) → ((at : ℕ) → P at → Q at)
       → EndsRelocating a b v v' P r → EndsRelocating a b v v' Q r

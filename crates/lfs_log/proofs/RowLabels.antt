@@ -1,8 +1,8 @@
 -- The labels of a segment's used part, read one chunk at a time.
 use Rattle.std.proofs.Common.{◌≡◌, ◌<◌, ◌≤◌, ◌+◌, ◌-◌, ◌*◌, ℕ, zero, suc, List, [], ◌∷◌, length, get_or, drop, map, Option, Some, None}
-use Rattle.std.proofs.Common.{refl, sym, ◌∙◌, ap, subst, arith, zero-add}
+use Rattle.std.proofs.Common.{refl, sym, ◌∙◌, ap, arith, zero-add}
 use Rattle.std.proofs.lemmas.List.{get_or-map, get_or_past, length-map}
-use Rattle.lfs_model.specs.Content.{Content, bytes_of, block}
+use Rattle.lfs_model.specs.Content.{Content, block}
 use Rattle.lfs_model.specs.Device.{Cell}
 use Rattle.lfs_model.specs.Entry.{Entry, entry_of, entries_in}
 use Rattle.lfs_model.specs.Reach.{Row, after, opened, chunks, row_by, place_in}
@@ -22,7 +22,7 @@ after_next e (Some row) i = refl
 
 opened_first : (o : Option (List Entry)) (rest : List Entry → Option Row) → place_in (opened o rest) 0 ≡ None
 opened_first None rest = refl
-opened_first (Some es) rest = after_first (rest es)
+opened_first (Some es) rest = after_first _
 
 after_label : {e : Entry} (x : Option Row) → HasRow (after (Some e) x) → place_in (after (Some e) x) 0 ≡ Some e
 after_label None h = let z = h.1 in absurd (cc)
@@ -37,9 +37,8 @@ label_here : (es : List Entry) (ss : List Cell) (d : Entry) (i : ℕ) → HasRow
     → place_in (chunks es ss) i ≡ Some (get_or es i d)
 label_here [] ss d i h lt = absurd (omega arith)
 label_here (e ∷ es) [] d i h lt = let z = h.1 in absurd (cc)
-label_here (e ∷ es) (s ∷ ss) d zero h lt = after_label (chunks es ss) h
-label_here (e ∷ es) (s ∷ ss) d (suc i) h lt = after_next (Some e) (chunks es ss) i
-    ∙ label_here es ss d i (rest_row (Some e) (chunks es ss) h) (omega arith)
+label_here (e ∷ es) (s ∷ ss) d zero h lt = after_label _ h
+label_here (e ∷ es) (s ∷ ss) d (suc i) h lt = after_next _ _ i ∙ label_here es ss d i (rest_row _ _ h) (omega arith)
 
 label_behind : (es : List Entry) (ss : List Cell) (j : ℕ) → length es ≤ length ss
     → place_in (chunks es ss) (length es + j) ≡ place_in (chunks [] (drop (length es) ss)) j
@@ -56,9 +55,9 @@ pub record IsRowFrom (c : Content) (used segment at : ℕ) : Type 0 where
 
 pub row_start : (c : Content) (used segment : ℕ) → HasRow (row_by c used segment) → IsRowFrom c used segment 0
 row_start c used segment h =
-    let e = from_start c used segment in
+    let e = from_start c used _ in
     record {
-      rest = subst HasRow (sym e) h;
+      rest = rw e h;
       places = λ j. ap (place_in (row_by c used segment)) (zero-add j) ∙ ap (λ (x : Option Row). place_in x j) (sym e);
     }
 
@@ -68,28 +67,26 @@ module _ {c : Content} {used segment at : ℕ} (long : 2 + 64 * segment + used �
   pub summary_place : place_in (row_by c used segment) at ≡ None
   summary_place =
       let l = here c used segment at long lt in
-      ap (place_in (row_by c used segment)) (omega arith) ∙ to.places 0
-      ∙ ap (λ (x : Option Row). place_in x 0) (opens c used segment at long lt)
-      ∙ opened_first (entries_in (bytes_of l)) (λ es. chunks es (behind c used segment at long lt))
+      ap (place_in (row_by c used segment)) (omega arith) ∙ to.places 0 ∙ ap (λ (x : Option Row). place_in x 0) (opens c used _ at long lt)
+      ∙ opened_first _ (λ es. chunks es (behind c used _ at long lt))
 
   module _ {bytes : List ℕ} (there : block c (2 + 64 * segment + at) ≡ bytes) {bs : List BlockNameValue} (is : Some bs ≡ summary_in bytes)
       (room : at + length bs < used) where
     abbrev known : IsSummaryOf (block c (2 + 64 * segment + at)) (length bs)
-    known = (map entry_of bs, ap entries_in there ∙ entries_some bytes is, length-map bs entry_of)
+    known = (map entry_of bs, ap entries_in there ∙ entries_some _ is, length-map bs entry_of)
 
     opened_row : from c used segment at ≡ after None (chunks (map entry_of bs) (behind c used segment at long lt))
     opened_row = opens_names c used segment at long lt (length bs) known
 
     chunk_row : HasRow (chunks (map entry_of bs) (behind c used segment at long lt))
-    chunk_row = rest_row None (chunks (map entry_of bs) (behind c used segment at long lt)) (subst HasRow opened_row to.rest)
+    chunk_row = rest_row None (chunks (map entry_of bs) (behind c used segment at long lt)) (rw (← opened_row) to.rest)
 
     -- a sector behind the summary, by its place there
     place_behind : (j : ℕ)
         → place_in (row_by c used segment) (at + 1 + j) ≡ place_in (chunks (map entry_of bs) (behind c used segment at long lt)) j
     place_behind j =
         ap (place_in (row_by c used segment)) (omega arith) ∙ to.places (suc j)
-        ∙ ap (λ (x : Option Row). place_in x (suc j)) opened_row
-        ∙ after_next None (chunks (map entry_of bs) (behind c used segment at long lt)) j
+        ∙ ap (λ (x : Option Row). place_in x (suc j)) opened_row ∙ after_next None _ j
 
     pub label_is : (i : ℕ) → i < length bs → place_in (row_by c used segment) (at + 1 + i) ≡ Some (entry_of (get_or bs i no_block))
     label_is i small =
@@ -112,8 +109,7 @@ module _ {c : Content} {used segment at : ℕ} (long : 2 + 64 * segment + used �
 
     pub row_next : (next : ℕ) → next ≡ at + 1 + length bs → IsRowFrom c used segment next
     row_next next is_next = record {
-      rest = subst (λ (x : ℕ). HasRow (from c used segment x)) (sym is_next)
-          ((next_chunk c used segment at long lt (length bs) known room).0 to.rest);
+      rest = rw is_next ((next_chunk c used segment at long lt (length bs) known room).0 to.rest);
       places = behind_places next is_next;
     }
 
@@ -123,4 +119,4 @@ pub row_end : {c : Content} (used : ℕ) {segment : ℕ} → 2 + 64 * segment + 
     → place_in (row_by c used segment) j ≡ None
 row_end {c} used {segment} long to j high =
     ap (place_in (row_by c used segment)) (omega arith) ∙ to.places (j - used)
-    ∙ ap (λ (x : Option Row). place_in x (j - used)) (end_is c used segment long) ∙ get_or_past [] (j - used) None (omega arith)
+    ∙ ap (λ (x : Option Row). place_in x (j - used)) (end_is c used _ long) ∙ get_or_past [] (j - used) None (omega arith)

@@ -69,7 +69,7 @@ out_stops {d} {d'} version number told stops = record {
   cause = stops.cause;
   left = λ k m0 m keeps is c left. inl (settled_stands d' k m0 (stops.settled k m0 m keeps is.log) c left);
   moment = λ k m0 m keeps is.
-      weaker (λ x. StandsOn k.segments x m0) (StandsForOn k.segments m0 (dropped m)) (λ x h. inl h) (stops.quiet k m0 m keeps is.log);
+      weaker (λ x. StandsOn k.segments x m0) _ (λ x h. inl h) (stops.quiet k m0 m keeps is.log);
   told = omega (arith, told);
 }
 
@@ -81,7 +81,7 @@ publish_fails a {b} {c} v {v'} n {version} {number} goes told more fails = recor
   cause = λ k m0 m keeps is. (let worse = fails.failed in let same = goes.no_failure in omega (arith, worse, same));
   left = λ k m0 m keeps is.
       fails.left k m0 m keeps (acknowledged_on b v' n goes (fails.carries.kept_before keeps) k m is);
-  moment = either_then a b c v v' n version number goes fails.carries.kept_before fails.moment;
+  moment = either_then a b c v v' n _ _ goes fails.carries.kept_before fails.moment;
   told = omega (arith, told, more);
 }
 
@@ -107,7 +107,7 @@ commits {a} {b} {c} {v} {v'} {v''} n {version} {number} goes done taken spare ch
   no_failure = done.no_failure ∙ goes.no_failure;
   log = λ k m0 m keeps is.
       done.log k m0 m keeps (acknowledged_on b v' n goes (done.carries.kept_before keeps) k m is);
-  moment = either_then a b c v v' n version number goes done.carries.kept_before done.moment;
+  moment = either_then a b c v v' n _ _ goes done.carries.kept_before done.moment;
   told = omega (arith, told, more);
 }
   where

@@ -1,5 +1,5 @@
 -- The summary of a chunk is written.
-use Rattle.std.proofs.Common.{◌≡◌, ◌<◌, ◌≤◌, ◌+◌, ◌*◌, ℕ, [], length, Some, None, refl, sym, ap, arith}
+use Rattle.std.proofs.Common.{◌≡◌, ◌<◌, ◌≤◌, ◌+◌, ◌*◌, ℕ, [], length, Some, refl, sym, ap, arith}
 use Rattle.lfs_model.specs.Checkpoint.{CheckpointValue}
 use Rattle.lfs_model.specs.Crash.{IsFreeSector}
 use Rattle.lfs_model.specs.Device.{DeviceState, MayWrite, CrashWrites, Carries, Elapses, IsLawful, put, left_new}
@@ -12,7 +12,7 @@ use Rattle.lfs_model.proofs.Leaving.{closing}
 use Rattle.lfs_memory.specs.segments.Chunk.{Chunk, entries_of, room_in}
 use Rattle.lfs_memory.specs.inodes.Blocks.{blocks_of}
 use Rattle.lfs_memory.specs.declared.memory.LogMemory.{LogMemory}
-use Rattle.lfs_memory.specs.Memory.{IsMemory, IsMemoryUpTo, IsLog, Goes, Stops, Quiet, tables_of, segment_in, chunk_in}
+use Rattle.lfs_memory.specs.Memory.{IsMemory, IsMemoryUpTo, IsLog, Goes, Stops, Quiet, tables_of}
 use Rattle.lfs_memory.proofs.Opened.{closed_segment, closed_chunk, as_chunk, is_open, stays_settled, stays_quiet, taken_free}
 use Rattle.lfs_memory.proofs.Rooms.{room_none}
 
@@ -29,7 +29,7 @@ module _ {d d' : DeviceState} {v : LogMemory} (memory : IsMemoryUpTo 63 v) (some
       let o = memory.opened some in
       let short = memory.short some in
       let inside : v.chunk.segment < k.segments = let i = o.inside in let e = is.segments in omega (arith, i, e) in
-      taken_free w v.chunk.segment v.chunk.start inside o.free (omega (arith, short))
+      taken_free w _ _ inside o.free (omega (arith, short))
 
   module _ (may : d'.keeps_model → MayWrite at (summary_sector v.chunk.names) d.content d'.content) where
     pub settled_sealed : (k : CheckpointValue) (m0 m : LogMap) → d'.keeps_model → IsLog d v k m0 m → IsSettled d' k m0

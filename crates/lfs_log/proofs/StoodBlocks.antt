@@ -1,6 +1,6 @@
 -- Blocks that stand in some segments: they are no more than those that live there and those that hold them.
 use Rattle.std.proofs.Common.{◌≡◌, ◌<◌, ◌≤◌, ◌⊎◌, ⊎_elim, ◌+◌, ◌==◌, ◌&&◌, not, cond, ℕ, suc, Bool, true, false, List, [], ◌∷◌, length}
-use Rattle.std.proofs.Common.{refl, sym, ◌∙◌, ap, subst, arith, inl, inr}
+use Rattle.std.proofs.Common.{refl, sym, ◌∙◌, ap, arith, inl, inr}
 use Rattle.std.specs.Prelude.{sum_by}
 use Rattle.std.proofs.lemmas.Bool.{cases_eq}
 use Rattle.std.proofs.lemmas.List.Sums.{sum_by-cons}
@@ -50,10 +50,10 @@ and_same {b} false is = yes b
     yes false = refl
 
 but_own : (p : Entry → Bool) (x : Entry) → but p x x ≡ false
-but_own p x = and_none (p x) (is_left (same_entry x x)) (left_is (same_entry x x) (λ ne. ne refl))
+but_own p x = and_none _ _ (left_is _ (λ ne. ne refl))
 
 but_other : (p : Entry → Bool) (x y : Entry) → (y ≡ x → ⊥) → but p x y ≡ p y
-but_other p x y ne = and_same (is_left (same_entry y x)) (right_is (same_entry y x) ne)
+but_other p x y ne = and_same _ (right_is _ ne)
 
 -- ---- counts over some segments
 module _ {e : Content} (m : LogMap) {M : Memory} {opened_at : ℕ} (laid : IsLaid e m M opened_at) where
@@ -70,7 +70,7 @@ module _ {e : Content} (m : LogMap) {M : Memory} {opened_at : ℕ} (laid : IsLai
       ⊎_elim
       (λ (here : v ≡ segment_of (M.at x)).
       let up : count_of p M v ≡ suc (count_of (but p x) M v) =
-      subst (λ (s : ℕ). count_of p M s ≡ suc (count_of (but p x) M s)) (sym here) (more.0 above) in
+      rw here (more.0 above) in
       (λ is. omega (arith, a, b, up, most), omega (arith, a, b, up, most)))
       (λ (away : v ≡ segment_of (M.at x) → ⊥).
       let same = more.1 v (λ above e. away e) in (
@@ -86,13 +86,13 @@ module _ {e : Content} (m : LogMap) {M : Memory} {opened_at : ℕ} (laid : IsLai
   stood_counted (x ∷ xs) apart p on vs there =
       let own = there x (inl refl) in
       let less = (one_less p x (on x (inl refl)) own.0 vs).0 own.1 in
-      let rest = stood_counted xs apart.1 (but p x) (λ y is. but_other p x y (λ h. apart.0 (subst (IsIn xs) h is)) ∙ on y (inr is)) vs
+      let rest = stood_counted xs apart.1 _ (λ y is. but_other p x y (λ h. apart.0 (rw (← h) is)) ∙ on y (inr is)) vs
       (λ y is. there y (inr is)) in
       omega (arith, less, rest)
 
   -- what lives somewhere or holds it is all that stands there
   all_counted : (s : ℕ) → live_of m M s + held_of m M s ≡ count_of (λ x. true) M s
-  all_counted s = counts_sum (is_shown m) (is_held m) (λ x. true) M M M refl refl (λ x a lt. split x a lt (is_shown m x) refl) s
+  all_counted s = counts_sum _ _ (λ x. true) M M M refl refl (λ x a lt. split x a lt (is_shown m x) refl) s
     where
       split : (x : Entry) (a : ℕ) → 0 < a → (b : Bool) → is_shown m x ≡ b
           → one_if (settled_at (those (is_shown m) M.at x) == a) + one_if (settled_at (those (is_held m) M.at x) == a)

@@ -1,13 +1,13 @@
 -- Blocks of the tables that leave their addresses, to be written by the next commit.
-use Rattle.std.proofs.Common.{◌≡◌, ◌<◌, ◌≤◌, ◌⊎◌, ⊎_elim, ◌+◌, ◌/◌, ℕ, true, false, List, length, get_or, Some, refl, sym, ◌∙◌, ap, subst}
+use Rattle.std.proofs.Common.{◌≡◌, ◌<◌, ◌≤◌, ◌⊎◌, ⊎_elim, ◌+◌, ◌/◌, ℕ, true, false, List, length, get_or, Some, refl, sym, ◌∙◌, ap}
 use Rattle.std.proofs.Common.{suc, arith}
 use Rattle.std.proofs.lemmas.Bool.{cases_eq}
-use Rattle.lfs_model.specs.Checkpoint.{CheckpointValue, IsSegmentCount}
+use Rattle.lfs_model.specs.Checkpoint.{CheckpointValue}
 use Rattle.lfs_model.specs.Counting.{segment_of}
 use Rattle.lfs_model.specs.Device.{DeviceState, IsLawful}
 use Rattle.lfs_model.specs.Entry.{Entry, Data, Leaf, Double, Inode, Map, Usage}
 use Rattle.lfs_model.specs.Memory.{is_shown, count_of}
-use Rattle.lfs_model.specs.Running.{Tables, Running, IsSet, IsLifted, IsTables, SpellsUsage, CountsDown}
+use Rattle.lfs_model.specs.Running.{Tables, Running, IsSet, IsLifted, IsTables, SpellsUsage}
 use Rattle.lfs_model.specs.Stands.{LogMap}
 use Rattle.lfs_model.proofs.Counting.{taken_counts}
 use Rattle.lfs_model.proofs.Leaving.{left_memory, left_taken, left_cached, still_open}
@@ -23,7 +23,7 @@ use Rattle.lfs_memory.specs.declared.memory.LogMemory.{LogMemory}
 use Rattle.lfs_memory.specs.Lifting.{HasTraces, MapLifts}
 use Rattle.lfs_memory.specs.Memory.{IsLoose, IsMemory, table_at, tables_of, segment_in, chunk_in}
 use Rattle.lfs_memory.specs.Present.{FailsFromDevice}
-use Rattle.lfs_memory.proofs.Gathered.{loose_traced, map_of_gathers, taken_traced, TracedIn}
+use Rattle.lfs_memory.proofs.Gathered.{loose_traced, map_of_gathers, taken_traced}
 use Rattle.lfs_memory.proofs.Lifted.{map_of_prepares}
 use Rattle.lfs_memory.proofs.Presents.{looks_none}
 use Rattle.lfs_memory.proofs.Stales.{stays_stale}
@@ -61,7 +61,7 @@ usage_lost d {v} {j} gone k m0 m keeps is = absurd (gone.lost (record {
     counts =
         let c = (taken_counts d.content m is.running.memory (segment_in v.chunk) (Usage j) 1
         (taken_memory is.running.memory (Usage j) 1 is.running.memory.bytes) is.running.laid there
-        (is_taken is.running.memory (Usage j) 1 is.running.memory.bytes (omega arith)) (is_shown m)).0 refl in
+        (is_taken _ _ 1 _ (omega arith)) (is_shown m)).0 refl in
         omega (arith, c)
 
 module _ (v v' : LogMemory) (j : ℕ) (go : UsageLeavesIn v v' j) where
@@ -88,9 +88,9 @@ module _ (v v' : LogMemory) (j : ℕ) (go : UsageLeavesIn v v' j) where
 
   usage_memory : IsMemory v → IsMemory v'
   usage_memory memory = record {
-    count = subst IsSegmentCount (sym size) memory.count;
+    count = rw size memory.count;
     opened = λ some.
-        let o = memory.opened (subst (λ (c : Chunk). 0 < length c.names) go.chunk some) in
+        let o = memory.opened (rw (← go.chunk) some) in
         let s = ap (λ (c : Chunk). c.segment) go.chunk in
         record {
           inside = let i = o.inside in let l = size in omega (arith, i, s, l);
@@ -100,7 +100,7 @@ module _ (v v' : LogMemory) (j : ℕ) (go : UsageLeavesIn v v' j) where
               v.chunk.segment in let f = o.free in let c = ap (λ (c : Chunk). c.start) go.chunk in omega (arith, a, b, k, f, c);
           last = go.usage.puts.last ∙ go.usage.lifts.last ∙ o.last ∙ ap (λ (n : ℕ). Some n) (sym s);
         };
-    short = subst (λ (c : Chunk). 0 < length c.names → c.start + length c.names ≤ 62) (sym go.chunk) memory.short;
+    short = rw go.chunk memory.short;
     usages = λ i one. ⊎_elim
         (λ (here : i ≡ j). ap (stale_of v'.usage) here ∙ go.usage.puts.stale.own)
         (λ (ne : i ≡ j → ⊥). stale_still i (memory.usages i (sym (address_other i ne) ∙ one)))
@@ -136,10 +136,8 @@ module _ (v v' : LogMemory) (j : ℕ) (go : UsageLeavesIn v v' j) where
         ∙ go.usage.lifts.blocks.stale.own)
         (cases_eq (segment_of (address_of v.usage j) / 64) j);
     others = λ i away. ⊎_elim
-        (λ (here : i ≡ j). ap (stale_of v'.usage) here ∙ go.usage.puts.stale.own
-        ∙ sym (pick_yes (cases_eq i j) true (stale_of v.usage i) here))
-        (λ (ne : i ≡ j → ⊥). go.usage.puts.stale.others i ne ∙ go.usage.lifts.blocks.stale.others i away
-        ∙ sym (pick_no (cases_eq i j) true (stale_of v.usage i) ne))
+        (λ (here : i ≡ j). ap (stale_of v'.usage) here ∙ go.usage.puts.stale.own ∙ sym (pick_yes _ true _ here))
+        (λ (ne : i ≡ j → ⊥). go.usage.puts.stale.others i ne ∙ go.usage.lifts.blocks.stale.others i away ∙ sym (pick_no _ true _ ne))
         (cases_eq i j);
   }
 
@@ -147,10 +145,8 @@ module _ (v v' : LogMemory) (j : ℕ) (go : UsageLeavesIn v v' j) where
   lifts_now m = record {
     at = record { own = λ top. go.usage.puts.address.own; others = λ y top ne. table_other y ne };
     used = λ i. numbers (λ x. x.used) i ∙ go.usage.lifts.used i;
-    live = subst (λ (x : List SegmentNumbers). CountsDown true (live_of v.usage) (λ i. (get_or x i no_segment).live)
-        (segment_of (address_of v.usage j))) (sym go.usage.puts.segments) go.usage.lifts.live;
-    held = subst (λ (x : List SegmentNumbers). CountsDown false (held_of v.usage) (λ i. (get_or x i no_segment).held)
-        (segment_of (address_of v.usage j))) (sym go.usage.puts.segments) go.usage.lifts.held;
+    live = rw go.usage.puts.segments go.usage.lifts.live;
+    held = rw go.usage.puts.segments go.usage.lifts.held;
     age = λ i. numbers (λ x. x.age) i ∙ go.usage.lifts.age i;
     kept = λ i. numbers (λ x. x.kept) i ∙ go.usage.lifts.kept i;
     stale = stale_now;
@@ -174,9 +170,8 @@ module _ (v v' : LogMemory) (j : ℕ) (go : UsageLeavesIn v v' j) where
 
     never_marked : (i : ℕ) → marked.stale i ≡ false → stale_of v.usage i ≡ false
     never_marked i off = ⊎_elim
-        (λ (here : i ≡ j). let bad : true ≡ false = sym (pick_yes (cases_eq i j) true (stale_of v.usage i) here) ∙ off in absurd (cc))
-        (λ (ne : i ≡ j → ⊥). sym (pick_no (cases_eq i j) true (stale_of v.usage i) ne) ∙ off)
-        (cases_eq i j)
+        (λ (here : i ≡ j). let bad : true ≡ false = sym (pick_yes _ true _ here) ∙ off in absurd (cc))
+        (λ (ne : i ≡ j → ⊥). sym (pick_no _ true _ ne) ∙ off) (cases_eq i j)
 
     gone : (w' : Running d (blocks_of v.dirty) (tables_of v') k m0 m (segment_in v.chunk) (chunk_in v.chunk)) × HasTraces w.memory w'.memory
     unfolding left_memory taken_memory
@@ -193,7 +188,7 @@ module _ (v v' : LogMemory) (j : ℕ) (go : UsageLeavesIn v v' j) where
             cached = left_cached d (tables_of v') k m w (Usage j) (usage_table j) 1 (omega arith);
             tables =
                 lifted_tables d.content m w.memory (segment_in v.chunk) (Usage j) 1 next marked (tables_of v') w.laid there p marked_tables
-                (subst (λ (a : ℕ). IsLifted m marked (tables_of v') (Usage j) 1 (segment_of a)) (sym same) go_now);
+                (rw same go_now);
             fresh = λ i off low.
                 let no = lifted_fresh m marked (tables_of v') (Usage j) 1 go_now i off in
                 no.1 (w.memory.bytes (Usage i)) (marked_spells i (w.fresh i (never_marked i no.0) low));
@@ -205,8 +200,7 @@ module _ (v v' : LogMemory) (j : ℕ) (go : UsageLeavesIn v v' j) where
         )
 
     usage_traced : (is' : IsLoose d v' k m0 m) × HasTraces is.running.memory is'.running.memory
-    usage_traced = loose_traced v' is go.chunk (ap (λ (m : MapValue). m.hidden) go.map) size
-        (subst (λ (t : TableValue). TracedIn v' is (blocks_of t) v.chunk) (sym go.dirty) gone)
+    usage_traced = loose_traced v' is go.chunk (ap (λ (m : MapValue). m.hidden) go.map) size (rw go.dirty gone)
 
   usage_gone : (d : DeviceState) → IsMemory v → Relocates d d v v'
   usage_gone d memory = record {
@@ -216,7 +210,7 @@ module _ (v v' : LogMemory) (j : ℕ) (go : UsageLeavesIn v v' j) where
     clean = ap clean_in go.usage.puts.segments ∙ go.usage.lifts.clean;
     chunk = go.chunk;
     capacity = ap (λ (t : TableValue). t.capacity) go.dirty;
-    stay = λ x there. subst (λ (t : TableValue). (b : List ℕ) × (blocks_of t x ≡ Some b)) (sym go.dirty) there;
+    stay = λ x there. rw go.dirty there;
     gathers = record {
       used = λ s. numbers (λ x. x.used) s ∙ go.usage.lifts.used s;
       kept = λ s. numbers (λ x. x.kept) s ∙ go.usage.lifts.kept s;
@@ -226,6 +220,6 @@ module _ (v v' : LogMemory) (j : ℕ) (go : UsageLeavesIn v v' j) where
 
 pub usage_relocates : (d : DeviceState) {v v' : LogMemory} {j : ℕ} → IsMemory v → (v' ≡ v) ⊎ UsageLeavesIn v v' j → Relocates d d v v'
 usage_relocates d {v} {v'} {j} memory go = ⊎_elim
-    (λ (same : v' ≡ v). subst (λ (w : LogMemory). Relocates d d v w) (sym same) (relocates_looks v memory (looks_none d)))
+    (λ (same : v' ≡ v). rw same (relocates_looks v memory (looks_none d)))
     (λ (leaves : UsageLeavesIn v v' j). usage_gone v v' j leaves d memory)
     go

@@ -4,7 +4,6 @@ use Rattle.std.proofs.Common.{arith, inl, inr}
 use Rattle.std.specs.Prelude.{T, Option}
 use Rattle.std.specs.Ordering.{nat_cmp}
 use Rattle.std.specs.FinMap.{find, is_sorted}
-use Rattle.std.specs.FinMap.Entries.{below_all}
 use Rattle.std.proofs.lemmas.Bool.{cases_eq}
 use Rattle.lfs_model.specs.Entry.{Entry}
 use Rattle.lfs_model.specs.Members.{IsIn, AreApart}
@@ -42,7 +41,7 @@ numbers_apart [] sorted = tt
 numbers_apart (e ∷ es) sorted = (
   λ is. (let r = number_there es e.0 is in let lt = r.1 in let same = r.2 in
       let less = rises (e ∷ es) sorted 0 (suc r.0) (omega arith) (omega (arith, lt)) in omega (arith, less, same)),
-  numbers_apart es (T_right (below_all nat_cmp e.0 es) _ sorted),
+  numbers_apart es (T_right _ _ sorted),
 )
 
 found_in : (es : Blocks) (c : ℕ) {b : List ℕ} → find nat_cmp c es ≡ Some b → IsIn (numbers es) c
@@ -62,7 +61,7 @@ has_or_not (Some b) = inl (b, refl)
 
 module _ {t : TableValue} (order : IsInOrder t) where
   formed : (c : ℕ) → IsIn (numbers t.blocks) c → IsCode c
-  formed c is = let r = number_there t.blocks c is in subst IsCode r.2 (order.codes r.0 r.1)
+  formed c is = let r = number_there _ c is in subst IsCode r.2 (order.codes r.0 r.1)
 
   has_number : (c : ℕ) → IsIn (numbers t.blocks) c → Has t (entry_at c)
   has_number c is =
@@ -73,7 +72,7 @@ module _ {t : TableValue} (order : IsInOrder t) where
       )
 
   number_in : (c : ℕ) → IsCode c → Has t (entry_at c) → IsIn (numbers t.blocks) c
-  number_in c is has = found_in t.blocks c (ap (λ (c : ℕ). find nat_cmp c t.blocks) (sym (code_entry c is)) ∙ has.1)
+  number_in c is has = found_in _ c (ap (λ (c : ℕ). find nat_cmp c t.blocks) (sym (code_entry c is)) ∙ has.1)
 
 -- As a table grows by one, and keeps what it has, nothing but this block comes in.
 pub one_came : {t t' : TableValue} (c : ℕ) → IsInOrder t → IsInOrder t' → IsCode c → ((x : Entry) → Has t x → Has t' x)
@@ -90,9 +89,9 @@ one_came {t} {t'} c order order' is stay inside new few x has = ⊎_elim
       (λ there. new (has_number order c there), numbers_apart t.blocks order.sorted),
     )
     (λ y there. ⊎_elim
-    (λ (first : y ≡ code x). subst (IsIn (numbers t'.blocks)) (sym first) (found_in t'.blocks (code x) has.1))
+    (λ (first : y ≡ code x). rw first (found_in t'.blocks (code x) has.1))
     (λ (rest : (y ≡ c) ⊎ IsIn (numbers t.blocks) y). ⊎_elim
-    (λ (second : y ≡ c). subst (IsIn (numbers t'.blocks)) (sym second) (number_in order' c is inside))
+    (λ (second : y ≡ c). rw second (number_in order' c is inside))
     (λ (old : IsIn (numbers t.blocks) y). number_in order' y (formed order y old) (stay (entry_at y) (has_number order y old))) rest)
     there) in
     let long = length_numbers t.blocks in
@@ -130,9 +129,9 @@ entries_apart : (cs : List ℕ) → ((c : ℕ) → IsIn cs c → IsCode c) → A
 unfolding entries_at
 entries_apart [] codes apart = tt
 entries_apart (c ∷ cs) codes apart = (
-  λ is. (let r = entry_there cs (entry_at c) is in
+  λ is. (let r = entry_there cs _ is in
       let same : c ≡ r.0 = sym (code_entry c (codes c (inl refl))) ∙ ap code r.2 ∙ code_entry r.0 (codes r.0 (inr r.1)) in
-      apart.0 (subst (IsIn cs) (sym same) r.1)),
+      apart.0 (rw same r.1)),
   entries_apart cs (λ d is. codes d (inr is)) apart.1,
 )
 
@@ -142,7 +141,7 @@ entries t = entries_at (numbers t.blocks)
 module _ {t : TableValue} (order : IsInOrder t) where
   pub count_entries : length (entries t) ≡ length t.blocks
   unfolding entries
-  count_entries = length_entries (numbers t.blocks) ∙ length_numbers t.blocks
+  count_entries = length_entries _ ∙ length_numbers _
 
   pub apart_entries : AreApart (entries t)
   unfolding entries
@@ -150,9 +149,9 @@ module _ {t : TableValue} (order : IsInOrder t) where
 
   pub has_entry : (x : Entry) → IsIn (entries t) x → Has t x
   unfolding entries
-  has_entry x is = let r = entry_there (numbers t.blocks) x is in subst (Has t) (sym r.2) (has_number order r.0 r.1)
+  has_entry x is = let r = entry_there (numbers t.blocks) x is in rw r.2 (has_number order r.0 r.1)
 
 -- each is a block of a file
 pub file_entry : (t : TableValue) (x : Entry) → IsIn (entries t) x → IsOfFile x
 unfolding entries
-file_entry t x is = let r = entry_there (numbers t.blocks) x is in subst IsOfFile (sym r.2) (of_file r.0)
+file_entry t x is = let r = entry_there _ x is in rw r.2 (of_file r.0)

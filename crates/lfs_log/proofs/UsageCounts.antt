@@ -1,5 +1,5 @@
 -- How many usage blocks are still to get a new place.
-use Rattle.std.proofs.Common.{◌≡◌, ◌<◌, ◌≤◌, ◌⊎◌, inl, inr, ⊎_elim, ◌+◌, ◌-◌, ◌%◌, ℕ, zero, suc, length, sym, ap, subst, arith}
+use Rattle.std.proofs.Common.{◌≡◌, ◌<◌, ◌≤◌, ◌⊎◌, inl, inr, ⊎_elim, ◌+◌, ◌-◌, ◌%◌, ℕ, zero, suc, length, ap, arith}
 use Rattle.std.proofs.lemmas.Bool.{cases_eq, cases_lt}
 use Rattle.lfs_model.specs.Counting.{segment_of}
 use Rattle.lfs_model.proofs.Running.{pick, pick_yes, pick_no}
@@ -32,11 +32,11 @@ out_count t = out_by t 16
 
 out_yes : (t : UsageTable) (j : ℕ) → IsAnew t j → one_out t j ≡ 0
 unfolding one_out
-out_yes t j is = pick_yes (anew_or t j) 0 1 is
+out_yes t j is = pick_yes _ 0 1 is
 
 out_no : (t : UsageTable) (j : ℕ) → (IsAnew t j → ⊥) → one_out t j ≡ 1
 unfolding one_out
-out_no t j is = pick_no (anew_or t j) 0 1 is
+out_no t j is = pick_no _ 0 1 is
 
 by_anew : (t : UsageTable) (j : ℕ) (P : Type 0) → (IsAnew t j → one_out t j ≡ 0 → P) → ((IsAnew t j → ⊥) → one_out t j ≡ 1 → P) → P
 by_anew t j P is_so is_not =
@@ -47,7 +47,7 @@ unfolding out_by
 most_by t zero = omega arith
 most_by t (suc n) =
     let rest = most_by t n in
-    by_anew t n (out_by t (suc n) ≤ suc n) (λ is e. omega arith) (λ is e. omega arith)
+    by_anew t n _ (λ is e. omega arith) (λ is e. omega arith)
 
 pub out_most : (t : UsageTable) → out_count t ≤ 16
 unfolding out_count
@@ -56,9 +56,9 @@ out_most t = most_by t 16
 none_by : (t : UsageTable) (n j : ℕ) → out_by t n ≤ 0 → j < n → IsAnew t j
 unfolding out_by
 none_by t zero j z lt = absurd (omega arith)
-none_by t (suc n) j z lt = by_anew t n (IsAnew t j)
+none_by t (suc n) j z lt = by_anew t n _
     (λ is e. ⊎_elim
-    (λ (here : j ≡ n). subst (IsAnew t) (sym here) is)
+    (λ (here : j ≡ n). rw here is)
     (λ (away : j ≡ n → ⊥). none_by t n j (omega arith) (omega arith))
     (cases_eq j n))
     (λ is e. absurd (omega arith))
@@ -70,7 +70,7 @@ out_none t few z j low stale = none_by t 16 j z (omega arith)
 module _ {old new : UsageTable} {j : ℕ} (out : IsAnew old j → ⊥) (is : IsResettled old new j) where
   stays : (i : ℕ) → IsAnew old i → IsAnew new i
   stays i was = ⊎_elim
-      (λ (here : i ≡ j). subst (IsAnew new) (sym here) is.own)
+      (λ (here : i ≡ j). rw here is.own)
       (λ (away : i ≡ j → ⊥).
       let e = is.others i away in
       let le = was.0 in
@@ -78,13 +78,12 @@ module _ {old new : UsageTable} {j : ℕ} (out : IsAnew old j → ⊥) (is : IsR
       let size = is.segments in
       let k = is.kept (segment_of (address_of old i)) in
       let on = was.2 in
-      (omega arith, omega arith, subst (λ (a : ℕ). IsUnkeptBy new a) (sym e) (omega arith)))
-      (cases_eq i j)
+      (omega arith, omega arith, rw e (omega arith))) (cases_eq i j)
 
   one_less : (i : ℕ) → one_out new i ≤ one_out old i
-  one_less i = by_anew old i (one_out new i ≤ one_out old i)
+  one_less i = by_anew old i _
       (λ was e. let now = out_yes new i (stays i was) in omega arith)
-      (λ was e. by_anew new i (one_out new i ≤ one_out old i) (λ p f. omega arith) (λ p f. omega arith))
+      (λ was e. by_anew new i _ (λ p f. omega arith) (λ p f. omega arith))
 
   less_by : (n : ℕ) → (j < n → suc (out_by new n) ≤ out_by old n) × (out_by new n ≤ out_by old n)
   unfolding out_by

@@ -1,18 +1,18 @@
 -- A usage block gets a new place: what that leaves of the log.
 use Rattle.std.proofs.Common.{◌≡◌, ◌<◌, ◌≤◌, ◌⊎◌, inl, inr, ⊎_elim, ◌+◌, ◌-◌, ◌*◌, ◌/◌, ◌%◌, true, false, ℕ, suc, List, [], ◌∷◌, ◌++◌}
-use Rattle.std.proofs.Common.{length, map, get_or, Option, Some, None, refl, sym, ◌∙◌, ap, subst, arith, length-append, Result, Ok, Err}
+use Rattle.std.proofs.Common.{length, map, get_or, Some, None, refl, sym, ◌∙◌, ap, subst, arith, length-append, Result, Ok, Err}
 use Rattle.std.proofs.Common.{OnOk}
 use Rattle.std.proofs.Math.Path.{fun_ext}
 use Rattle.std.proofs.lemmas.Bool.{cases_eq}
 use Rattle.lfs_model.specs.Entry.{Entry, Data, Leaf, Double, Inode, Map, Usage, entry_of}
-use Rattle.lfs_model.specs.Checkpoint.{CheckpointValue, IsSegmentCount}
+use Rattle.lfs_model.specs.Checkpoint.{CheckpointValue}
 use Rattle.lfs_model.specs.Device.{DeviceState, Carries}
 use Rattle.lfs_model.specs.Stands.{LogMap}
 use Rattle.lfs_model.specs.Summary.{BlockNameValue, IsPlaced}
 use Rattle.lfs_model.specs.declared.BlockKind.TheVariants as kind
 use Rattle.lfs_model.specs.Memory.{is_shown}
 use Rattle.lfs_model.specs.Counting.{segment_of}
-use Rattle.lfs_model.specs.Running.{Dirty, IsTight, Tables, Running, IsSet, CountsUp, IsNoted, IsLifted, IsTakenFrom, GoesOnIn}
+use Rattle.lfs_model.specs.Running.{Dirty, Tables, Running, IsSet, CountsUp, IsNoted, IsLifted, IsTakenFrom, GoesOnIn}
 use Rattle.lfs_model.specs.Committing.{place_of}
 use Rattle.lfs_model.proofs.Entries.{same_entry}
 use Rattle.lfs_model.proofs.Counting.{taken_counts}
@@ -29,7 +29,7 @@ use Rattle.lfs_memory.proofs.of_segments.StaysEmptied.{stays_emptied}
 use Rattle.lfs_memory.specs.inodes.Blocks.{TableValue, blocks_of}
 use Rattle.lfs_memory.specs.inodes.MapValue.{MapValue, address_in, block_in}
 use Rattle.lfs_memory.specs.declared.memory.LogMemory.{LogMemory}
-use Rattle.lfs_memory.specs.Memory.{table_at, tables_by, tables_of, segment_in, chunk_in, room_of, IsMemoryUpTo, IsMemory, AreHidden, IsLog}
+use Rattle.lfs_memory.specs.Memory.{table_at, tables_by, tables_of, segment_in, chunk_in, room_of, IsMemoryUpTo, IsMemory, IsLog}
 use Rattle.lfs_memory.specs.Memory.{Goes, Stops}
 use Rattle.lfs_memory.proofs.Opened.{open_segment, open_chunk, closed_segment, closed_chunk, as_chunk}
 use Rattle.lfs_memory.proofs.Rooms.{room_none, room_some}
@@ -67,15 +67,11 @@ goes_into d {dirty} {t} t' k m0 m c seg w begins goes = ⊎_elim
     let b = begins z in
     let none : Running d dirty t k m0 m 1024 None =
     as_chunk (closed_segment c z) (closed_chunk c z) w in
-    subst (λ (es : List Entry). Running d dirty t' k m0 m seg (Some es)) (sym (no_names c.names z))
-    (⊎_elim (λ (takes : IsTakenFrom t t' seg). beginning d dirty t t' k m0 m 1024 seg none b.0 takes)
+    rw (no_names _ z) (⊎_elim (λ (takes : IsTakenFrom t t' seg). beginning d dirty t t' k m0 m 1024 seg none b.0 takes)
     (λ (g : GoesOnIn t t' seg). going_on d dirty t t' k m0 m 1024 seg none b.0 g) b.1))
     (λ (ne : length c.names ≡ 0 → ⊥).
     let g = goes ne in
-    subst (λ (u : Tables). Running d dirty u k m0 m seg (Some (entries_of c))) (sym g.0)
-    (subst (λ (s : ℕ). Running d dirty t k m0 m s (Some (entries_of c))) (sym g.1) (as_chunk (open_segment c (omega arith))
-    (open_chunk c (omega arith)) w)))
-    (cases_eq (length c.names) 0)
+    rw g.0 (rw g.1 (as_chunk (open_segment c (omega arith)) (open_chunk c (omega arith)) w))) (cases_eq (length c.names) 0)
 
 -- ---- the tables
 -- those in which usage block j is to be written
@@ -128,21 +124,19 @@ without_left map usage j one = ap (λ (at : Entry → ℕ). by_at at) (fun_ext (
 
     same : (x : Entry) → pick (same_entry x (Usage j)) 1 (table_at map usage x) ≡ table_at map usage x
     same x = ⊎_elim
-        (λ (here : x ≡ Usage j). pick_yes (same_entry x (Usage j)) 1 (table_at map usage x) here ∙ sym one
-        ∙ ap (table_at map usage) (sym here))
-        (λ (ne : x ≡ Usage j → ⊥). pick_no (same_entry x (Usage j)) 1 (table_at map usage x) ne)
-        (same_entry x (Usage j))
+        (λ (here : x ≡ Usage j). pick_yes _ 1 _ here ∙ sym one ∙ ap (table_at map usage) (sym here))
+        (λ (ne : x ≡ Usage j → ⊥). pick_no _ 1 _ ne) (same_entry x _)
 
 module _ (v v' : LogMemory) (j number : ℕ) (good : IsMemory v) (old : stale_of v.usage j ≡ true) (r : Resettles v v' j number) where
-  seg : ℕ
-  seg = r.placed.chunk.segment
-
-  abbrev mid : UsageTable
-  mid = r.places.middle
+  abbrev segment : ℕ
+  segment = r.placed.chunk.segment
 
   -- the table between, which is that in which it left or one that took a segment
-  by_case : (P : Type 0) → (length v.chunk.names ≡ 0 → Begins r.lifted r.places.middle r.placed.chunk.segment number → P)
-      → (0 < length v.chunk.names → r.places.middle ≡ r.lifted → r.placed.chunk.segment ≡ v.chunk.segment → P) → P
+  abbrev middle : UsageTable
+  middle = r.places.middle
+
+  by_case : (P : Type 0) → (length v.chunk.names ≡ 0 → Begins r.lifted middle segment number → P)
+      → (0 < length v.chunk.names → middle ≡ r.lifted → segment ≡ v.chunk.segment → P) → P
   by_case P begun on = ⊎_elim
       (λ (z : length v.chunk.names ≡ 0). begun z (r.places.begun z))
       (λ (ne : length v.chunk.names ≡ 0 → ⊥). let lt : 0 < length v.chunk.names = omega arith in let g = r.places.went_on lt in
@@ -157,93 +151,84 @@ module _ (v v' : LogMemory) (j number : ℕ) (good : IsMemory v) (old : stale_of
       (λ (ne : address_of v.usage j ≡ 1 → ⊥). now (r.leaves.above ne) (r.leaves.lifts ne))
       (cases_eq (address_of v.usage j) 1)
 
+  lifted_same : {X : Type 0} (F : UsageTable → X)
+      → (Lifts v.usage r.lifted (segment_of (address_of v.usage j)) true → F r.lifted ≡ F v.usage) → F r.lifted ≡ F v.usage
+  lifted_same F lifts = if_left _ (λ same. ap F same) (λ above go. lifts go)
+
   lifted_size : length r.lifted.segments ≡ length v.usage.segments
-  lifted_size = if_left (length r.lifted.segments ≡ length v.usage.segments) (λ same. ap (λ (u : UsageTable). length u.segments) same)
-      (λ above go. go.size)
+  lifted_size = lifted_same (λ u. length u.segments) (λ go. go.size)
 
   lifted_address : (i : ℕ) → address_of r.lifted i ≡ address_of v.usage i
-  lifted_address i = if_left (address_of r.lifted i ≡ address_of v.usage i) (λ same. ap (λ (u : UsageTable). address_of u i) same)
-      (λ above go. go.blocks.address i)
+  lifted_address i = lifted_same (λ u. address_of u i) (λ go. go.blocks.address i)
 
   lifted_clean : clean_in r.lifted.segments ≡ clean_in v.usage.segments
-  lifted_clean = if_left (clean_in r.lifted.segments ≡ clean_in v.usage.segments)
-      (λ same. ap (λ (u : UsageTable). clean_in u.segments) same) (λ above go. go.clean)
+  lifted_clean = lifted_same (λ u. clean_in u.segments) (λ go. go.clean)
 
   lifted_kept : (i : ℕ) → kept_of r.lifted i ≡ kept_of v.usage i
-  lifted_kept i =
-      if_left (kept_of r.lifted i ≡ kept_of v.usage i) (λ same. ap (λ (u : UsageTable). kept_of u i) same) (λ above go. go.kept i)
+  lifted_kept i = lifted_same (λ u. kept_of u i) (λ go. go.kept i)
 
   lifted_used : (i : ℕ) → used_of r.lifted i ≡ used_of v.usage i
-  lifted_used i =
-      if_left (used_of r.lifted i ≡ used_of v.usage i) (λ same. ap (λ (u : UsageTable). used_of u i) same) (λ above go. go.used i)
+  lifted_used i = lifted_same (λ u. used_of u i) (λ go. go.used i)
 
-  mid_kept : (i : ℕ) → kept_of r.places.middle i ≡ kept_of v.usage i
-  mid_kept i = by_case (kept_of r.places.middle i ≡ kept_of v.usage i)
-      (λ z begins. begins_kept r.lifted r.places.middle r.placed.chunk.segment number begins i ∙ lifted_kept i)
-      (λ lt same on. ap (λ (u : UsageTable). kept_of u i) same ∙ lifted_kept i)
+  begun_same : {X : Type 0} (F : UsageTable → X) → (Begins r.lifted middle segment number → F middle ≡ F r.lifted) → F middle ≡ F r.lifted
+  begun_same F begun = by_case _ (λ z begins. begun begins) (λ lt same on. ap F same)
+
+  mid_kept : (i : ℕ) → kept_of middle i ≡ kept_of v.usage i
+  mid_kept i = begun_same (λ u. kept_of u i) (λ begins. begins_kept _ _ _ _ begins i) ∙ lifted_kept i
 
   -- its segment has room for it
-  mid_room : used_of r.places.middle r.placed.chunk.segment < 64
-  mid_room = by_case (used_of r.places.middle r.placed.chunk.segment < 64)
-      (λ z begins. begins_room r.lifted r.places.middle r.placed.chunk.segment number begins)
+  mid_room : used_of middle segment < 64
+  mid_room = by_case _ (λ z begins. begins_room _ _ _ _ begins)
       (λ lt same on.
-      let u = ap (λ (u : UsageTable). used_of u r.placed.chunk.segment) same in
-      let w = lifted_used r.placed.chunk.segment in
+      let u = ap (λ (u : UsageTable). used_of u segment) same in
+      let w = lifted_used segment in
       let s = ap (used_of v.usage) on in
       let o = (good.opened lt).used in
       let short = good.short lt in
       omega arith)
 
-  mid_size : length r.places.middle.segments ≡ length v.usage.segments
-  mid_size = by_case (length r.places.middle.segments ≡ length v.usage.segments)
-      (λ z begins. begins_size r.lifted r.places.middle r.placed.chunk.segment number begins ∙ lifted_size)
-      (λ lt same on. ap (λ (u : UsageTable). length u.segments) same ∙ lifted_size)
+  mid_size : length middle.segments ≡ length v.usage.segments
+  mid_size = begun_same (λ u. length u.segments) (λ begins. begins_size _ _ _ _ begins) ∙ lifted_size
 
   pub new_size : length v'.usage.segments ≡ length v.usage.segments
   new_size = ap length r.puts.segments ∙ r.places.noted.size ∙ mid_size
 
-  mid_address : (i : ℕ) → address_of r.places.middle i ≡ address_of v.usage i
-  mid_address i = by_case (address_of r.places.middle i ≡ address_of v.usage i)
-      (λ z begins. begins_address r.lifted r.places.middle r.placed.chunk.segment number begins i ∙ lifted_address i)
-      (λ lt same on. ap (λ (u : UsageTable). address_of u i) same ∙ lifted_address i)
+  mid_address : (i : ℕ) → address_of middle i ≡ address_of v.usage i
+  mid_address i = begun_same (λ u. address_of u i) (λ begins. begins_address _ _ _ _ begins i) ∙ lifted_address i
+
+  still_lifted : (i : ℕ) → stale_of v.usage i ≡ true → stale_of r.lifted i ≡ true
+  still_lifted i on = if_left _ (λ same. ap (λ (u : UsageTable). stale_of u i) same ∙ on) (λ above go. stays_stale i go.blocks on)
+
+  still_middle : (i : ℕ) → stale_of r.lifted i ≡ true → stale_of middle i ≡ true
+  still_middle i on =
+      by_case _ (λ z begins. begins_stale _ _ _ _ begins i on) (λ lt same went. ap (λ (u : UsageTable). stale_of u i) same ∙ on)
 
   lifted_stale : stale_of r.lifted j ≡ true
-  lifted_stale = if_left (stale_of r.lifted j ≡ true)
-      (λ same. ap (λ (u : UsageTable). stale_of u j) same ∙ old)
-      (λ above go. stays_stale j go.blocks old)
+  lifted_stale = still_lifted j old
 
-  mid_stale : stale_of r.places.middle j ≡ true
-  mid_stale = by_case (stale_of r.places.middle j ≡ true)
-      (λ z begins. begins_stale r.lifted r.places.middle r.placed.chunk.segment number begins j lifted_stale)
-      (λ lt same on. ap (λ (u : UsageTable). stale_of u j) same ∙ lifted_stale)
+  mid_stale : stale_of middle j ≡ true
+  mid_stale = still_middle j lifted_stale
 
   new_stale : (i : ℕ) → stale_of v.usage i ≡ true → stale_of v'.usage i ≡ true
   new_stale i on = ⊎_elim
       (λ (here : i ≡ j). ap (stale_of v'.usage) here ∙ r.puts.stale.own)
       (λ (ne : i ≡ j → ⊥).
-      r.puts.stale.others i ne ∙ stays_stale i r.places.noted.blocks (by_case (stale_of r.places.middle i ≡ true)
-      (λ z begins. begins_stale r.lifted r.places.middle r.placed.chunk.segment number begins i still)
-      (λ lt same went. ap (λ (u : UsageTable). stale_of u i) same ∙ still)))
+      r.puts.stale.others i ne ∙ stays_stale i r.places.noted.blocks (still_middle i (still_lifted i on)))
       (cases_eq i j)
-    where
-      still : stale_of r.lifted i ≡ true
-      still = if_left (stale_of r.lifted i ≡ true)
-          (λ same. ap (λ (u : UsageTable). stale_of u i) same ∙ on)
-          (λ above go. stays_stale i go.blocks on)
 
   pub new_names : v'.chunk.names ≡ v.chunk.names ++ usage_name j ∷ []
   new_names = ap (λ (c : Chunk). c.names) r.chunk ∙ r.places.names
 
   pub new_length : length v'.chunk.names ≡ suc (length v.chunk.names)
-  new_length = ap length new_names ∙ one_longer v.chunk.names (usage_name j)
+  new_length = ap length new_names ∙ one_longer _ _
 
   new_some : 0 < length v'.chunk.names
   new_some = let l = new_length in omega arith
 
-  new_address : address_of v'.usage j ≡ 2 + 64 * r.placed.chunk.segment + used_of r.places.middle r.placed.chunk.segment
+  new_address : address_of v'.usage j ≡ 2 + 64 * segment + used_of middle segment
   new_address = r.puts.address.own ∙ r.places.address
 
-  other_address : (i : ℕ) → (i ≡ j → ⊥) → address_of v'.usage i ≡ address_of r.places.middle i
+  other_address : (i : ℕ) → (i ≡ j → ⊥) → address_of v'.usage i ≡ address_of middle i
   other_address i ne = r.puts.address.others i ne ∙ r.places.noted.blocks.address i
 
   new_opened : IsOpenChunk v'.chunk v'.usage
@@ -251,10 +236,9 @@ module _ (v v' : LogMemory) (j number : ℕ) (good : IsMemory v) (old : stale_of
       let o = r.places.opened in
       subst (λ (c : Chunk). IsOpenChunk c v'.usage) (sym r.chunk)
       (record {
-        inside = subst (λ (x : List SegmentNumbers). r.placed.chunk.segment < length x) (sym r.puts.segments) o.inside;
-        used = ap (λ (x : List SegmentNumbers). (get_or x r.placed.chunk.segment no_segment).used) r.puts.segments ∙ o.used;
-        free = subst (λ (x : List SegmentNumbers). (get_or x r.placed.chunk.segment no_segment).kept ≤ r.placed.chunk.start)
-            (sym r.puts.segments) o.free;
+        inside = rw r.puts.segments o.inside;
+        used = ap (λ (x : List SegmentNumbers). (get_or x segment no_segment).used) r.puts.segments ∙ o.used;
+        free = rw r.puts.segments o.free;
         last = r.puts.last ∙ o.last;
       })
 
@@ -266,7 +250,7 @@ module _ (v v' : LogMemory) (j number : ℕ) (good : IsMemory v) (old : stale_of
 
   pub resettled_memory : IsMemoryUpTo 63 v'
   resettled_memory = record {
-    count = subst IsSegmentCount (sym new_size) good.count;
+    count = rw new_size good.count;
     opened = λ some. new_opened;
     short = λ some.
         let o = r.places.opened.used in
@@ -290,21 +274,21 @@ module _ (v v' : LogMemory) (j number : ℕ) (good : IsMemory v) (old : stale_of
       let w = r.places.noted.used.own in
       let m = mid_room in
       let h = ap (λ (c : Chunk). c.start + length c.names) r.chunk in
-      let c : clean_in v'.usage.segments ≡ clean_in r.places.middle.segments = ap clean_in r.puts.segments ∙ r.places.noted.clean in
+      let c : clean_in v'.usage.segments ≡ clean_in middle.segments = ap clean_in r.puts.segments ∙ r.places.noted.clean in
       let u = lifted_clean in
       let n = room_some v'.chunk new_some in
-      by_case (room_of v ≤ room_of v' + 1)
+      by_case _
       (λ z begins.
       let none = room_none v.chunk z in
       ⊎_elim
-      (λ (t : TakesSegment r.lifted r.places.middle r.placed.chunk.segment number). let e = t.count in let one = t.used.own in omega arith)
-      (λ (g : GoesOn r.lifted r.places.middle r.placed.chunk.segment number). let e = g.clean in omega arith)
+      (λ (t : TakesSegment r.lifted middle segment number). let e = t.count in let one = t.used.own in omega arith)
+      (λ (g : GoesOn r.lifted middle segment number). let e = g.clean in omega arith)
       begins)
       (λ lt same on.
       let e = ap (λ (u : UsageTable). clean_in u.segments) same in
       let before = room_some v.chunk lt in
-      let a = ap (λ (u : UsageTable). used_of u r.placed.chunk.segment) same in
-      let b = lifted_used r.placed.chunk.segment in
+      let a = ap (λ (u : UsageTable). used_of u segment) same in
+      let b = lifted_used segment in
       let d = ap (used_of v.usage) on in
       let f = (good.opened lt).used in
       omega arith)
@@ -321,11 +305,11 @@ module _ (v v' : LogMemory) (j number : ℕ) (good : IsMemory v) (old : stale_of
       let long = ap length size in
       let l = new_length in
       let names = ap (λ (c : Chunk). length c.names) r.chunk in
-      let at : segment_of (address_of v'.usage j) ≡ r.placed.chunk.segment = omega arith in
-      let here : (address_of v'.usage j - 2) % 64 ≡ used_of r.places.middle r.placed.chunk.segment = omega arith in
-      let free : kept_of v'.usage r.placed.chunk.segment ≤ r.placed.chunk.start = subst (λ (x : List SegmentNumbers).
-      (get_or x r.placed.chunk.segment no_segment).kept ≤ r.placed.chunk.start) (sym r.puts.segments) p.free in
-      let kept : kept_of v'.usage (segment_of (address_of v'.usage j)) ≡ kept_of v'.usage r.placed.chunk.segment =
+      let at : segment_of (address_of v'.usage j) ≡ segment = omega arith in
+      let here : (address_of v'.usage j - 2) % 64 ≡ used_of middle segment = omega arith in
+      let free : kept_of v'.usage segment ≤ r.placed.chunk.start = subst (λ (x : List SegmentNumbers).
+      (get_or x segment no_segment).kept ≤ r.placed.chunk.start) (sym r.puts.segments) p.free in
+      let kept : kept_of v'.usage (segment_of (address_of v'.usage j)) ≡ kept_of v'.usage segment =
       ap (kept_of v'.usage) at in
       record {
         own = (omega arith, omega arith, omega arith);
@@ -351,11 +335,11 @@ module _ (v v' : LogMemory) (j number : ℕ) (good : IsMemory v) (old : stale_of
       stale = go.blocks.stale;
     }
 
-    takes_now : TakesSegment r.lifted r.places.middle r.placed.chunk.segment number
-        → IsTakenFrom (without v.map r.lifted j) (without v.map r.places.middle j) r.placed.chunk.segment
+    takes_now : TakesSegment r.lifted middle segment number
+        → IsTakenFrom (without v.map r.lifted j) (without v.map middle j) segment
     takes_now t = record {
       clean = t.clean;
-      at = without_same v.map r.lifted r.places.middle j (λ i. (t.blocks i).1);
+      at = without_same v.map r.lifted middle j (λ i. (t.blocks i).1);
       used = t.used;
       live = t.live;
       held = t.held;
@@ -364,12 +348,12 @@ module _ (v v' : LogMemory) (j number : ℕ) (good : IsMemory v) (old : stale_of
       stale = λ i. (t.blocks i).0;
     }
 
-    goes_on_now : GoesOn r.lifted r.places.middle r.placed.chunk.segment number
-        → GoesOnIn (without v.map r.lifted j) (without v.map r.places.middle j) r.placed.chunk.segment
+    goes_on_now : GoesOn r.lifted middle segment number
+        → GoesOnIn (without v.map r.lifted j) (without v.map middle j) segment
     goes_on_now g = record {
       some = g.begun;
       room = let r = g.room in omega arith;
-      at = without_same v.map r.lifted r.places.middle j g.blocks.address;
+      at = without_same v.map r.lifted middle j g.blocks.address;
       used = g.used;
       live = g.live;
       held = g.held;
@@ -378,33 +362,33 @@ module _ (v v' : LogMemory) (j number : ℕ) (good : IsMemory v) (old : stale_of
       stale = g.blocks.stale;
     }
 
-    stale_now : IsSet (stale_of r.places.middle) (stale_of v'.usage) (r.placed.chunk.segment / 64) true
+    stale_now : IsSet (stale_of middle) (stale_of v'.usage) (segment / 64) true
     stale_now = record {
       own = ⊎_elim
-          (λ (here : r.placed.chunk.segment / 64 ≡ j). ap (stale_of v'.usage) here ∙ r.puts.stale.own)
-          (λ (ne : r.placed.chunk.segment / 64 ≡ j → ⊥). r.puts.stale.others (r.placed.chunk.segment / 64) ne
+          (λ (here : segment / 64 ≡ j). ap (stale_of v'.usage) here ∙ r.puts.stale.own)
+          (λ (ne : segment / 64 ≡ j → ⊥). r.puts.stale.others (segment / 64) ne
           ∙ r.places.noted.blocks.stale.own)
-          (cases_eq (r.placed.chunk.segment / 64) j);
+          (cases_eq (segment / 64) j);
       others = λ i away. ⊎_elim
-          (λ (here : i ≡ j). ap (stale_of v'.usage) here ∙ r.puts.stale.own ∙ sym mid_stale ∙ ap (stale_of r.places.middle) (sym here))
+          (λ (here : i ≡ j). ap (stale_of v'.usage) here ∙ r.puts.stale.own ∙ sym mid_stale ∙ ap (stale_of middle) (sym here))
           (λ (ne : i ≡ j → ⊥). r.puts.stale.others i ne ∙ r.places.noted.blocks.stale.others i away)
           (cases_eq i j);
     }
 
-    notes_now : IsNoted m (without v.map r.places.middle j) (tables_of v') (Usage j)
-        (place_of (without v.map r.places.middle j) r.placed.chunk.segment) r.placed.chunk.segment
+    notes_now : IsNoted m (without v.map middle j) (tables_of v') (Usage j)
+        (place_of (without v.map middle j) segment) segment
     notes_now = record {
       at = record {
         own = λ top. new_address;
-        others = λ y top ne. table_other v.map r.places.middle v'.usage new_map other_address y ne
-            ∙ sym (pick_no (same_entry y (Usage j)) 1 (table_at v.map r.places.middle y) ne);
+        others = λ y top ne. table_other v.map middle v'.usage new_map other_address y ne
+            ∙ sym (pick_no (same_entry y (Usage j)) 1 (table_at v.map middle y) ne);
       };
-      used = subst (λ (x : List SegmentNumbers). IsSet (used_of r.places.middle) (λ i. (get_or x i no_segment).used) r.placed.chunk.segment
-          (suc (used_of r.places.middle r.placed.chunk.segment))) (sym r.puts.segments) r.places.noted.used;
-      live = subst (λ (x : List SegmentNumbers). CountsUp true (live_of r.places.middle)
-          (λ i. (get_or x i no_segment).live) r.placed.chunk.segment) (sym r.puts.segments) r.places.noted.live;
-      held = subst (λ (x : List SegmentNumbers). CountsUp false (held_of r.places.middle)
-          (λ i. (get_or x i no_segment).held) r.placed.chunk.segment) (sym r.puts.segments) r.places.noted.held;
+      used = subst (λ (x : List SegmentNumbers). IsSet (used_of middle) (λ i. (get_or x i no_segment).used) segment
+          (suc (used_of middle segment))) (sym r.puts.segments) r.places.noted.used;
+      live = subst (λ (x : List SegmentNumbers). CountsUp true (live_of middle)
+          (λ i. (get_or x i no_segment).live) segment) (sym r.puts.segments) r.places.noted.live;
+      held = subst (λ (x : List SegmentNumbers). CountsUp false (held_of middle)
+          (λ i. (get_or x i no_segment).held) segment) (sym r.puts.segments) r.places.noted.held;
       age = λ i ne. ap (λ (x : List SegmentNumbers). (get_or x i no_segment).age) r.puts.segments ∙ r.places.noted.age i;
       kept = λ i. ap (λ (x : List SegmentNumbers). (get_or x i no_segment).kept) r.puts.segments ∙ r.places.noted.kept i;
       stale = stale_now;
@@ -414,73 +398,63 @@ module _ (v v' : LogMemory) (j number : ℕ) (good : IsMemory v) (old : stale_of
       left_now : Running d (blocks_of v.dirty) (without v.map r.lifted j) k m0 m (segment_in v.chunk) (chunk_in v.chunk)
       left_now = ⊎_elim
           (λ (one : address_of v.usage j ≡ 1).
-          subst (λ (u : UsageTable). Running d (blocks_of v.dirty) (without v.map u j) k m0 m (segment_in v.chunk) (chunk_in v.chunk))
-          (sym (r.leaves.left one))
-          (subst (λ (t : Tables). Running d (blocks_of v.dirty) t k m0 m (segment_in v.chunk) (chunk_in v.chunk))
-          (without_left v.map v.usage j one) log.running))
+          rw (r.leaves.left one, ← without_left v.map v.usage j one) log.running)
           (λ (ne : address_of v.usage j ≡ 1 → ⊥).
           usage_leaving d (blocks_of v.dirty) (tables_of v) (without v.map r.lifted j) k m0 m (segment_in v.chunk)
           (chunk_in v.chunk) j log.running (r.leaves.above ne) old (lifts_now (r.leaves.lifts ne)))
           (cases_eq (address_of v.usage j) 1)
 
-      open_now : Running d (blocks_of v.dirty) (without v.map r.places.middle j) k m0 m r.placed.chunk.segment (Some (entries_of v.chunk))
-      open_now = goes_into d (without v.map r.places.middle j) k m0 m v.chunk r.placed.chunk.segment left_now
+      open_now : Running d (blocks_of v.dirty) (without v.map middle j) k m0 m segment (Some (entries_of v.chunk))
+      open_now = goes_into d (without v.map middle j) k m0 m v.chunk segment left_now
           (λ z.
           let t = r.places.begun z in
           let s = log.segments in
           let e = lifted_size in
-          let i = begins_inside r.lifted r.places.middle r.placed.chunk.segment number t in
+          let i = begins_inside _ _ _ _ t in
           (omega arith, ⊎_elim (λ takes. inl (takes_now takes)) (λ goes. inr (goes_on_now goes)) t))
           (λ ne. let g = r.places.went_on (omega arith) in (ap (λ (u : UsageTable). without v.map u j) g.0, g.1))
 
-      settled_now : Running d (blocks_of v.dirty) (tables_of v') k m0 m r.placed.chunk.segment (Some (entries_of v.chunk ++ Usage j ∷ []))
-      settled_now = usage_settling d (blocks_of v.dirty) (without v.map r.places.middle j) (tables_of v') k m0 m r.placed.chunk.segment
+      settled_now : Running d (blocks_of v.dirty) (tables_of v') k m0 m segment (Some (entries_of v.chunk ++ Usage j ∷ []))
+      settled_now = usage_settling d (blocks_of v.dirty) (without v.map middle j) (tables_of v') k m0 m segment
           (entries_of v.chunk) j open_now
-          mid_room
-          (pick_yes (same_entry (Usage j) (Usage j)) 1 (table_at v.map r.places.middle (Usage j)) refl)
-          mid_stale
-          notes_now
+          mid_room (pick_yes (same_entry (Usage j) (Usage j)) 1 _ refl) mid_stale notes_now
 
       running_now : Running d (blocks_of v'.dirty) (tables_of v') k m0 m (segment_in v'.chunk) (chunk_in v'.chunk)
       running_now =
-          let s : segment_in v'.chunk ≡ r.placed.chunk.segment = open_segment v'.chunk new_some ∙ ap (λ (c : Chunk). c.segment) r.chunk in
+          let s : segment_in v'.chunk ≡ segment = open_segment v'.chunk new_some ∙ ap (λ (c : Chunk). c.segment) r.chunk in
           let o : chunk_in v'.chunk ≡ Some (entries_of v.chunk ++ Usage j ∷ []) = open_chunk v'.chunk new_some ∙ ap
           (λ (names : List BlockNameValue). Some (map entry_of names)) new_names ∙ ap Some (names_end v.chunk.names (usage_name j)) in
-          subst (λ (t : TableValue). Running d (blocks_of t) (tables_of v') k m0 m (segment_in v'.chunk) (chunk_in v'.chunk))
-          (sym new_dirty)
-          (subst (λ (i : ℕ). Running d (blocks_of v.dirty) (tables_of v') k m0 m i (chunk_in v'.chunk)) (sym s)
-          (subst (λ (c : Option (List Entry)). Running d (blocks_of v.dirty) (tables_of v') k m0 m r.placed.chunk.segment c)
-          (sym o) settled_now))
+          rw new_dirty (rw s (rw o settled_now))
 
       pub resettled_log : IsLog d v' k m0 m
       resettled_log = record {
         running = running_now;
-        hidden = subst (λ (x : MapValue). AreHidden x m) (sym new_map) log.hidden;
+        hidden = rw new_map log.hidden;
         segments = new_size ∙ log.segments;
-        tight = subst (λ (t : TableValue). IsTight (blocks_of t)) (sym new_dirty) log.tight;
+        tight = rw new_dirty log.tight;
       }
 
   -- the segment has sectors that the acknowledged checkpoint doesn't need
-  unkept : kept_of r.places.middle r.placed.chunk.segment < used_of r.places.middle r.placed.chunk.segment
+  unkept : kept_of middle segment < used_of middle segment
   unkept =
-      let k = r.places.noted.kept r.placed.chunk.segment in
+      let k = r.places.noted.kept segment in
       let f = r.places.opened.free in
       let u = r.places.noted.used.own in
       let o = r.places.opened.used in
-      let names = ap length r.places.names ∙ one_longer v.chunk.names (usage_name j) in
+      let names = ap length r.places.names ∙ one_longer _ _ in
       omega arith
 
   -- a segment that was emptied stays so
   pub resettled_emptied : (s : ℕ) → IsEmptied v.usage s → IsEmptied v'.usage s
   resettled_emptied s is =
-      let lifted : IsEmptied r.lifted s = if_left (IsEmptied r.lifted s) (λ same. subst (λ (u : UsageTable). IsEmptied u s) (sym same) is)
-      (λ above go. (stays_emptied r.lifted is).2 (segment_of (address_of v.usage j)) true go) in
-      let middle : IsEmptied r.places.middle s = by_case (IsEmptied r.places.middle s)
-      (λ z begins. (stays_emptied r.places.middle lifted).0 r.placed.chunk.segment number begins)
-      (λ lt same on. subst (λ (u : UsageTable). IsEmptied u s) (sym same) lifted) in
+      let lifted : IsEmptied r.lifted s = if_left _ (λ same. rw same is)
+      (λ above go. (stays_emptied _ is).2 (segment_of (address_of v.usage j)) true go) in
+      let between : IsEmptied middle s = by_case _
+      (λ z begins. (stays_emptied _ lifted).0 segment number begins)
+      (λ lt same on. rw same lifted) in
       let placed : IsEmptied r.placed.usage s =
-      (stays_emptied r.placed.usage middle).1 r.placed.chunk.segment true r.places.noted unkept in
-      (stays_emptied v'.usage placed).3 j r.place true r.puts
+      (stays_emptied _ between).1 segment true r.places.noted unkept in
+      (stays_emptied _ placed).3 j r.place true r.puts
 
   pub resettled_goes : (d d' : DeviceState) (w : LogMemory) → Goes d d' v' w 0 → Goes d d' v w 1
   resettled_goes d d' w g = record {
@@ -515,12 +489,12 @@ usage_there d v m j not_one low log =
     let there : 2 ≤ w.memory.at (Usage j) = omega arith in
     let within = w.laid.within (Usage j) there in
     let counts = (taken_counts d.content m w.memory (segment_in v.chunk) (Usage j) 1 (taken_memory w.memory (Usage j) 1 w.memory.bytes)
-    w.laid there (is_taken w.memory (Usage j) 1 w.memory.bytes (omega arith)) (is_shown m)).0 refl in
+    w.laid there (is_taken _ _ 1 _ (omega arith)) (is_shown m)).0 refl in
     let live = w.tables.live (segment_of (w.memory.at (Usage j))) in
     record {
       above = above;
       inside = omega arith;
-      live = subst (λ (a : ℕ). 0 < live_of v.usage (segment_of a)) same (omega arith);
+      live = rw (← same) (omega arith);
     }
 
 -- so a part of a commit doesn't end where it would not

@@ -1,9 +1,9 @@
 -- A usage block is written where it stands: what that leaves of the log.
-use Rattle.std.proofs.Common.{◌≡◌, ◌<◌, ◌≤◌, ⊎_elim, ◌+◌, ◌-◌, ◌*◌, ◌/◌, ◌%◌, true, false, ℕ, List, length, get_or, refl, sym, ◌∙◌, ap}
+use Rattle.std.proofs.Common.{◌≡◌, ◌<◌, ◌≤◌, ⊎_elim, ◌+◌, true, false, ℕ, List, length, get_or, refl, sym, ◌∙◌, ap}
 use Rattle.std.proofs.Common.{subst, arith}
 use Rattle.std.proofs.lemmas.Bool.{cases_eq}
 use Rattle.lfs_model.specs.Entry.{Entry, Data, Leaf, Double, Inode, Map, Usage}
-use Rattle.lfs_model.specs.Checkpoint.{CheckpointValue, IsSegmentCount}
+use Rattle.lfs_model.specs.Checkpoint.{CheckpointValue}
 use Rattle.lfs_model.specs.Crash.{IsFreeSector}
 use Rattle.lfs_model.specs.Device.{DeviceState, IsLawful, MayWrite, CrashWrites, Carries, Elapses, put, left_new}
 use Rattle.lfs_model.specs.Stands.{LogMap}
@@ -25,8 +25,8 @@ use Rattle.lfs_log.specs.Settling.{IsAnew, AreAnew, IsFilled}
 place_free : (d : DeviceState) (v : LogMemory) (k : CheckpointValue) {m0 : LogMap} (m : LogMap) (at : ℕ) → IsLog d v k m0 m → 2 ≤ at
     → segment_of at < length v.usage.segments → IsUnkeptBy v.usage at → IsFreeSector d.content k at
 place_free d v k {m0} m at log above inside on =
-    subst (λ (a : ℕ). IsFreeSector d.content k a) (omega arith) (taken_free log.running (segment_of at)
-    ((at - 2) % 64) (let e = log.segments in omega arith) on (omega arith))
+    subst (λ (a : ℕ). IsFreeSector d.content k a) (omega arith) (taken_free log.running _
+    _ (let e = log.segments in omega arith) on (omega arith))
 
 pub table_same : (map : MapValue) (u u' : UsageTable) → ((i : ℕ) → address_of u' i ≡ address_of u i) → (y : Entry)
     → table_at map u' y ≡ table_at map u y
@@ -65,12 +65,12 @@ module _ (v : LogMemory) (j : ℕ) (u : UsageTable) (good : IsMemory v) (is : Is
 
   memory_now : IsMemory (record v { usage = u })
   memory_now = record {
-    count = subst (λ (x : List SegmentNumbers). IsSegmentCount (length x)) (sym puts.segments) good.count;
+    count = rw puts.segments good.count;
     opened = λ some.
         let o = good.opened some in
         record {
-          inside = subst (λ (x : List SegmentNumbers). v.chunk.segment < length x) (sym puts.segments) o.inside;
-          used = same_numbers (λ n. n.used) v.chunk.segment ∙ o.used;
+          inside = rw puts.segments o.inside;
+          used = same_numbers (λ n. n.used) _ ∙ o.used;
           free = let k = same_numbers (λ n. n.kept) v.chunk.segment in let f = o.free in omega arith;
           last = puts.last ∙ o.last;
         };
@@ -80,7 +80,7 @@ module _ (v : LogMemory) (j : ℕ) (u : UsageTable) (good : IsMemory v) (is : Is
         absurd (omega (arith, own, there, one)))
         (λ (ne : i ≡ j → ⊥). puts.stale.others i ne ∙ good.usages i (sym (put_address i) ∙ one))
         (cases_eq i j);
-    few = subst (λ (x : List SegmentNumbers). v.dirty.capacity.limit + 48 ≤ 63 * (length x / 8)) (sym puts.segments) good.few;
+    few = rw puts.segments good.few;
   }
 
   module _ (d d' : DeviceState) (bytes : List ℕ) (spells : SpellsBlock v.usage j bytes) (lawful : IsLawful d)
@@ -133,11 +133,7 @@ pub fill_goes_at : (v : LogMemory) {j at : ℕ} {u : UsageTable} → IsMemory v 
     → (d'.keeps_model → d'.content ≡ put d.content at bytes) → CrashWrites at bytes d d' → d'.failures ≡ d.failures → Carries d d'
     → Elapses d d' → Goes d d' v (record v { usage = u }) 0
 fill_goes_at v {j} {at} {u} good is e =
-    subst
-    (λ (at : ℕ). PutsPlace v.usage u j at false → (d d' : DeviceState) (bytes : List ℕ) → SpellsBlock v.usage j bytes → IsLawful d
-    → (d'.keeps_model → d'.content ≡ put d.content at bytes)
-    → CrashWrites at bytes d d' → d'.failures ≡ d.failures → Carries d d' → Elapses d d' → Goes d d' v (record v { usage = u }) 0)
-    e
+    rw (← e)
     (λ puts d d' bytes spells lawful written crash same carries time.
     fill_goes v j u good is puts d d' bytes spells lawful written crash same carries time)
 
@@ -146,8 +142,7 @@ pub write_stops_at : {d d' : DeviceState} (v : LogMemory) (j : ℕ) {at : ℕ} {
     → (d'.keeps_model → MayWrite at bytes d.content d'.content) → CrashWrites at bytes d d' → d.failures < d'.failures → Carries d d'
     → Elapses d d' → Stops d d' v
 write_stops_at {d} {d'} v j {at} {bytes} lawful is e may crash failed carries time =
-    write_stops d d' v at bytes lawful (subst (λ (a : ℕ). 2 ≤ a) e is.0) (subst (λ (a : ℕ). segment_of a < length v.usage.segments) e is.1)
-    (subst (λ (a : ℕ). IsUnkeptBy v.usage a) e is.2) may crash failed carries time
+    write_stops d d' v at bytes lawful (rw (← e) is.0) (rw (← e) is.1) (rw (← e) is.2) may crash failed carries time
 
 -- block j isn't stale any more
 module _ {old new : UsageTable} {j : ℕ} (is : IsFilled old new j) where
@@ -162,14 +157,13 @@ module _ {old new : UsageTable} {j : ℕ} (is : IsFilled old new j) where
       (λ (here : i ≡ j). let bad : false ≡ true = sym is.stale.own ∙ ap (stale_of new) (sym here) ∙ stale in absurd (cc))
       (λ (ne : i ≡ j → ⊥).
       let was =
-      anew i (subst (λ (x : List SegmentNumbers). i < (length x + 63) / 64) is.segments low) (sym (is.stale.others i ne) ∙ stale) in
+      anew i (rw (← is.segments) low) (sym (is.stale.others i ne) ∙ stale) in
       let e = is.address i in
       let le = was.0 in
       let size = ap length is.segments in
       let inside = was.1 in (
         omega arith,
         omega arith,
-        subst (λ (a : ℕ). IsUnkeptBy new a) (sym e) (subst (λ (x : List SegmentNumbers).
-            (get_or x (segment_of (address_of old i)) no_segment).kept ≤ (address_of old i - 2) % 64) (sym is.segments) was.2),
+        rw e (rw is.segments was.2),
       ))
       (cases_eq i j)

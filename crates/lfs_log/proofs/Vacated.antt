@@ -1,6 +1,6 @@
 -- The blocks of a segment come into memory chunk by chunk: none is left there in the end.
 use Rattle.std.proofs.Common.{◌≡◌, ◌<◌, ◌≤◌, ⊎_elim, ◌⊎◌, ◌+◌, ◌-◌, ◌*◌, ◌/◌, ◌%◌, ℕ, List, [], length, get_or, Option, Some, None, sym}
-use Rattle.std.proofs.Common.{◌∙◌, ap, subst, arith}
+use Rattle.std.proofs.Common.{◌∙◌, ap, arith}
 use Rattle.std.proofs.lemmas.Bool.{cases_eq, cases_lt}
 use Rattle.lfs_model.specs.Checkpoint.{CheckpointValue}
 use Rattle.lfs_model.specs.Content.{Content, block, bytes_of}
@@ -17,7 +17,11 @@ use Rattle.lfs_memory.specs.Memory.{HasRoom, IsLoose}
 use Rattle.lfs_memory.specs.Present.{FailsFromDevice, Looks}
 use Rattle.lfs_memory.proofs.Gathered.{still_traced, traces_none, traces_then}
 use Rattle.lfs_memory.proofs.Opened.{closed_segment}
-use Rattle.lfs_log.specs.Relocating.{HasLeft, IsVacantTo, LeavesNames, Relocates, Traced, Vacates, VacatesAll}
+use Rattle.std.specs.Prelude.{Result, Err}
+use Rattle.lfs_memory.specs.declared.lifting.LiftFault.{LiftFault}
+use Rattle.lfs_memory.specs.declared.lifting.LiftFault.TheVariants as fault
+use Rattle.lfs_log.proofs.Relocations.{HasRelocated, relocating_missed}
+use Rattle.lfs_log.specs.Relocating.{EndsRelocating, HasLeft, IsVacantTo, LeavesNames, Relocates, Traced, Vacates, VacatesAll}
 use Rattle.lfs_log.specs.verify.Rows.{HasRow}
 use Rattle.lfs_log.proofs.of_verify.RowSteps.{cut_chunk, entries_none, names_of, no_chunk, no_entries}
 use Rattle.lfs_log.proofs.RowLabels.{IsRowFrom, label_is, row_end, row_next, row_start, summary_place}
@@ -40,9 +44,7 @@ leaves_more a v names first place above one left was k m0 m keeps is =
           (λ (before : i < place). so_far.2 i before (now.1 (entry_of (get_or names i no_block)) (omega (arith, at, above)) ∙ at))
           (λ (last : place ≤ i).
           let same : i ≡ place = omega (arith, lt, last) in
-          left k m0 m keeps so_far.0 now.0 now.1
-          (subst (λ (j : ℕ). now.0.running.memory.at (entry_of (get_or names j no_block)) ≡ first + j) same at))
-          (cases_lt i place),
+          left k m0 m keeps so_far.0 now.0 now.1 (rw (← same) at)) (cases_lt i place),
     )
 
 -- ---- a segment
@@ -86,46 +88,57 @@ clears_start d v segment closed low k m0 m keeps is = (
   row_start d.content (used_of v.usage segment) segment (has_row d v k m is segment closed low),
 )
 
+long_there : {d : DeviceState} (v : LogMemory) (segment used : ℕ) → IsLawful d → HasRoom d v → segment < length v.usage.segments
+    → used ≤ 64 → 2 + 64 * segment + used ≤ length d.content
+long_there v segment used lawful room low few = let size = lawful.size in omega (arith, room, low, few, size)
+
 -- ---- a summary is read
-module _ {a b c : DeviceState} {v v' : LogMemory} (segment used at : ℕ) (was : ClearsTo a b v v' segment used at)
-    (here : Relocates a b v v') (looks : Looks b c)
-    (long : 2 + 64 * segment + used ≤ length a.content) (lt : at < used) where
+module _ {a b c : DeviceState} {v v' : LogMemory} {P : ℕ → Type 0} (segment used at : ℕ) (lawful : IsLawful a)
+    (so_far : HasRelocated a b v v' P) (was : ClearsTo a b v v' segment used at) (looks : Looks b c) (size : HasRoom a v)
+    (low : segment < length v.usage.segments) (few : used ≤ 64) (lt : at < used) where
+  here : Relocates a b v v'
+  here = so_far.relocates
+
+  long : 2 + 64 * segment + used ≤ length a.content
+  long = long_there v segment used lawful size low few
+
+  missed : {T : Type 0} → FailsFromDevice a c v → (let r : Result T LiftFault = Err fault.Device in EndsRelocating a c v v' P r)
+  missed = relocating_missed lawful so_far looks
+
   row_then : (k : CheckpointValue) {m0 : LogMap} (m : LogMap) → c.keeps_model → IsLoose a v k m0 m → IsRowFrom a.content used segment at
   row_then k {m0} m keeps is = (was k m0 m (looks.carries.kept_before keeps) is).1
 
-  pub summary_missing : (c.keeps_model → (b.failures < c.failures) ⊎ (cell_at b.content (2 + 64 * segment + at) ≡ None))
-      → FailsFromDevice a c v
-  summary_missing unread k m0 m keeps is = ⊎_elim
+  pub summary_missing : {T : Type 0} → (c.keeps_model → (b.failures < c.failures) ⊎ (cell_at b.content (2 + 64 * segment + at) ≡ None))
+      → (let r : Result T LiftFault = Err fault.Device in EndsRelocating a c v v' P r)
+  summary_missing unread = missed (λ k m0 m keeps is. ⊎_elim
       (λ (failed : b.failures < c.failures). let before = here.looks.carries.failures in omega (arith, failed, before))
       (λ (missing : cell_at b.content (2 + 64 * segment + at) ≡ None).
       let none : block a.content (2 + 64 * segment + at) ≡ [] =
       ap (λ (e : Content). block e (2 + 64 * segment + at)) (sym here.looks.untouched.content)
       ∙ block_at b.content (2 + 64 * segment + at) (omega arith) ∙ ap bytes_of missing in
-      absurd (no_chunk a.content used segment at long lt (ap entries_in none ∙ no_entries) (row_then k m keeps is).rest)) (unread keeps)
+      absurd (no_chunk _ used _ at long lt (ap entries_in none ∙ no_entries) (row_then k m keeps is).rest)) (unread keeps))
 
   module _ {bytes : List ℕ} (read : c.keeps_model → block b.content (2 + 64 * segment + at) ≡ bytes) where
     bytes_there : c.keeps_model → block a.content (2 + 64 * segment + at) ≡ bytes
     bytes_there keeps = ap (λ (e : Content). block e (2 + 64 * segment + at)) (sym here.looks.untouched.content) ∙ read keeps
 
-    pub no_summary : None ≡ summary_in bytes → FailsFromDevice a c v
-    no_summary none k m0 m keeps is =
-        absurd (no_chunk a.content used segment at long lt (ap entries_in (bytes_there keeps) ∙ entries_none bytes none)
-        (row_then k m keeps is).rest)
+    pub no_summary : {T : Type 0} → None ≡ summary_in bytes → (let r : Result T LiftFault = Err fault.Device in EndsRelocating a c v v' P r)
+    no_summary none = missed (λ k m0 m keeps is.
+        absurd (no_chunk _ used _ at long lt (ap entries_in (bytes_there keeps) ∙ entries_none _ none) (row_then k m keeps is).rest))
 
     module _ {names : List BlockNameValue} (exact : Some names ≡ summary_in bytes) where
-      pub too_long : {count : ℕ} → count ≡ length names → used ≤ at + count → FailsFromDevice a c v
-      too_long {count} is_count high k m0 m keeps is =
-          absurd (cut_chunk a.content used segment at long lt count
-          (subst (λ (b : List ℕ). (es : List Entry) × (entries_in b ≡ Some es) × (length es ≡ count)) (sym (bytes_there keeps))
-          (names_of bytes exact is_count)) high (row_then k m keeps is).rest)
+      pub too_long : {T : Type 0} {count : ℕ} → count ≡ length names → used ≤ at + count
+          → (let r : Result T LiftFault = Err fault.Device in EndsRelocating a c v v' P r)
+      too_long {count} is_count high = missed (λ k m0 m keeps is.
+          absurd (cut_chunk a.content used segment at long lt count (rw (bytes_there keeps)
+          (names_of bytes exact is_count)) high (row_then k m keeps is).rest))
 
       -- and its blocks come into memory
-      pub clears_more : v.chunk.names ≡ [] → segment < length v.usage.segments → used ≡ used_of v.usage segment → used ≤ 64
-          → at + length names < used
+      pub clears_more : v.chunk.names ≡ [] → used ≡ used_of v.usage segment → at + length names < used
           → {e : DeviceState} {w : LogMemory} → Relocates c e v' w → (first next : ℕ) → first ≡ 2 + 64 * segment + at + 1
           → next ≡ at + 1 + length names → LeavesNames c e v' w names first (length names)
           → ClearsTo a e v w segment used next
-      clears_more closed low is_used few room one first next is_first is_next left k m0 m keeps is =
+      clears_more closed is_used room one first next is_first is_next left k m0 m keeps is =
           let back = one.looks.carries.kept_before keeps in
           let before = was k m0 m (looks.carries.kept_before back) is in
           let so_far = before.0 in
@@ -142,11 +155,8 @@ module _ {a b c : DeviceState} {v v' : LogMemory} (segment used at : ℕ) (was :
                   let up : 2 ≤ now.0.running.memory.at y = omega (arith, from) in
                   let same = all y up in
                   let place : place_in (row_by a.content used segment) (now.0.running.memory.at y - (2 + 64 * segment)) ≡ Some y =
-                  subst (λ (u : ℕ). place_in (row_by a.content u segment) (now.0.running.memory.at y - (2 + 64 * segment)) ≡ Some y)
-                  (sym is_used)
-                  (subst (λ (x : ℕ). place_in (row_by a.content (used_of v.usage segment) segment) (x - (2 + 64 * segment)) ≡ Some y) same
-                  (stands_named a v k m is segment closed low y (omega (arith, same, from))
-                  (omega (arith, same, to, is_next, room, few)))) in
+                  rw (is_used, ← same) (stands_named a v k m is segment closed low y (omega (arith, same, from))
+                  (omega (arith, same, to, is_next, room, few))) in
                   ⊎_elim
                   (λ (earlier : now.0.running.memory.at y < 2 + 64 * segment + at).
                   let was_there = between y up in
@@ -176,10 +186,10 @@ module _ {a b c : DeviceState} {v v' : LogMemory} (segment used at : ℕ) (was :
 
 -- ---- the whole of it
 pub all_cleared : (a b : DeviceState) (v v' : LogMemory) (segment : ℕ) {used : ℕ} → v.chunk.names ≡ [] → segment < length v.usage.segments
-    → used ≡ used_of v.usage segment
-    → 2 + 64 * segment + used ≤ length a.content → ClearsTo a b v v' segment used used
+    → used ≡ used_of v.usage segment → IsLawful a → HasRoom a v → used ≤ 64 → ClearsTo a b v v' segment used used
     → Vacates a b v v' (segment_start segment) (segment_start (segment + 1))
-all_cleared a b v v' segment {used} closed low is_used long was k m0 m keeps is =
+all_cleared a b v v' segment {used} closed low is_used lawful size few was k m0 m keeps is =
+    let long = long_there v segment used lawful size low few in
     let here = was k m0 m keeps is in
     let now = here.0 in (
       now.0,
@@ -189,18 +199,12 @@ all_cleared a b v v' segment {used} closed low is_used long was k m0 m keeps is 
           (λ (past : 2 + 64 * segment + used ≤ now.0.running.memory.at y).
           let same = now.1 y (omega (arith, from)) in
           let place : place_in (row_by a.content used segment) (now.0.running.memory.at y - (2 + 64 * segment)) ≡ Some y =
-          subst (λ (u : ℕ). place_in (row_by a.content u segment) (now.0.running.memory.at y - (2 + 64 * segment)) ≡ Some y) (sym is_used)
-          (subst (λ (x : ℕ). place_in (row_by a.content (used_of v.usage segment) segment) (x - (2 + 64 * segment)) ≡ Some y) same
-          (stands_named a v k m is segment closed low y (omega (arith, same, from)) (omega (arith, same, to)))) in
+          rw (is_used, ← same) (stands_named a v k m is segment closed low y (omega (arith, same, from)) (omega (arith, same, to))) in
           let bad : Some y ≡ None = sym place
           ∙ row_end used long here.1 (now.0.running.memory.at y - (2 + 64 * segment)) (omega (arith, past)) in
           absurd (cc))
           (cases_lt (now.0.running.memory.at y) (2 + 64 * segment + used)),
     )
-
-pub long_there : {d : DeviceState} (v : LogMemory) (segment used : ℕ) → IsLawful d → HasRoom d v → segment < length v.usage.segments
-    → used ≤ 64 → 2 + 64 * segment + used ≤ length d.content
-long_there v segment used lawful room low few = let size = lawful.size in omega (arith, room, low, few, size)
 
 -- ---- one segment after the other
 pub vacates_none : (d : DeviceState) (v : LogMemory) (segments : List ℕ) → VacatesAll d d v v segments 0

@@ -1,27 +1,25 @@
 -- The log over its device: what its calls do, from what is done to device and memory.
-use Rattle.std.specs.Prelude.{Result, Ok, Err}
+use Rattle.std.specs.Prelude.{Result, Err}
 use Rattle.std.proofs.lemmas.Bool.{and_parts}
 use Rattle.std.proofs.Common.{◌≡◌, ◌<◌, ◌≤◌, ◌+◌, ◌*◌, ◌&&◌, ◌||◌, cond, ℕ, Bool}
-use Rattle.std.proofs.Common.{true, false, List, Option, length, refl, sym, ◌∙◌, ap}
-use Rattle.std.proofs.Common.{subst, arith}
+use Rattle.std.proofs.Common.{true, false, length, refl, sym, ◌∙◌, ap}
+use Rattle.std.proofs.Common.{arith}
 use Rattle.lfs_model.specs.Checkpoint.{CheckpointValue}
-use Rattle.lfs_model.specs.Crash.{StandsOn}
 use Rattle.lfs_model.specs.declared.limits.TheConstants.{FILE_NUMBERS}
-use Rattle.lfs_model.specs.Device.{DeviceState, IsLawful, AllLeft}
+use Rattle.lfs_model.specs.Device.{DeviceState, IsLawful}
 use Rattle.lfs_model.specs.Encodes.{IsLogMap}
 use Rattle.lfs_model.specs.Stands.{LogMap, StandsLog}
 use Rattle.lfs_model.proofs.Crash.{single_log}
 use Rattle.lfs_model.specs.TreeOf.{dropped}
 use Rattle.lfs_model.proofs.Settled.{settled_stands}
-use Rattle.lfs_memory.specs.files.declared.header.Header.{Header}
 use Rattle.lfs_log.specs.Opening.{Opens}
 use Rattle.lfs_model.proofs.Decodes.{are_sized}
 use Rattle.lfs_memory.specs.files.declared.fault.LogFault.{LogFault}
 use Rattle.lfs_memory.specs.files.declared.fault.LogFault.TheVariants.{Device}
-use Rattle.lfs_memory.specs.Present.{AnswersHeader, AnswersBlock, FailsFromDevice, Looks}
+use Rattle.lfs_memory.specs.Present.{OnlyLooks, Looks}
 use Rattle.lfs_log.specs.Publishing.{IsAcknowledged}
 use Rattle.lfs_log.specs.Saving.{CommitsAll, CommitFails}
-use Rattle.lfs_memory.proofs.Looses.{loose}
+use Rattle.lfs_log.proofs.LogReads.{loose_in, reads_looked}
 use Rattle.lfs_memory.specs.declared.changes.Changes.{Changes}
 use Rattle.lfs_memory.specs.declared.memory.LogMemory.{LogMemory}
 use Rattle.lfs_memory.specs.inodes.MapValue.{IsUnusedNumber, address_in, is_hidden_in}
@@ -39,8 +37,8 @@ use Rattle.lfs_memory.proofs.BlockSteps.{tightened_log}
 use Rattle.lfs_memory.proofs.Presents.{no_inode, same_map}
 use Rattle.lfs_memory.proofs.Versions.{staged_version}
 use Rattle.lfs_log.specs.LogState.{LogState, Holds, Mounts, Saves, HaltsOf}
-use Rattle.lfs_log.specs.LogState.{ReadsHeader, ReadsBlock, IsReadFault, Alters, IsStaged, IsRefused}
-use Rattle.lfs_log.specs.LogState.{IsStageFault, IsRemoved, IsKept, IsVacant, HasAll, HoldsOne, AreAllSaved, IsAtRest, Reads, ReadsLog}
+use Rattle.lfs_log.specs.LogState.{Alters, IsStaged, IsRefused}
+use Rattle.lfs_log.specs.LogState.{IsStageFault, IsRemoved, IsKept, IsVacant, HasAll, HoldsOne, AreAllSaved, IsAtRest, ReadsLog}
 use Rattle.lfs_log.specs.Held.{Held, seen}
 use Rattle.lfs_log.proofs.Linked.{all_linked, same_dropped}
 use Rattle.lfs_log.proofs.Unsaved.{rest_altered}
@@ -52,21 +50,26 @@ and_true : (b : Bool) → (b && true) ≡ b
 and_true true = refl
 and_true false = refl
 
-module _ {D : Type 0} (state : D → DeviceState) where
+-- checkpoints over as many numbers in memory have as many segments
+pub same_segments : {D : Type 0} (state : D → DeviceState) {h h' : LogState D} {k : CheckpointValue} (next : CheckpointValue)
+    {m0 m m0' m' : LogMap} → h'.segments ≡ h.segments → Holds state h k m0 m → Holds state h' next m0' m' → next.segments ≡ k.segments
+same_segments state next same is is' = is'.segments ∙ same ∙ sym is.segments
+
+still_untaken : (before : UsageTable) {between after : UsageTable} → after ≡ between
+    → ((segment : ℕ) → used_of between segment ≡ used_of before segment)
+    → ((segment : ℕ) → kept_of between segment ≡ kept_of before segment) → AreUntaken before → AreUntaken after
+still_untaken before same used kept untaken = rw same (λ segment. kept segment ∙ untaken segment ∙ sym (used segment))
+
+module _ {D : Type 0} {state : D → DeviceState} where
   -- what is to be saved, where the log holds a log map and memory stands for it
   pub acknowledged : (h : Held D) {v : LogMemory} {k : CheckpointValue} {m0 m : LogMap} → Holds state (seen h) k m0 m
       → IsLog (state h.device) v k m0 m → IsLogMap (dropped m) → IsAcknowledged (state h.device) v h.version h.number k m0 m
   acknowledged h is log map = record { log = log; map = map; same = is.number; same_version = is.version }
 
-  -- checkpoints over as many numbers in memory have as many segments
-  pub same_segments : {h h' : LogState D} {k : CheckpointValue} (next : CheckpointValue) {m0 m m0' m' : LogMap} → h'.segments ≡ h.segments
-      → Holds state h k m0 m → Holds state h' next m0' m' → next.segments ≡ k.segments
-  same_segments next same is is' = is'.segments ∙ same ∙ sym is.segments
-
-  pub saves : (h h' : Held D) → length h.memory.dirty.blocks ≤ 456 → CommitsAll (state h.device) (state h'.device) h.memory h'.memory
+  pub saves : {h h' : Held D} → length h.memory.dirty.blocks ≤ 456 → CommitsAll (state h.device) (state h'.device) h.memory h'.memory
       h.version h.number → h'.number ≡ h.number + 1 → h'.version ≡ h.version → h'.upgraded ≡ false → h'.saved ≡ true → h'.halted ≡ false
       → Saves state (seen h) (seen h')
-  saves h h' few c number version upgraded saved running = record {
+  saves {h} {h'} few c number version upgraded saved running = record {
     carries = c.carries;
     running = running;
     number = number;
@@ -82,8 +85,7 @@ module _ {D : Type 0} (state : D → DeviceState) where
     holds = holds;
     left = λ k m0 m keeps is map. (
         let n = holds k m0 m keeps is map in
-        subst (λ (l : ℕ). AllLeft (state h'.device) (λ c. StandsOn l c (dropped m))) (same_segments n.0 c.segments is n.1)
-        (settled_stands (state h'.device) n.0 (dropped m) n.1.log.running.settled));
+        rw (← (same_segments _ n.0 c.segments is n.1)) (settled_stands (state h'.device) n.0 (dropped m) n.1.log.running.settled));
     moment = λ k m0 m keeps is map. c.moment k m0 m keeps (acknowledged h is is.log map);
   }
     where
@@ -93,7 +95,8 @@ module _ {D : Type 0} (state : D → DeviceState) where
       holds : (k : CheckpointValue) (m0 m : LogMap) → (state h'.device).keeps_model → Holds state (seen h) k m0 m → IsLogMap (dropped m)
           → (next : CheckpointValue) × Holds state (seen h') next (dropped m) m
       holds k m0 m keeps is map =
-          let n = c.log k m0 m keeps (acknowledged h is is.log map) in ( n.0,
+          let n = c.log k m0 m keeps (acknowledged h is is.log map) in (
+            n.0,
             record {
               log = n.2;
               segments = sym n.2.segments;
@@ -106,11 +109,11 @@ module _ {D : Type 0} (state : D → DeviceState) where
           )
 
   -- where `Has` says what the log holds, and that memory stands for it
-  pub halts : (h h' : Held D) {v : LogMemory} (Has : CheckpointValue → LogMap → LogMap → Type 0)
+  pub halts : {h h' : Held D} {v : LogMemory} {Has : CheckpointValue → LogMap → LogMap → Type 0}
       → ((k : CheckpointValue) (m0 m : LogMap) → Has k m0 m → Holds state (seen h) k m0 m × IsLog (state h.device) v k m0 m)
       → CommitFails (state h.device) (state h'.device) v h.version h.number → h'.halted ≡ true → h'.saved ≡ false
       → h'.number ≡ h.number → HaltsOf state Has (seen h) (seen h')
-  halts h h' {v} Has stands c halted unsaved number = record {
+  halts {h} stands c halted unsaved number = record {
     carries = c.carries;
     halted = halted;
     unsaved = unsaved;
@@ -121,10 +124,10 @@ module _ {D : Type 0} (state : D → DeviceState) where
   }
 
   -- a mounted log map has no file of no links
-  pub mounts : (d : D) (h : Held D) → IsLawful (state d) → Opens (state d) (state h.device) h.memory h.version h.number → h.halted ≡ false
+  pub mounts : (d : D) {h : Held D} → IsLawful (state d) → Opens (state d) (state h.device) h.memory h.version h.number → h.halted ≡ false
       → AreAllSaved (seen h) → ((state h.device).keeps_model → AreUntaken h.memory.usage)
       → ((state h.device).keeps_model → length h.memory.usage.segments ≤ 8 * clean_in h.memory.usage.segments) → Mounts state d (seen h)
-  mounts d h lawful opens running nothing untaken many m keeps is =
+  mounts d lawful opens running nothing untaken many m keeps is =
       let o = opens m keeps is in
       record {
         log = o.0;
@@ -137,60 +140,31 @@ module _ {D : Type 0} (state : D → DeviceState) where
       }
 
   -- ---- a call that only looks
-  module _ (h : Held D) (device : D) (looks : Looks (state h.device) (state device)) where
-    still : Reads state (seen h) (seen (record h { device = device }))
-    still =
-        record {
-          looks = looks;
-          halted = refl;
-          number = refl;
-          version = refl;
-          upgraded = refl;
-          saved = refl;
-          unsaved = refl;
-          totals = refl;
-          segments = refl;
-          clean = refl;
-          emptied = refl;
-          waiting = refl;
-          file_data = refl;
-          usage = refl;
-          inner = refl;
-        }
+  -- what is told where memory stands for the log map is told of the log
+  pub answers_log : {h : LogState D} (d : D) {Answer : CheckpointValue → LogMap → LogMap → Type 0}
+      → ((k : CheckpointValue) (m0 m : LogMap) → (state d).keeps_model → IsLoose (state h.device) h.inner k m0 m → Answer k m0 m)
+      → (k : CheckpointValue) (m0 m : LogMap) → (state d).keeps_model → Holds state h k m0 m → Answer k m0 m
+  answers_log d answers k m0 m keeps is = answers k m0 m keeps (loose_in is)
 
-    pub looked_done : {T : Type 0} (x : T) → ReadsLog state (seen h) (seen (record h { device = device })) (Ok x)
-    looked_done x = record { reads = still; halted = λ e. absurd (cc); other = λ e. absurd (cc); failed = tt }
-
-    pub looked_fails : (T : Type 0) → FailsFromDevice (state h.device) (state device) h.memory
-        → ReadsLog state (seen h) (seen (record h { device = device })) (device_fails T)
-    looked_fails T failed = record {
-      reads = still;
-      halted = λ e. absurd (cc);
-      other = λ e. absurd (cc);
-      failed = λ k m0 m keeps is. failed k m0 m keeps (loose (state h.device) h.memory k m0 m is.log);
-    }
-
-  pub reads_header : (h h' : Held D) (n : ℕ) (found : Option Header) → AnswersHeader (state h.device) (state h'.device) h.memory n found
-      → ReadsHeader state (seen h) (seen h') n found
-  reads_header h h' n found answers k m0 m keeps is = answers k m0 m keeps (loose (state h.device) h.memory k m0 m is.log)
-
-  pub reads_block : (h h' : Held D) (n i : ℕ) (out : List ℕ) (stored : Bool)
-      → AnswersBlock (state h.device) (state h'.device) h.memory n i out stored → ReadsBlock state (seen h) (seen h') n i out stored
-  reads_block h h' n i out stored answers k m0 m keeps is = answers k m0 m keeps (loose (state h.device) h.memory k m0 m is.log)
-
-  pub read_fault : (h h' : Held D) → FailsFromDevice (state h.device) (state h'.device) h.memory → IsReadFault state (seen h) (seen h')
-  read_fault h h' excused k m0 m keeps is = excused k m0 m keeps (loose (state h.device) h.memory k m0 m is.log)
+  pub looked_fails : {h : LogState D} {d : D} {T A E : Type 0} {e : E} → OnlyLooks {T = A} (state h.device) (state d) h.inner (Err e)
+      → ReadsLog state h (record h { device = d }) (device_fails T)
+  looked_fails {d} only = record {
+    reads = reads_looked only.looks;
+    halted = λ e. absurd (cc);
+    other = λ e. absurd (cc);
+    failed = answers_log d only.failed;
+  }
 
   -- ---- memory changes, and then blocks of pointers that lead nowhere leave it
-  held_tight : (h h' : Held D) {v : LogMemory} {k : CheckpointValue} {m0 m w : LogMap} → Holds state (seen h) k m0 m → h'.number ≡ h.number
-      → (raised : Bool) → h'.version ≡ cond raised 2 h.version → w.version ≡ cond raised 2 m.version → h'.halted ≡ h.halted
-      → Tightens v h'.memory
-      → IsLoose (state h'.device) v k m0 w → (h'.saved ≡ true → m0 ≡ dropped w) → (h'.saved ≡ true → IsAtRest (seen h'))
-      → Holds state (seen h') k m0 w
-  held_tight h h' {v} {k} {m0} {w} is number raised version same halted tight loose nothing_new rest =
+  held_tight : {h h' : Held D} {v : LogMemory} {k : CheckpointValue} {m0 m w : LogMap} → Holds state (seen h) k m0 m
+      → h'.number ≡ h.number → (raised : Bool) → h'.version ≡ cond raised 2 h.version → w.version ≡ cond raised 2 m.version
+      → h'.halted ≡ h.halted → Tightens v h'.memory → IsLoose (state h'.device) v k m0 w → (h'.saved ≡ true → m0 ≡ dropped w)
+      → (h'.saved ≡ true → IsAtRest (seen h')) → Holds state (seen h') k m0 w
+  held_tight {k} {w} is number raised version same halted tight loose nothing_new rest =
+      let log = tightened_log k w tight loose in
       record {
-        log = tightened_log k w tight loose;
-        segments = sym (tightened_log k w tight loose).segments;
+        log = log;
+        segments = sym log.segments;
         number = is.number ∙ sym number;
         version = same ∙ ap (λ (n : ℕ). cond raised 2 n) is.version ∙ sym version;
         running = halted ∙ is.running;
@@ -198,137 +172,113 @@ module _ {D : Type 0} (state : D → DeviceState) where
         rest = rest;
       }
 
-  module _ (h h' : Held D) {v : LogMemory} (number : h'.number ≡ h.number) (halted : h'.halted ≡ h.halted)
+  module _ {h h' : Held D} {v : LogMemory} (number : h'.number ≡ h.number) (halted : h'.halted ≡ h.halted)
       (tight : Tightens v h'.memory) where
+    altered : {more : ℕ} {raised : Bool} → h'.version ≡ cond raised 2 h.version → h'.upgraded ≡ (raised || h.upgraded)
+        → Looks (state h.device) (state h'.device) → length v.usage.segments ≡ length h.memory.usage.segments
+        → clean_in v.usage.segments ≡ clean_in h.memory.usage.segments → length v.dirty.blocks ≤ length h.memory.dirty.blocks + more
+        → Alters state (seen h) (seen h') more raised
+    altered version upgraded looks segments clean few = record {
+      looks = looks;
+      number = number;
+      version = version;
+      upgraded = upgraded;
+      halted = halted;
+      segments = tight.stays.segments ∙ segments;
+      clean = tight.stays.clean ∙ clean;
+      few = let fewer = tight.stays.blocks in omega (arith, few, fewer);
+    }
+
     module _ (c : Changes) where
       stood : {raised : Bool} → h'.version ≡ cond raised 2 h.version → h'.upgraded ≡ (raised || h.upgraded)
           → StandsWithBatch (state h.device) (state h'.device) h.memory v c.headers.items c.blocks.items
           → Alters state (seen h) (seen h') (room_for c) raised
-      stood version upgraded s = record {
-        looks = s.looks;
-        number = number;
-        version = version;
-        upgraded = upgraded;
-        halted = halted;
-        segments = tight.stays.segments ∙ s.segments;
-        clean = tight.stays.clean ∙ s.clean;
-        few = let x = s.few in let y = tight.stays.blocks in omega (arith, x, y);
-      }
+      stood version upgraded s = altered version upgraded s.looks s.segments s.clean s.few
 
+    module _ {c : Changes} where
       pub is_staged : h'.version ≡ version_after c.loss h.version → h'.upgraded ≡ (raises c.loss || h.upgraded) → h'.saved ≡ false
           → TakesBatch (state h.device) (state h'.device) h.memory v c.loss c.headers.items c.blocks.items
           → IsStaged state (seen h) (seen h') c
       is_staged version upgraded unsaved s = record {
-        alters = stood version upgraded s.stands;
+        alters = stood c version upgraded s.stands;
         unsaved = unsaved;
-        holds = λ k m0 m keeps is fits. held_tight h h' is number (raises c.loss) version (staged_version c m) halted tight
-            (s.log k m0 m keeps (loose (state h.device) h.memory k m0 m is.log) fits) (λ all. absurd (cc)) (λ all. absurd (cc));
+        holds = λ k m0 m keeps is fits. held_tight is number _ version (staged_version c m) halted tight
+            (s.log k m0 m keeps (loose_in is) fits) (λ all. absurd (cc)) (λ all. absurd (cc));
       }
 
       pub is_refused : h'.version ≡ h.version → h'.upgraded ≡ h.upgraded → h'.saved ≡ false
           → RefusesBatch (state h.device) (state h'.device) h.memory v c.loss c.headers.items c.blocks.items
           → IsRefused state (seen h) (seen h') c
-      is_refused version upgraded unsaved s =
-          record {
-            alters = stood version upgraded s.stands;
-            unsaved = λ on. unsaved;
-            holds = λ k m0 m keeps is fits. held_tight h h' is number
-                false version refl halted tight (s.log k m0 m keeps (loose (state h.device) h.memory k m0 m is.log) fits)
-                (λ all. absurd (cc)) (λ all. absurd (cc));
-          }
+      is_refused version upgraded unsaved s = record {
+        alters = stood c version upgraded s.stands;
+        unsaved = λ on. unsaved;
+        holds = λ k m0 m keeps is fits. held_tight is number false version refl halted tight (s.log k m0 m keeps (loose_in is) fits)
+            (λ all. absurd (cc)) (λ all. absurd (cc));
+      }
 
     -- where it had a name, the log isn't saved any more
     pub is_removed : h'.version ≡ h.version → h'.upgraded ≡ h.upgraded → {n : ℕ} → n < FILE_NUMBERS
         → h'.saved ≡ (h.saved && is_hidden_in h.memory.map n)
         → RemovesFile (state h.device) (state h'.device) h.memory v n → IsRemoved state (seen h) (seen h') n
-    is_removed version upgraded {n} low saved s = record {
-      alters = alters;
-      unsaved = λ off. saved ∙ ap (λ (all : Bool). all && is_hidden_in h.memory.map n) off;
-      nameless = λ k m0 m keeps is off.
-          saved ∙ ap (λ (hidden : Bool). h.saved && hidden) (sym (is.log.hidden n low) ∙ off) ∙ and_true h.saved;
-      untaken = untaken;
-      holds = λ k m0 m keeps is. held_tight h h' is number false version refl halted tight
-          (s.log k m0 m keeps (loose (state h.device) h.memory k m0 m is.log))
-          (λ all. (let both = and_parts h.saved (is_hidden_in h.memory.map n) (sym saved ∙ all) in
-          is.nothing_new both.0 ∙ sym (same_dropped m n (is.log.hidden n low ∙ both.1))))
-          (λ all. (let both = and_parts h.saved (is_hidden_in h.memory.map n) (sym saved ∙ all) in
-          rest_altered alters untaken (is.rest both.0)));
-    }
-      where
-        alters : Alters state (seen h) (seen h') 0 false
-        alters = record {
-          looks = s.looks;
-          number = number;
-          version = version;
-          upgraded = upgraded;
-          halted = halted;
-          segments = tight.stays.segments ∙ s.segments;
-          clean = tight.stays.clean ∙ s.clean;
-          few = let x = s.few in let y = tight.stays.blocks in omega (arith, x, y);
+    is_removed version upgraded {n} low saved s =
+        let alters : Alters state (seen h) (seen h') 0 false =
+        altered version upgraded s.looks s.segments s.clean (let few = s.few in omega (arith, few)) in
+        let untaken = still_untaken h.memory.usage tight.usage s.used s.kept in
+        record {
+          alters = alters;
+          unsaved = λ off. saved ∙ ap (λ (all : Bool). all && is_hidden_in h.memory.map n) off;
+          nameless = λ k m0 m keeps is off.
+              saved ∙ ap (λ (hidden : Bool). h.saved && hidden) (sym (is.log.hidden n low) ∙ off) ∙ and_true h.saved;
+          untaken = untaken;
+          holds = λ k m0 m keeps is.
+              let both = λ (all : h'.saved ≡ true). and_parts h.saved (is_hidden_in h.memory.map n) (sym saved ∙ all) in
+              held_tight is number false version refl halted tight (s.log k m0 m keeps (loose_in is))
+              (λ all. is.nothing_new (both all).0 ∙ sym (same_dropped m n (is.log.hidden n low ∙ (both all).1)))
+              (λ all. rest_altered alters untaken (is.rest (both all).0));
         }
-
-        untaken : AreUntaken h.memory.usage → AreUntaken h'.memory.usage
-        untaken before segment = subst (λ (u : UsageTable). kept_of u segment ≡ used_of u segment) (sym tight.usage)
-            (s.kept segment ∙ before segment ∙ sym (s.used segment))
 
     pub is_kept : h'.version ≡ h.version → h'.upgraded ≡ h.upgraded → h'.saved ≡ h.saved
         → Prepares (state h.device) (state h'.device) h.memory v 0 → IsKept state (seen h) (seen h')
-    is_kept version upgraded saved s = record {
-      alters = alters;
-      saved = saved;
-      untaken = untaken;
-      holds = λ k m0 m keeps is. held_tight h h' is number false version refl halted tight
-          (s.log k m0 m keeps (loose (state h.device) h.memory k m0 m is.log))
-          (λ all. is.nothing_new (sym saved ∙ all))
-          (λ all. rest_altered alters untaken (is.rest (sym saved ∙ all)));
-    }
-      where
-        alters : Alters state (seen h) (seen h') 0 false
-        alters = record {
-          looks = s.looks;
-          number = number;
-          version = version;
-          upgraded = upgraded;
-          halted = halted;
-          segments = tight.stays.segments ∙ s.segments;
-          clean = tight.stays.clean ∙ s.clean;
-          few = let x = s.few in let y = tight.stays.blocks in omega (arith, x, y);
+    is_kept version upgraded saved s =
+        let alters : Alters state (seen h) (seen h') 0 false = altered version upgraded s.looks s.segments s.clean s.few in
+        let untaken = still_untaken h.memory.usage tight.usage s.used s.kept in
+        record {
+          alters = alters;
+          saved = saved;
+          untaken = untaken;
+          holds = λ k m0 m keeps is. held_tight is number false version refl halted tight (s.log k m0 m keeps (loose_in is))
+              (λ all. is.nothing_new (sym saved ∙ all))
+              (λ all. rest_altered alters untaken (is.rest (sym saved ∙ all)));
         }
 
-        untaken : AreUntaken h.memory.usage → AreUntaken h'.memory.usage
-        untaken before segment = subst (λ (u : UsageTable). kept_of u segment ≡ used_of u segment) (sym tight.usage)
-            (s.kept segment ∙ before segment ∙ sym (s.used segment))
-
-  pub is_stage_fault : (h h' : Held D) (c : Changes)
-      → IsBatchExcused (state h.device) (state h'.device) h.memory c.loss c.headers.items c.blocks.items
-      → IsStageFault state (seen h) (seen h') c
-  is_stage_fault h h' c failed k m0 m keeps is fits = failed k m0 m keeps (loose (state h.device) h.memory k m0 m is.log) fits
+  pub is_stage_fault : {h : Held D} (d : D) (c : Changes)
+      → IsBatchExcused (state h.device) (state d) h.memory c.loss c.headers.items c.blocks.items
+      → IsStageFault state (seen h) (seen (record h { device = d })) c
+  is_stage_fault d c failed k m0 m keeps is fits = failed k m0 m keeps (loose_in is) fits
 
   -- ---- numbers that no file has
-  has_there : (h : Held D) (k : CheckpointValue) (m0 m : LogMap) → Holds state (seen h) k m0 m → (l : ℕ) → 0 < address_in h.memory.map l
+  has_there : {h : Held D} {k : CheckpointValue} {m0 m : LogMap} → Holds state (seen h) k m0 m → (l : ℕ) → 0 < address_in h.memory.map l
       → HasInode m l
-  has_there h k m0 m is l some = has_inode k m (loose (state h.device) h.memory k m0 m is.log) l some
+  has_there {k} {m} is l some = has_inode k m (loose_in is) l some
 
-  pub is_vacant : (h : Held D) (n : ℕ) → IsUnusedNumber h.memory.map n → IsVacant state (seen h) n
-  is_vacant h n f = record {
+  pub is_vacant : {h : Held D} {n : ℕ} → IsUnusedNumber h.memory.map n → IsVacant state (seen h) n
+  is_vacant {h} {n} f = record {
     some = f.some;
     few = f.few;
-    free = λ k m0 m is. no_inode (state h.device) h.memory k m0 m (loose (state h.device) h.memory k m0 m is.log) n f.free;
-    least = λ k m0 m is l low below. has_there h k m0 m is l (f.least l low below);
+    free = λ k m0 m is. no_inode (state h.device) h.memory k m0 m (loose_in is) n f.free;
+    least = λ k m0 m is l low below. has_there is l (f.least l low below);
   }
 
-  pub has_all : (h : Held D) → ((l : ℕ) → 1 ≤ l → l < 4096 → 0 < address_in h.memory.map l) → HasAll state (seen h)
-  has_all h all k m0 m is l low few = has_there h k m0 m is l (all l low few)
+  pub has_all : {h : Held D} → ((l : ℕ) → 1 ≤ l → l < 4096 → 0 < address_in h.memory.map l) → HasAll state (seen h)
+  has_all all k m0 m is l low few = has_there is l (all l low few)
 
   -- ---- the log holds one log map
   pub holds_one : {h : LogState D} → HoldsOne state h
   holds_one {h} = record {
     present = λ k k' m0 m m0' m' is is'.
-        same_map h.inner k k' m0 m m0' m' (loose (state h.device) h.inner k m0 m is.log)
-        (loose (state h.device) h.inner k' m0' m' is'.log) (is.version ∙ sym is'.version);
-    acknowledged = λ k k' m0 m m0' m' is is'.
-        single_log (state h.device).content m0 m0' (stands_for h k m0 m is) (stands_for h k' m0' m' is');
+        same_map h.inner k k' m0 m m0' m' (loose_in is) (loose_in is') (is.version ∙ sym is'.version);
+    acknowledged = λ k k' m0 m m0' m' is is'. single_log (state h.device).content m0 m0' (stands_for is) (stands_for is');
   }
     where
-      stands_for : (h : LogState D) (k : CheckpointValue) (m0 m : LogMap) → Holds state h k m0 m → StandsLog (state h.device).content m0
-      stands_for h k m0 m is = let s = is.log.running.settled in record { checkpoint = k; newest = s.newest; stands = s.stands }
+      stands_for : {k : CheckpointValue} {m0 m : LogMap} → Holds state h k m0 m → StandsLog (state h.device).content m0
+      stands_for {k} is = let s = is.log.running.settled in record { checkpoint = k; newest = s.newest; stands = s.stands }

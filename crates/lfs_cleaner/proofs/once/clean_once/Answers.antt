@@ -1,9 +1,5 @@
-use Rattle.std.proofs.Common.{rules, ◌≡◌, ◌≤◌, ◌+◌, inr, length, false, refl, sym, ◌∙◌, subst, arith}
-use Rattle.std.specs.Prelude.{Err, OnOk}
-use Rattle.lfs_log.specs.LogState.{LogState}
-use Rattle.lfs_log.specs.Saving.{pass_orders}
+use Rattle.std.proofs.Common.{rules, inr, refl, sym, ◌∙◌, arith}
 use Rattle.lfs_log.proofs.LogReads.{whole_count}
-use Rattle.lfs_cleaner.specs.Room.{PassesWhereDue}
 use Rattle.lfs_cleaner.proofs.Onces.{fails_pass, keeps_due, lacks_pass, once_behind, once_told}
 use Rattle.lfs_cleaner.proofs.Rooms.{halts_at_once}
 use Rattle.lfs_cleaner.proofs.RoomBounds.{fails_after, halts_after, halts_first, lacks_after, lacks_commit, makes_after, makes_none}
@@ -13,85 +9,64 @@ use Rattle.lfs_cleaner.proofs.once.clean_once.Goals as goal
 
 pub returns-then-has_quarter-clause-done : goal.returns-then-has_quarter-clause-done
 returns-then-has_quarter-clause-done g c =
-    let h = c.args.log.now in
-    let running : h.halted ≡ false = sym c.is_halted.ensures ∙ c.if-is_halted.false in record {
-      makes = makes_none g.D.SectorDevice.state (g.met.D.SectorDevice.lawful h.device) running;
+    record {
+      makes = makes_none _ (g.met.D.SectorDevice.lawful c.args.log.now.device) (sym c.is_halted.ensures ∙ c.if-is_halted.false);
       once = inr (c.if-has_quarter.ensures.yes (search rules), refl);
     }
 
 pub returns-in-Err-clause-full : goal.returns-in-Err-clause-full
 returns-in-Err-clause-full g c is =
-    let h = c.args.log.now in
-    let running : h.halted ≡ false = sym c.is_halted.ensures ∙ c.if-is_halted.false in
     let full = c.in-Err.ensures.full (search rules) in
-    lacks_commit g.D.SectorDevice.state (g.met.D.SectorDevice.lawful h.device) running full.0 full.1 full.2
+    lacks_commit _ (g.met.D.SectorDevice.lawful c.args.log.now.device) (sym c.is_halted.ensures ∙ c.if-is_halted.false) full.0 full.1 full.2
 
 pub returns-in-Err-clause-device : goal.returns-in-Err-clause-device
 returns-in-Err-clause-device g c is = absurd (c.in-Err.ensures.other (search rules))
 
 pub returns-in-Err-clause-halted : goal.returns-in-Err-clause-halted
-returns-in-Err-clause-halted g c is ne =
-    halts_first g.D.SectorDevice.state (c.in-Err.ensures.halted (search rules))
+returns-in-Err-clause-halted g c is ne = halts_first _ (c.in-Err.ensures.halted (search rules))
 
 pub returns-in-Err-clause-unsaved : goal.returns-in-Err-clause-unsaved
 returns-in-Err-clause-unsaved g c ne none =
-    full_else (Err c.in-Err.fault) (c.commit_unsaved.new.log ≡ c.args.log.now) (λ e. (c.in-Err.ensures.full e).0) c.in-Err.ensures.other ne
+    full_else _ _ (λ e. (c.in-Err.ensures.full e).0) c.in-Err.ensures.other ne
 
 pub returns-clause-done : goal.returns-clause-done
 returns-clause-done g c =
-    let a = c.args.log.now in
-    let b = c.commit_unsaved.new.log in
-    let end = c.pass_where_due.new.log in
-    let running : a.halted ≡ false = sym c.is_halted.ensures ∙ c.if-is_halted.false in
-    let least = (whole_count g.D.SectorDevice.state a c.are_tables_whole.ensures running).least in
+    let running = sym c.is_halted.ensures ∙ c.if-is_halted.false in
+    let least = (whole_count g.D.SectorDevice.state c.args.log.now c.are_tables_whole.ensures running).least in
+    let ready = c.in-Ok.ensures.done in
     on_success c.pass_where_due.result _ _ _
     (λ due same. record {
-      makes =
-          makes_after g.D.SectorDevice.state c.in-Ok.ensures.done (omega (arith, least)) (keeps_due g.D.SectorDevice.state b end
-          (g.met.D.SectorDevice.lawful b.device) c.in-Ok.ensures.done.keeps.running due c.pass_where_due.ensures.totals);
-      once = once_behind g.D.SectorDevice.state a b end
-          c.in-Ok.ensures.done.commits due;
+      makes = makes_after ready (omega (arith, least)) (keeps_due (g.met.D.SectorDevice.lawful c.commit_unsaved.new.log.device)
+          ready.keeps.running due c.pass_where_due.ensures.totals);
+      once = once_behind ready.commits due;
     })
     c.pass_where_due.ensures.done c.pass_where_due.ensures.done
 
 pub returns-clause-alone : goal.returns-clause-alone
-returns-clause-alone g c all =
-    subst (λ (h : LogState g.row.D.Denot). OnOk c.pass_where_due.result (PassesWhereDue g.D.SectorDevice.state h c.pass_where_due.new.log))
-    (c.commit_unsaved.ensures.quiet all)
-    c.pass_where_due.ensures.done
+returns-clause-alone g c all = rw (← c.commit_unsaved.ensures.quiet all) c.pass_where_due.ensures.done
 
 pub returns-clause-full : goal.returns-clause-full
 returns-clause-full g c is =
-    let b = c.commit_unsaved.new.log in
+    let ready = c.in-Ok.ensures.done in
     let refused = c.pass_where_due.ensures.full is in
-    lacks_after g.D.SectorDevice.state c.in-Ok.ensures.done (omega arith)
-    (lacks_pass g.D.SectorDevice.state b (g.met.D.SectorDevice.lawful b.device) c.in-Ok.ensures.done.keeps.running
-    c.in-Ok.ensures.done.nothing refused.0 refused.1)
+    lacks_after ready (omega arith) (lacks_pass (g.met.D.SectorDevice.lawful c.commit_unsaved.new.log.device) ready.keeps.running
+    ready.nothing refused.0 refused.1)
 
 pub returns-clause-device : goal.returns-clause-device
 returns-clause-device g c is =
-    let b = c.commit_unsaved.new.log in
-    fails_after g.D.SectorDevice.state c.in-Ok.ensures.done (omega arith)
-    (fails_pass g.D.SectorDevice.state b (g.met.D.SectorDevice.lawful b.device) c.in-Ok.ensures.done.keeps.running
-    (c.pass_where_due.ensures.device is))
+    fails_after c.in-Ok.ensures.done (omega arith) (fails_pass (g.met.D.SectorDevice.lawful c.commit_unsaved.new.log.device)
+    c.in-Ok.ensures.done.keeps.running (c.pass_where_due.ensures.device is))
 
 pub returns-clause-halted : goal.returns-clause-halted
 returns-clause-halted g c is ne =
-    halts_after g.D.SectorDevice.state c.in-Ok.ensures.done (omega arith)
-    (halts_at_once g.D.SectorDevice.state c.commit_unsaved.new.log c.pass_where_due.new.log (c.pass_where_due.ensures.halted is))
+    halts_after c.in-Ok.ensures.done (omega arith) (halts_at_once _ _ _ (c.pass_where_due.ensures.halted is))
 
 pub returns-clause-totals : goal.returns-clause-totals
 returns-clause-totals g c = c.pass_where_due.ensures.totals ∙ c.commit_unsaved.ensures.totals
 
 pub returns-clause-told : goal.returns-clause-told
 returns-clause-told g c =
-    once_told (length (g.D.SectorDevice.state c.args.log.now.device).told)
-    (length (g.D.SectorDevice.state c.commit_unsaved.new.log.device).told)
-    (length (g.D.SectorDevice.state c.pass_where_due.new.log.device).told)
-    c.in-Ok.ensures.done.keeps.segments c.commit_unsaved.ensures.told c.pass_where_due.ensures.told
+    once_told _ _ _ c.in-Ok.ensures.done.keeps.segments c.commit_unsaved.ensures.told c.pass_where_due.ensures.told
 
 pub returns-clause-saved : goal.returns-clause-saved
-returns-clause-saved g c all =
-    subst (λ (h : LogState g.row.D.Denot). length (g.D.SectorDevice.state c.pass_where_due.new.log.device).told
-    ≤ length (g.D.SectorDevice.state h.device).told + pass_orders h.segments)
-    (c.commit_unsaved.ensures.quiet all) c.pass_where_due.ensures.told
+returns-clause-saved g c all = rw (← c.commit_unsaved.ensures.quiet all) c.pass_where_due.ensures.told

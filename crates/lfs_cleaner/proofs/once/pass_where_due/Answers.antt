@@ -1,15 +1,12 @@
 use Rattle.std.proofs.Common.{rules, ◌≡◌, true, inl}
-use Rattle.lfs_cleaner.specs.Room.{PassesInNeed}
 use Rattle.lfs_cleaner.proofs.once.pass_where_due.Goals as goal
 
 pub returns-in-Ok-clause-done : goal.returns-in-Ok-clause-done
-returns-in-Ok-clause-done g c =
-    let need : PassesInNeed g.D.SectorDevice.state c.args.log.now c.pass.new.log = record {
-      nothing = c.requires.nothing;
-      few = c.if-has_quarter.ensures.no (search rules);
-      passes = c.in-Ok.ensures.done;
-    } in
-    inl need
+returns-in-Ok-clause-done g c = inl (record {
+  nothing = c.requires.nothing;
+  few = c.if-has_quarter.ensures.no (search rules);
+  passes = c.in-Ok.ensures.done;
+})
 
 pub returns-in-Err-clause-full : goal.returns-in-Err-clause-full
 returns-in-Err-clause-full g c is = (c.if-has_quarter.ensures.no (search rules), c.in-Err.ensures.full (search rules))

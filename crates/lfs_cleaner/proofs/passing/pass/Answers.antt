@@ -1,25 +1,22 @@
-use Rattle.std.proofs.Common.{rules, ◌≡◌, false, true, sym, ◌∙◌, ap, subst}
-use Rattle.lfs_model.specs.Members.{AreApart}
-use Rattle.lfs_log.specs.segments.Table.{UsageTable}
-use Rattle.lfs_log.specs.segments.Victims.{AreVictims, IsChosen, IsPressed, pass_limit}
+use Rattle.std.proofs.Common.{rules, ◌≡◌, false, true, sym, ◌∙◌, ap}
+use Rattle.lfs_log.specs.segments.Victims.{AreVictims, IsChosen, pass_limit}
 use Rattle.lfs_log.specs.Thresholds.{most_victims}
 use Rattle.lfs_log.proofs.Passes.{pass_done, pass_halts}
 use Rattle.lfs_cleaner.proofs.Pressing.{carried, not_refused, pressed_there}
 use Rattle.lfs_cleaner.proofs.passing.pass.Goals as goal
 
 pub relocate-requires : goal.relocate-requires
-relocate-requires g c = subst AreApart (sym c.as_slice.ensures.value) c.in-Some.ensures.some.apart
+relocate-requires g c = rw c.as_slice.ensures.value c.in-Some.ensures.some.apart
 
 pub returns-in_default-clause-full : goal.returns-in_default-clause-full
 returns-in_default-clause-full g c is = record {
   reads = search rules;
   unfit = λ k m0 m keeps can.
       let whole = c.are_tables_whole.ensures in
-      let there = pressed_there c.args.log.now k m0 m can whole c.meta.ensures in
+      let there = pressed_there can whole c.meta.ensures in
       let limit = c.most_victims-most.ensures ∙ ap most_victims (c.segments.ensures ∙ whole.segments)
       ∙ ap pass_limit (sym c.usage.ensures) in
-      let bad : false ≡ true = c.in_default.ensures.found
-      (subst (λ (t : UsageTable). IsPressed t c.meta.result) (sym c.usage.ensures) there) limit in
+      let bad : false ≡ true = c.in_default.ensures.found (rw c.usage.ensures there) limit in
       absurd (cc);
 }
 
@@ -51,10 +48,9 @@ returns-in-Err-clause-full g c is = record {
       let vs = c.as_slice.result.now in
       let most = c.most_victims-most.result in
       let are : AreVictims c.usage.result.now c.meta.result most vs =
-      subst (AreVictims c.usage.result.now c.meta.result most) (sym c.as_slice.ensures.value) c.in-Some.ensures.some in
-      not_refused c.relocate.new.self k m0 m can c.are_tables_whole.ensures keeps
-      most vs c.meta.ensures (c.most_victims-most.ensures ∙ ap most_victims c.segments.ensures)
-      (subst (λ (t : UsageTable). AreVictims t c.meta.result most vs) c.usage.ensures are) (c.in-Err.ensures.lacks is);
+      rw c.as_slice.ensures.value c.in-Some.ensures.some in
+      not_refused can c.relocate.new.self keeps c.meta.ensures (c.most_victims-most.ensures ∙ ap most_victims c.segments.ensures)
+      (rw (← c.usage.ensures) are) (c.in-Err.ensures.lacks is);
 }
 
 pub returns-in-Err-clause-device : goal.returns-in-Err-clause-device

@@ -1,8 +1,6 @@
 use Rattle.std.proofs.Common.{◌∙◌, ap}
 use Rattle.lfs_memory.specs.segments.Chunk.{Chunk}
 use Rattle.lfs_memory.specs.inodes.Blocks.{TableValue}
-use Rattle.lfs_log.specs.Versions.{number_of}
-use Rattle.lfs_log.specs.Saving.{CommitFails}
 use Rattle.lfs_log.proofs.committing.save.Goals as goal
 use Rattle.lfs_memory.proofs.Going.{on_err}
 use Rattle.lfs_log.proofs.Saves.{out_stops, publish_fails, commits}
@@ -10,18 +8,13 @@ use Rattle.lfs_log.proofs.Saves.{out_stops, publish_fails, commits}
 -- src/committing.rt:101:5
 pub returns-in_err-write_out-clause-stopped : goal.returns-in_err-write_out-clause-stopped
 returns-in_err-write_out-clause-stopped g c =
-    on_err c.from_residual.result
-    (CommitFails (g.D.SectorDevice.state c.args.device.now) (g.D.SectorDevice.state c.write_out.new.device) c.args.memory.now
-    (number_of c.args.version) c.args.number) (out_stops
-    (number_of c.args.version) c.args.number c.write_out.ensures.told c.in_err-write_out.ensures.stopped)
+    on_err _ _ (out_stops _ _ c.write_out.ensures.told c.in_err-write_out.ensures.stopped)
 
 -- src/committing.rt:102:5
 pub returns-in_err-publish-clause-stopped : goal.returns-in_err-publish-clause-stopped
 returns-in_err-publish-clause-stopped g c =
-    on_err c.from_residual-in_err-publish.result
-    (CommitFails (g.D.SectorDevice.state c.args.device.now) (g.D.SectorDevice.state c.publish.new.device) c.args.memory.now
-    (number_of c.args.version) c.args.number) (publish_fails (g.D.SectorDevice.state c.args.device.now)
-    c.args.memory.now _ c.in_ok-write_out.ensures.done c.write_out.ensures.told c.publish.ensures.told c.in_err-publish.ensures.stopped)
+    on_err _ _ (publish_fails _
+    _ _ c.in_ok-write_out.ensures.done c.write_out.ensures.told c.publish.ensures.told c.in_err-publish.ensures.stopped)
 
 -- src/committing.rt:86:1
 pub returns-clause-done : goal.returns-clause-done

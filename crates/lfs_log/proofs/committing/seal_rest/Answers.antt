@@ -4,5 +4,4 @@ use Rattle.lfs_memory.proofs.Going.{goes_none, goes_at_most}
 
 pub returns-then-is_empty-clause-done : goal.returns-then-is_empty-clause-done
 returns-then-is_empty-clause-done g c =
-    goes_at_most (g.D.SectorDevice.state c.args.device.now) (g.D.SectorDevice.state c.args.device.now) c.args.memory.now c.args.memory.now 0
-    62 (omega arith) (goes_none c.args.memory.now (g.met.D.SectorDevice.lawful c.args.device.now) c.requires.memory)
+    goes_at_most _ _ _ _ 0 62 (omega arith) (goes_none _ (g.met.D.SectorDevice.lawful c.args.device.now) c.requires.memory)

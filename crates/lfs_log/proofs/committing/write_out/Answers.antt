@@ -1,8 +1,7 @@
-use Rattle.std.proofs.Common.{◌+◌, ◌∙◌, length, sym, subst, ap, arith}
+use Rattle.std.proofs.Common.{◌+◌, ◌∙◌, length, ap, arith}
 use Rattle.lfs_memory.specs.segments.Chunk.{Chunk}
 use Rattle.lfs_memory.specs.segments.Table.{UsageTable, clean_in}
 use Rattle.lfs_memory.specs.inodes.Blocks.{TableValue}
-use Rattle.lfs_memory.specs.Memory.{Stops, AreMapsOut}
 use Rattle.lfs_log.proofs.Saves.{segments_taken, room_there, many_spare}
 use Rattle.lfs_log.proofs.committing.write_out.Goals as goal
 use Rattle.lfs_memory.proofs.Going.{on_err, goes_then, goes_at_most, stops_then}
@@ -10,25 +9,19 @@ use Rattle.lfs_memory.proofs.Going.{on_err, goes_then, goes_at_most, stops_then}
 -- src/committing.rt:75:5
 pub returns-in_err-seal_rest-clause-stopped : goal.returns-in_err-seal_rest-clause-stopped
 returns-in_err-seal_rest-clause-stopped g c =
-    on_err c.from_residual-in_err-seal_rest.result
-    (Stops (g.D.SectorDevice.state c.args.device.now) (g.D.SectorDevice.state c.seal_rest.new.device) c.args.memory.now) (stops_then
-     c.in_ok-place_all.ensures.saves.done.goes c.in_err-seal_rest.ensures.stopped)
+    on_err _ _ (stops_then c.in_ok-place_all.ensures.saves.done.goes c.in_err-seal_rest.ensures.stopped)
 
 -- src/committing.rt:76:5
 pub returns-in_err-fill_usage-clause-stopped : goal.returns-in_err-fill_usage-clause-stopped
 returns-in_err-fill_usage-clause-stopped g c =
-    on_err c.from_residual-in_err-fill_usage.result
-    (Stops (g.D.SectorDevice.state c.args.device.now) (g.D.SectorDevice.state c.fill_usage.new.device) c.args.memory.now) (stops_then
-     c.in_ok-place_all.ensures.saves.done.goes
+    on_err _ _ (stops_then c.in_ok-place_all.ensures.saves.done.goes
     (stops_then c.in_ok-seal_rest.ensures.done c.in_err-fill_usage.ensures.stopped))
 
 -- src/committing.rt:58:1
 pub returns-clause-done : goal.returns-clause-done
 returns-clause-done g c =
     let n = length c.args.memory.now.dirty.blocks + 48 + 62 in
-    goes_at_most (g.D.SectorDevice.state c.args.device.now) (g.D.SectorDevice.state c.fill_usage.new.device) c.args.memory.now
-    c.fill_usage.new.memory (n + 0) n (omega arith) (goes_then (goes_then
-     c.in_ok-place_all.ensures.saves.done.goes c.in_ok-seal_rest.ensures.done)
+    goes_at_most _ _ _ _ _ n (omega arith) (goes_then (goes_then c.in_ok-place_all.ensures.saves.done.goes c.in_ok-seal_rest.ensures.done)
     c.in_ok-fill_usage.ensures.done)
 
 -- src/committing.rt:76:5
@@ -50,7 +43,7 @@ returns-clause-out g c =
       chunk = ap (λ (x : Chunk). x.names) c.fill_usage.ensures.only.chunk ∙ c.in_ok-seal_rest.ensures.ended;
       dirty = ap (λ (t : TableValue). t.blocks) (c.fill_usage.ensures.only.dirty ∙ c.seal_rest.ensures.only.dirty)
           ∙ c.in_ok-place_all.ensures.dirty;
-      maps = subst AreMapsOut (sym (c.fill_usage.ensures.only.map ∙ c.seal_rest.ensures.only.map)) c.in_ok-place_all.ensures.maps;
+      maps = rw (c.fill_usage.ensures.only.map ∙ c.seal_rest.ensures.only.map) c.in_ok-place_all.ensures.maps;
       fresh = c.in_ok-fill_usage.ensures.fresh;
       many = many_spare c.args.memory.now c.fill_usage.new.memory (length c.args.memory.now.dirty.blocks) goes.segments goes.emptied
           c.requires.spare (returns-clause-taken g c);

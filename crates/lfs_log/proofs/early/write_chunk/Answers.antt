@@ -2,9 +2,8 @@ use Rattle.std.proofs.Common.{rules, ◌≡◌, ◌≤◌, ◌∙◌, true, leng
 use Rattle.lfs_memory.specs.segments.Table.{UsageTable, clean_in}
 use Rattle.lfs_memory.specs.inodes.Blocks.{TableValue}
 use Rattle.lfs_memory.specs.inodes.Data.{data_count, is_data_code}
-use Rattle.lfs_memory.specs.Memory.{Stops}
 use Rattle.lfs_memory.proofs.Going.{on_err, goes_then, stops_then}
-use Rattle.lfs_log.proofs.EarlyBlocks.{chunk_due, chunk_told, early_none, early_then, ended_fresh, ended_goes, one_segment}
+use Rattle.lfs_log.proofs.EarlyBlocks.{chunk_due, saved_told, stopped_told, early_none, early_then, ended_fresh, ended_goes, one_segment}
 use Rattle.lfs_log.proofs.SavedBlocks.{saves_at_most, saves_none, saves_then, stops_behind}
 use Rattle.lfs_log.proofs.early.write_chunk.Goals as goal
 
@@ -34,52 +33,31 @@ loop-preserved g c =
 
 pub returns-in_err-save_block-clause-stopped : goal.returns-in_err-save_block-clause-stopped
 returns-in_err-save_block-clause-stopped g c =
-    let d = g.D.SectorDevice.state c.args.device.now in
-    let v = c.args.memory.now in
-    on_err c.from_residual.result (Stops d (g.D.SectorDevice.state c.save_block.new.device) v) (stops_then
-    (ended_goes v c.end_last.ensures (g.met.D.SectorDevice.lawful c.args.device.now) c.requires.memory
+    on_err _ _ (stops_then (ended_goes _ c.end_last.ensures (g.met.D.SectorDevice.lawful c.args.device.now) c.requires.memory
     c.requires.closed) (stops_behind c.loop.invariant.saves c.in_err-save_block.ensures.saves.stopped).stops)
 
 pub returns-in_err-save_block-clause-most : goal.returns-in_err-save_block-clause-most
 returns-in_err-save_block-clause-most g c =
     let lt = c.loop-test.true in
-    let here = stops_behind c.loop.invariant.saves c.in_err-save_block.ensures.saves.stopped in
-    let most = here.tells in
-    let room = here.room in
-    let same = ap (λ (u : UsageTable). clean_in u.segments) c.end_last.ensures in
-    let le = chunk_told c.args.memory.now c.save_block.new.memory
-    (length (g.D.SectorDevice.state c.args.device.now).told) (length (g.D.SectorDevice.state c.save_block.new.device).told) 64
-    c.end_last.ensures c.requires.closed (omega (arith, same, room, lt)) (omega (arith, most, lt)) in
-    omega (arith, le)
+    let le = stopped_told c.args.memory.now c.end_last.ensures c.requires.closed
+    (stops_behind c.loop.invariant.saves c.in_err-save_block.ensures.saves.stopped) (omega (arith, lt)) in
+    omega (arith, le, lt)
 
 pub returns-in_err-seal_rest-clause-stopped : goal.returns-in_err-seal_rest-clause-stopped
 returns-in_err-seal_rest-clause-stopped g c =
-    let d = g.D.SectorDevice.state c.args.device.now in
-    let v = c.args.memory.now in
-    let middle = g.D.SectorDevice.state c.loop.device in
-    on_err c.from_residual-in_err-seal_rest.result (Stops d (g.D.SectorDevice.state c.seal_rest.new.device) v) (stops_then (goes_then
-    (ended_goes v c.end_last.ensures (g.met.D.SectorDevice.lawful c.args.device.now) c.requires.memory
+    on_err _ _ (stops_then (goes_then (ended_goes _ c.end_last.ensures (g.met.D.SectorDevice.lawful c.args.device.now) c.requires.memory
     c.requires.closed) (saves_at_most 63 63 (omega arith) (omega arith) c.loop.invariant.saves).goes)
     c.in_err-seal_rest.ensures.stopped)
 
 pub returns-in_err-seal_rest-clause-most : goal.returns-in_err-seal_rest-clause-most
 returns-in_err-seal_rest-clause-most g c =
-    let tells = c.loop.invariant.saves.tells in
-    let told = c.seal_rest.ensures.told in
-    let before = ap (λ (u : UsageTable). clean_in u.segments) c.end_last.ensures in
-    let after = ap (λ (u : UsageTable). clean_in u.segments) c.seal_rest.ensures.only.usage in
-    let room = c.loop.invariant.saves.goes.room in
-    let le = chunk_told c.args.memory.now c.loop.memory
-    (length (g.D.SectorDevice.state c.args.device.now).told) (length (g.D.SectorDevice.state c.seal_rest.new.device).told) 63
-    c.end_last.ensures c.requires.closed (omega (arith, before, room)) (omega (arith, tells, told, after)) in
+    let le = saved_told (g.D.SectorDevice.state c.seal_rest.new.device) c.args.memory.now c.seal_rest.new.memory c.end_last.ensures
+    c.requires.closed c.loop.invariant.saves (omega arith) (omega arith) c.seal_rest.ensures.only.usage c.seal_rest.ensures.told in
     omega (arith, le)
 
 pub returns-clause-done : goal.returns-clause-done
 returns-clause-done g c =
-    let d = g.D.SectorDevice.state c.args.device.now in
-    let v = c.args.memory.now in
-    let middle = g.D.SectorDevice.state c.loop.device in
-    goes_then (goes_then (ended_goes v c.end_last.ensures (g.met.D.SectorDevice.lawful c.args.device.now) c.requires.memory
+    goes_then (goes_then (ended_goes _ c.end_last.ensures (g.met.D.SectorDevice.lawful c.args.device.now) c.requires.memory
     c.requires.closed) (saves_at_most 63 63 (omega arith) (omega arith) c.loop.invariant.saves).goes)
     c.in_ok-seal_rest.ensures.done
 
@@ -107,14 +85,8 @@ returns-clause-taken g c =
 
 pub returns-clause-told : goal.returns-clause-told
 returns-clause-told g c =
-    let tells = c.loop.invariant.saves.tells in
-    let told = c.seal_rest.ensures.told in
-    let before = ap (λ (u : UsageTable). clean_in u.segments) c.end_last.ensures in
-    let after = ap (λ (u : UsageTable). clean_in u.segments) c.seal_rest.ensures.only.usage in
-    let room = c.loop.invariant.saves.goes.room in
-    chunk_told c.args.memory.now c.loop.memory (length (g.D.SectorDevice.state c.args.device.now).told)
-    (length (g.D.SectorDevice.state c.seal_rest.new.device).told) 63
-    c.end_last.ensures c.requires.closed (omega (arith, before, room)) (omega (arith, tells, told, after))
+    saved_told (g.D.SectorDevice.state c.seal_rest.new.device) c.args.memory.now c.seal_rest.new.memory c.end_last.ensures
+    c.requires.closed c.loop.invariant.saves (omega arith) (omega arith) c.seal_rest.ensures.only.usage c.seal_rest.ensures.told
 
 pub returns-clause-most : goal.returns-clause-most
 returns-clause-most g c = let told = returns-clause-told g c in omega (arith, told)

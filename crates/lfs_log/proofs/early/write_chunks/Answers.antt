@@ -2,7 +2,6 @@ use Rattle.std.proofs.Common.{rules, ◌<◌, ◌≤◌, inl, inr, length, refl,
 use Rattle.lfs_memory.specs.segments.Table.{clean_in}
 use Rattle.lfs_memory.specs.inodes.Data.{data_count}
 use Rattle.lfs_memory.specs.declared.memory.LogMemory.{LogMemory}
-use Rattle.lfs_memory.specs.Memory.{Stops}
 use Rattle.lfs_memory.proofs.Going.{on_err, stops_then, has_room_still}
 use Rattle.lfs_log.specs.Early.{full_chunk}
 use Rattle.lfs_log.specs.Thresholds.{reserve_of}
@@ -28,9 +27,7 @@ write_chunk-requires-clause-closed g c = c.loop-memory.invariant.chunks.closed
 
 pub returns-in_err-write_chunk-clause-stopped : goal.returns-in_err-write_chunk-clause-stopped
 returns-in_err-write_chunk-clause-stopped g c =
-    on_err c.from_residual.result
-    (Stops (g.D.SectorDevice.state c.args.device.now) (g.D.SectorDevice.state c.write_chunk.new.device) c.args.memory.now) (stops_then
-     c.loop-memory.invariant.chunks.goes.1 c.in_err-write_chunk.ensures.stopped)
+    on_err _ _ (stops_then c.loop-memory.invariant.chunks.goes.1 c.in_err-write_chunk.ensures.stopped)
 
 pub loop-memory-preserved : goal.loop-memory-preserved
 loop-memory-preserved g c =

@@ -1,5 +1,4 @@
-use Rattle.std.proofs.Common.{◌≡◌, ◌∙◌, ℕ, ⊎_elim, refl, sym, subst, arith}
-use Rattle.lfs_memory.specs.inodes.MapValue.{block_in}
+use Rattle.std.proofs.Common.{◌∙◌, ⊎_elim, refl, sym, arith}
 use Rattle.lfs_log.proofs.mapping.save_map.Goals as goal
 use Rattle.lfs_log.proofs.MapSteps.{maps_out}
 use Rattle.lfs_log.proofs.SavedBlocks.{saves_at_most, saves_none, saves_then, saving_at_most, saving_done, saving_failed, stops_behind}
@@ -25,7 +24,7 @@ pub loop-index-preserved : goal.loop-index-preserved
 loop-index-preserved g c = record {
   saves = saves_then c.loop-index.invariant.saves c.in_ok-save_map_block.ensures.saves.done;
   known = λ j lt one. ⊎_elim
-      (λ is. c.in_ok-save_map_block.ensures.known (subst (λ (n : ℕ). block_in c.save_map_block.new.memory.map n ≡ 1) is one))
+      (λ is. c.in_ok-save_map_block.ensures.known (rw (← is) one))
       (λ ne. c.loop-index.invariant.known j (omega (arith, lt, ne)) (sym (c.in_ok-save_map_block.ensures.others j ne) ∙ one))
       (cases_eq j c.loop-index.index);
   long = λ some. c.in_ok-save_map_block.ensures.long;

@@ -8,10 +8,10 @@ pub returns-then-not-encode-clause-saves : goal.returns-then-not-encode-clause-s
 returns-then-not-encode-clause-saves g c =
     saving_done (record {
       goes = drop_goes c.args.memory.now c.args.index c.set_block_address.new.self (record {
-            block = c.set_block_address.ensures.changed;
-            addresses = ap (λ (a : MapValue). a.addresses) c.set_block_address.ensures.set;
-            hidden = ap (λ (a : MapValue). a.hidden) c.set_block_address.ensures.set;
-          })
+        block = c.set_block_address.ensures.changed;
+        addresses = ap (λ (a : MapValue). a.addresses) c.set_block_address.ensures.set;
+        hidden = ap (λ (a : MapValue). a.hidden) c.set_block_address.ensures.set;
+      })
           (search rules) c.requires.memory (g.met.D.SectorDevice.lawful c.args.device.now)
           (λ m t is. c.encode.ensures.dropped m t is (search rules));
       tells = omega arith;

@@ -1,7 +1,6 @@
-use Rattle.std.proofs.Common.{rules, true, refl, sym, ap, subst, arith}
-use Rattle.lfs_memory.specs.inodes.Blocks.{TableValue}
+use Rattle.std.proofs.Common.{rules, refl, ap, arith}
 use Rattle.lfs_memory.specs.inodes.MapValue.{MapValue}
-use Rattle.lfs_memory.specs.Memory.{GoesUpTo, IsBlockAt}
+use Rattle.lfs_memory.specs.Memory.{IsBlockAt}
 use Rattle.lfs_log.proofs.mapping.write_map_block.Goals as goal
 use Rattle.lfs_memory.proofs.Rooms.{takes_place}
 use Rattle.lfs_memory.proofs.FileSteps.{place_stops}
@@ -10,7 +9,7 @@ use Rattle.lfs_log.proofs.MapSteps.{map_goes, placed_map}
 
 -- src/mapping.rt:44:9
 pub next_place-address-requires-clause-placed : goal.next_place-address-requires-clause-placed
-next_place-address-requires-clause-placed g c = placed_map c.args.index c.requires.index
+next_place-address-requires-clause-placed g c = placed_map _ c.requires.index
 
 pub returns-in_err-write-clause-writes : goal.returns-in_err-write-clause-writes
 returns-in_err-write-clause-writes g c =
@@ -26,16 +25,12 @@ returns-clause-writes g c =
     let v = c.args.memory.now in
     let same = c.next_place-address.ensures.placed.map in
     let sets : IsBlockAt v.map map' c.args.index c.next_place-address.result =
-    subst (λ (a : MapValue). IsBlockAt a map' c.args.index c.next_place-address.result) same
-    (record {
+    rw (← same) (record {
       block = c.set_block_address.ensures.changed;
       addresses = ap (λ (a : MapValue). a.addresses) c.set_block_address.ensures.set;
       hidden = ap (λ (a : MapValue). a.hidden) c.set_block_address.ensures.set;
     }) in
-    writing_done
-    (subst (λ (t : TableValue). GoesUpTo 63 (g.D.SectorDevice.state c.args.device.now) (g.D.SectorDevice.state c.write.new.device) v
-    (record { map = map'; usage = c.next_place-address.new.self.usage; dirty = t; chunk = c.next_place-address.new.self.chunk }) 1)
-    (sym c.next_place-address.ensures.placed.dirty) (map_goes v _ c.requires.memory c.next_place-address.ensures.placed map' sets
+    writing_done (rw c.next_place-address.ensures.placed.dirty (map_goes v _ c.requires.memory c.next_place-address.ensures.placed map' sets
     c.in_ok-write.ensures.crash c.in_ok-write.ensures.asks.carries c.in_ok-write.ensures.asks.time
     (g.met.D.SectorDevice.lawful c.args.device.now)
     c.in_ok-write.ensures.written refl c.requires.wanted c.requires.spelt c.requires.empty c.in_ok-write.ensures.asks.no_failure))

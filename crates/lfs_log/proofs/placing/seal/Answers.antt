@@ -1,4 +1,3 @@
-use Rattle.lfs_memory.specs.Memory.{Stops}
 use Rattle.lfs_log.proofs.placing.seal.Goals as goal
 use Rattle.lfs_memory.proofs.Going.{on_err}
 use Rattle.lfs_log.proofs.Sealed.{seal_goes, seal_stops}
@@ -6,9 +5,7 @@ use Rattle.lfs_log.proofs.Sealed.{seal_goes, seal_stops}
 -- src/placing.rt:20:5
 pub returns-in_err-seal-clause-stopped : goal.returns-in_err-seal-clause-stopped
 returns-in_err-seal-clause-stopped g c =
-    on_err c.from_residual.result
-    (Stops (g.D.SectorDevice.state c.args.device.now) (g.D.SectorDevice.state c.seal.new.device) c.args.memory.now)
-    (seal_stops c.requires.memory c.requires.begun
+    on_err c.from_residual.result _ (seal_stops c.requires.memory c.requires.begun
     (g.met.D.SectorDevice.lawful c.args.device.now) c.in_err-seal.ensures.entries c.in_err-seal.ensures.crash
     c.in_err-seal.ensures.asks.carries
     c.in_err-seal.ensures.asks.time

@@ -1,14 +1,11 @@
-use Rattle.std.proofs.Common.{rules, ◌≡◌, ◌∙◌, ◌+◌, ◌/◌, ◌%◌, ap, sym, subst, arith, not, Some}
+use Rattle.std.proofs.Common.{rules, ◌≡◌, ◌∙◌, ◌+◌, ◌/◌, ◌%◌, ap, sym, arith, not, Some}
 use Rattle.lfs_model.specs.Memory.{file_of}
-use Rattle.lfs_model.specs.Running.{Moves}
 use Rattle.lfs_memory.specs.segments.Table.{UsageTable}
 use Rattle.lfs_memory.specs.segments.Early.{early_in}
 use Rattle.lfs_log.proofs.EarlyBlocks.{begun_same, placed_early, placed_fresh}
-use Rattle.lfs_memory.specs.inodes.MapValue.{MapValue}
 use Rattle.lfs_memory.specs.inodes.Blocks.{TableValue, blocks_of}
 use Rattle.lfs_memory.specs.inodes.Data.{data_count}
 use Rattle.lfs_memory.specs.inodes.Key.{entry_of}
-use Rattle.lfs_memory.specs.Memory.{IsPointedAt}
 use Rattle.lfs_log.proofs.placing.write_block.Goals as goal
 use Rattle.lfs_log.proofs.SavedBlocks.{writing_done, writing_failed}
 use Rattle.lfs_memory.proofs.Rooms.{takes_place}
@@ -20,7 +17,7 @@ returns-in_err-write-clause-writes g c =
     c.in_err-write.ensures.crash c.in_err-write.ensures.asks.carries c.in_err-write.ensures.asks.time
     (g.met.D.SectorDevice.lawful c.args.device.now)
     c.in_err-write.ensures.failed_write c.in_err-write.ensures.asks.failed) (let room = takes_place
-     c.requires.memory c.next_place-address.ensures.placed in
+    c.requires.memory c.next_place-address.ensures.placed in
     omega (arith, room)) (search rules)
 
 pub returns-clause-writes : goal.returns-clause-writes
@@ -32,15 +29,12 @@ returns-clause-writes g c =
     let there = sym (ap (λ (t : TableValue). blocks_of t x) c.next_place-address.ensures.placed.dirty) ∙ shown in
     let few = c.file.ensures.few in
     writing_done (goes_to 63 c.point.new.self 1 c.point.ensures.usage c.point.ensures.dirty c.point.ensures.chunk (file_goes
-     c.requires.memory c.next_place-address.ensures.placed
-    x file (subst (λ (a : MapValue). IsPointedAt a c.point.new.self.map x c.next_place-address.result)
-    c.next_place-address.ensures.placed.map c.point.ensures.points) c.unwrap-bytes.result.now c.moved.new.self
+    c.requires.memory c.next_place-address.ensures.placed
+    x file (rw (← c.next_place-address.ensures.placed.map) c.point.ensures.points) c.unwrap-bytes.result.now c.moved.new.self
     c.in_ok-write.ensures.crash c.in_ok-write.ensures.asks.carries c.in_ok-write.ensures.asks.time
     (g.met.D.SectorDevice.lawful c.args.device.now)
-    c.in_ok-write.ensures.written c.name.ensures.entry c.requires.lowest there
-    (subst (λ (t : TableValue). Moves (blocks_of t) (blocks_of c.moved.new.self) x c.next_place-address.result)
-    c.next_place-address.ensures.placed.dirty c.moved.ensures.moves)
-    (omega (arith, few)) (ap not c.is_hidden-lives.ensures) (c.moved.ensures.capacity
+    c.in_ok-write.ensures.written c.name.ensures.entry c.requires.lowest there (rw (← c.next_place-address.ensures.placed.dirty)
+    c.moved.ensures.moves) (omega (arith, few)) (ap not c.is_hidden-lives.ensures) (c.moved.ensures.capacity
     ∙ ap (λ (t : TableValue). t.capacity) c.next_place-address.ensures.placed.dirty) c.in_ok-write.ensures.asks.no_failure))
     (search rules)
 

@@ -19,8 +19,7 @@ pub returns-in-Ok-false-clause-brings : goal.returns-in-Ok-false-clause-brings
 returns-in-Ok-false-clause-brings g t c = record {
   relocates = c.bring_block.ensures.brings.relocates;
   inside = λ is. absurd (cc);
-  none = λ _. no_block_above (g.D.SectorDevice.state c.bring_block.new.device) c.bring_block.new.memory _ c.in-Some.ensures.some.0
-      (c.in-Ok-false.ensures.brings.none (search rules));
+  none = λ _. no_block_above _ _ _ c.in-Some.ensures.some.0 (c.in-Ok-false.ensures.brings.none (search rules));
   ends = lifting_done c.in-Ok-false.ensures.brings.ends.no_failure;
 }
 

@@ -11,7 +11,7 @@ use Rattle.lfs_log.proofs.relocating.bring_child.Goals as goal
 
 pub returns-then-has_block-clause-brings : goal.returns-then-has_block-clause-brings
 returns-then-has_block-clause-brings g c =
-    bringing_none (g.D.SectorDevice.state c.args.device.now) c.args.memory.now (entry_of c.args.key) c.requires.memory (search rules)
+    bringing_none _ _ _ c.requires.memory (search rules)
 
 pub returns-then-has_block-clause-came : goal.returns-then-has_block-clause-came
 returns-then-has_block-clause-came g c = brings_same c.args.memory.now c.args.memory.now (entry_of c.args.key) refl
@@ -33,8 +33,7 @@ pub returns-in-Ok-false-clause-brings : goal.returns-in-Ok-false-clause-brings
 returns-in-Ok-false-clause-brings g c = record {
   relocates = relocates_of c.lift_child.ensures.prepares c.lift_child.ensures.gathers;
   inside = λ is. absurd (cc);
-  none = λ _. no_pointer_there (g.D.SectorDevice.state c.lift_child.new.device) c.lift_child.new.memory _
-      (c.in-Ok-false.ensures.none (search rules));
+  none = λ _. no_pointer_there _ c.lift_child.new.memory _ (c.in-Ok-false.ensures.none (search rules));
   ends = lifting_done c.in-Ok-false.ensures.ends.no_failure;
 }
 

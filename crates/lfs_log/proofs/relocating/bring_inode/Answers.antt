@@ -1,11 +1,10 @@
-use Rattle.std.proofs.Common.{rules, arith, ⊎_elim, ◌≡◌, ◌∙◌, ap, refl, sym, subst}
+use Rattle.std.proofs.Common.{rules, arith, ⊎_elim, ◌≡◌, ◌∙◌, ap, refl}
 use Rattle.std.specs.Prelude.{None}
 use Rattle.lfs_model.specs.Entry.{Inode}
 use Rattle.lfs_memory.specs.declared.memory.LogMemory.{LogMemory}
 use Rattle.lfs_memory.specs.inodes.Blocks.{blocks_of}
 use Rattle.lfs_memory.specs.inodes.Key.{entry_of}
 use Rattle.lfs_memory.specs.inodes.MapValue.{address_in}
-use Rattle.lfs_memory.specs.Lifting.{IsInMemory}
 use Rattle.lfs_log.proofs.Relocations.{bringing_none, lifting_done}
 use Rattle.lfs_memory.proofs.LiftedKeys.{file_is}
 use Rattle.lfs_log.specs.Relocating.{IsInOrder}
@@ -23,15 +22,14 @@ returns-in-Ok-false-clause-brings g c =
     record {
       relocates = relocates_of c.lift_inode.ensures.prepares c.lift_inode.ensures.gathers;
       inside = λ is. absurd (cc);
-      none = λ _. no_inode_there (g.D.SectorDevice.state c.lift_inode.new.device) c.lift_inode.new.memory _
-          (file_is c.args.key.code c.file.ensures.file) c.requires.top
+      none = λ _. no_inode_there _ _ _ (file_is _ c.file.ensures.file) c.requires.top
           (ap (λ (v : LogMemory). address_in v.map c.file.result) (c.in-Ok-false.ensures.same (search rules)) ∙ gone);
       ends = lifting_done c.in-Ok-false.ensures.ends.no_failure;
     }
 
 pub returns-then-has_block-clause-brings : goal.returns-then-has_block-clause-brings
 returns-then-has_block-clause-brings g c =
-    bringing_none (g.D.SectorDevice.state c.args.device.now) c.args.memory.now (entry_of c.args.key) c.requires.memory (search rules)
+    bringing_none _ _ _ c.requires.memory (search rules)
 
 pub returns-then-has_block-clause-came : goal.returns-then-has_block-clause-came
 returns-then-has_block-clause-came g c = brings_same c.args.memory.now c.args.memory.now (entry_of c.args.key) refl
@@ -45,7 +43,7 @@ returns-in-Ok-true-clause-came g c =
     top_inode (entry_of c.args.key) (file_is c.args.key.code c.file.ensures.file) c.requires.top in
     let inside = c.in-Ok-true.ensures.inside (search rules) in
     brings_one c.args.memory.now c.lift_inode.new.memory c.args.key.formed before after none c.lift_inode.ensures.prepares.stay
-    (subst (IsInMemory c.lift_inode.new.memory) (sym own) inside.1) c.lift_inode.ensures.prepares.few
+    (rw own inside.1) c.lift_inode.ensures.prepares.few
 
 pub returns-in-Ok-false-clause-came : goal.returns-in-Ok-false-clause-came
 returns-in-Ok-false-clause-came g c =

@@ -11,8 +11,7 @@ use Rattle.lfs_log.proofs.relocating.relocate_block.Goals as goal
 
 pub returns-in-Ok-clause-relocates : goal.returns-in-Ok-clause-relocates
 returns-in-Ok-clause-relocates g c =
-    relocating_done (relocated_still (IsBetween c.args.address (c.args.address + 1)) (map_relocates
-    (g.met.D.SectorDevice.lawful c.args.device.now) c.requires.memory
+    relocating_done (relocated_still _ (map_relocates (g.met.D.SectorDevice.lawful c.args.device.now) c.requires.memory
     c.in-Ok.ensures.done) (map_dirty c.in-Ok.ensures.done))
 
 pub returns-in-Err-clause-relocates : goal.returns-in-Err-clause-relocates
@@ -44,7 +43,7 @@ returns-in-Err-relocate_usage-clause-relocates g c =
 
 pub returns-in_default-clause-left : goal.returns-in_default-clause-left
 returns-in_default-clause-left g c =
-    ok_then c.relocate_file_block.result _ _
+    ok_then _ _ _
     (subst (λ (x : Entry). HasLeft (g.D.SectorDevice.state c.args.device.now) (g.D.SectorDevice.state c.relocate_file_block.new.device)
     c.args.memory.now c.relocate_file_block.new.memory x c.args.address) c.key_of.ensures)
     c.relocate_file_block.ensures.left

@@ -1,7 +1,5 @@
-use Rattle.std.proofs.Common.{◌≡◌, ◌+◌, length, subst, arith}
-use Rattle.lfs_model.specs.Entry.{entry_of}
-use Rattle.lfs_model.specs.Summary.{BlockNameValue}
-use Rattle.lfs_log.specs.Relocating.{HasLeft, IsBetween, LeavesNames}
+use Rattle.std.proofs.Common.{◌≡◌, ◌+◌, length, arith}
+use Rattle.lfs_log.specs.Relocating.{IsBetween}
 use Rattle.lfs_log.proofs.Relocations.{relocated_none, relocated_in, relocating_done, relocating_stops}
 use Rattle.lfs_log.proofs.Vacated.{leaves_more, leaves_none}
 use Rattle.lfs_log.proofs.relocating.relocate_chunk.Goals as goal
@@ -33,10 +31,8 @@ loop-place-preserved g c =
           let low = between.0 in let high = between.1 in (omega (arith, low), omega (arith, high, lt, end)))
           c.in_ok-relocate_block.ensures.relocates;
       left = leaves_more old c.args.memory.now c.args.names.now c.args.first
-          c.loop-place.place c.requires.above c.in_ok-relocate_block.ensures.relocates.relocates
-          (subst (λ (n : BlockNameValue). HasLeft now next c.loop-place.memory c.relocate_block.new.memory (entry_of n)
-          (c.args.first + c.loop-place.place)) c.get.ensures c.in_ok-relocate_block.ensures.left)
-          c.loop-place.invariant.left;
+          c.loop-place.place c.requires.above c.in_ok-relocate_block.ensures.relocates.relocates (rw (← c.get.ensures)
+          c.in_ok-relocate_block.ensures.left) c.loop-place.invariant.left;
       end = c.loop-place.invariant.end;
     }
 
@@ -49,5 +45,4 @@ returns-clause-left g c =
     let low = c.loop-place.auto.place-end in
     let high = c.loop-place-test.false in
     let all : c.loop-place.place ≡ length c.args.names.now = omega (arith, end, low, high) in
-    subst (LeavesNames (g.D.SectorDevice.state c.args.device.now) (g.D.SectorDevice.state c.loop-place.device) c.args.memory.now
-    c.loop-place.memory c.args.names.now c.args.first) all c.loop-place.invariant.left
+    rw (← all) c.loop-place.invariant.left

@@ -21,8 +21,7 @@ returns-then-there-address-clause-relocates g c =
 
 pub returns-then-there-address-clause-left : goal.returns-then-there-address-clause-left
 returns-then-there-address-clause-left g c =
-    elsewhere (g.D.SectorDevice.state c.args.device.now) (g.D.SectorDevice.state c.locate.new.device) c.args.memory.now c.args.memory.now
-    (entry_of c.args.key) c.in-Ok.ensures.answer c.if-there-address.true c.requires.above
+    elsewhere _ _ _ _ _ c.in-Ok.ensures.answer c.if-there-address.true c.requires.above
 
 pub returns-in-Ok-true-clause-relocates : goal.returns-in-Ok-true-clause-relocates
 returns-in-Ok-true-clause-relocates g c =
@@ -47,12 +46,8 @@ returns-in-Err-bring_block-clause-relocates g c =
 
 pub returns-in-Ok-true-clause-left : goal.returns-in-Ok-true-clause-left
 returns-in-Ok-true-clause-left g c =
-    left_inside (g.D.SectorDevice.state c.args.device.now) (g.D.SectorDevice.state c.bring_block.new.device) c.args.memory.now
-    c.bring_block.new.memory (entry_of c.args.key) c.args.address
-    (c.in-Ok-true.ensures.brings.inside (search rules)) c.requires.above
+    left_inside _ _ _ _ _ _ (c.in-Ok-true.ensures.brings.inside (search rules)) c.requires.above
 
 pub returns-in-Ok-false-clause-left : goal.returns-in-Ok-false-clause-left
 returns-in-Ok-false-clause-left g c =
-    left_nowhere (g.D.SectorDevice.state c.args.device.now) (g.D.SectorDevice.state c.bring_block.new.device) c.args.memory.now
-    c.bring_block.new.memory (entry_of c.args.key) c.args.address
-    (c.in-Ok-false.ensures.brings.none (search rules)) c.requires.above
+    left_nowhere _ _ _ _ _ _ (c.in-Ok-false.ensures.brings.none (search rules)) c.requires.above

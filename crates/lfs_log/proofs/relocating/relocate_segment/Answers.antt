@@ -1,9 +1,9 @@
-use Rattle.std.proofs.Common.{rules, ◌≡◌, ◌≤◌, ◌+◌, ◌*◌, refl, sym, ap, subst, arith}
+use Rattle.std.proofs.Common.{rules, ◌≡◌, ◌≤◌, ◌+◌, ◌*◌, refl, ap, subst, arith}
 use Rattle.lfs_memory.specs.segments.Table.{used_of}
 use Rattle.lfs_log.specs.Relocating.{IsInSegment}
-use Rattle.lfs_log.proofs.Relocations.{relocated_looked, relocated_none, relocated_in, relocating_done, relocating_missed}
+use Rattle.lfs_log.proofs.Relocations.{relocated_looked, relocated_none, relocated_in, relocating_done}
 use Rattle.lfs_log.proofs.Relocations.{relocating_stops}
-use Rattle.lfs_log.proofs.Vacated.{ClearsTo, all_cleared, clears_more, clears_start, long_there, no_summary, summary_missing, too_long}
+use Rattle.lfs_log.proofs.Vacated.{ClearsTo, all_cleared, clears_more, clears_start, no_summary, summary_missing, too_long}
 use Rattle.lfs_log.proofs.relocating.relocate_segment.Goals as goal
 
 pub loop-at-init : goal.loop-at-init
@@ -14,8 +14,7 @@ loop-at-init g c =
     omega (arith, f, v, used_is) in
     record {
       so_far = relocated_none old (IsInSegment c.args.segment) c.requires.memory;
-      clears = subst (λ u. ClearsTo old old c.args.memory.now c.args.memory.now c.args.segment u 0) (sym used_is)
-          (clears_start old c.args.memory.now c.args.segment c.requires.closed c.requires.inside);
+      clears = rw used_is (clears_start old c.args.memory.now c.args.segment c.requires.closed c.requires.inside);
       within = omega arith;
       used_is = used_is;
       few = few;
@@ -24,30 +23,22 @@ loop-at-init g c =
 pub returns-in-Err-clause-relocates : goal.returns-in-Err-clause-relocates
 returns-in-Err-clause-relocates g c =
     let so_far = c.loop-at.invariant in
-    relocating_missed (g.met.D.SectorDevice.lawful c.args.device.now) so_far.so_far c.read_sector.ensures.looks (summary_missing
-     c.args.segment c.from-used.result c.loop-at.at so_far.clears so_far.so_far.relocates
-    c.read_sector.ensures.looks (long_there c.args.memory.now c.args.segment c.from-used.result
-    (g.met.D.SectorDevice.lawful c.args.device.now) c.requires.size c.requires.inside so_far.few)
-    c.loop-at-test.true c.in-Err.ensures.unread)
+    summary_missing c.args.segment c.from-used.result c.loop-at.at (g.met.D.SectorDevice.lawful c.args.device.now) so_far.so_far
+    so_far.clears c.read_sector.ensures.looks c.requires.size c.requires.inside so_far.few c.loop-at-test.true c.in-Err.ensures.unread
 
 pub returns-in_default-clause-relocates : goal.returns-in_default-clause-relocates
 returns-in_default-clause-relocates g c =
     let so_far = c.loop-at.invariant in
-    relocating_missed (g.met.D.SectorDevice.lawful c.args.device.now) so_far.so_far c.read_sector.ensures.looks (no_summary
-     c.args.segment c.from-used.result c.loop-at.at so_far.clears so_far.so_far.relocates
-    c.read_sector.ensures.looks (long_there c.args.memory.now c.args.segment c.from-used.result
-    (g.met.D.SectorDevice.lawful c.args.device.now) c.requires.size c.requires.inside so_far.few)
-    c.loop-at-test.true c.in-Ok.ensures.read c.in_default.ensures.exact)
+    no_summary c.args.segment c.from-used.result c.loop-at.at (g.met.D.SectorDevice.lawful c.args.device.now) so_far.so_far
+    so_far.clears c.read_sector.ensures.looks c.requires.size c.requires.inside so_far.few c.loop-at-test.true c.in-Ok.ensures.read
+    c.in_default.ensures.exact
 
 pub returns-then-count-used-clause-relocates : goal.returns-then-count-used-clause-relocates
 returns-then-count-used-clause-relocates g c =
     let so_far = c.loop-at.invariant in
-    relocating_missed (g.met.D.SectorDevice.lawful c.args.device.now) so_far.so_far c.read_sector.ensures.looks (too_long
-     c.args.segment c.from-used.result c.loop-at.at so_far.clears so_far.so_far.relocates
-    c.read_sector.ensures.looks (long_there c.args.memory.now c.args.segment c.from-used.result
-    (g.met.D.SectorDevice.lawful c.args.device.now) c.requires.size c.requires.inside so_far.few)
-    c.loop-at-test.true c.in-Ok.ensures.read c.in-Some.ensures.exact c.len-count.ensures
-    (let big = c.if-count-used.true in let lt = c.loop-at-test.true in omega (arith, big, lt)))
+    too_long c.args.segment c.from-used.result c.loop-at.at (g.met.D.SectorDevice.lawful c.args.device.now) so_far.so_far
+    so_far.clears c.read_sector.ensures.looks c.requires.size c.requires.inside so_far.few c.loop-at-test.true c.in-Ok.ensures.read
+    c.in-Some.ensures.exact c.len-count.ensures (let big = c.if-count-used.true in let lt = c.loop-at-test.true in omega (arith, big, lt))
 
 pub returns-in_err-relocate_chunk-clause-relocates : goal.returns-in_err-relocate_chunk-clause-relocates
 returns-in_err-relocate_chunk-clause-relocates g c =
@@ -64,10 +55,6 @@ returns-in_err-relocate_chunk-clause-relocates g c =
 
 pub loop-at-preserved : goal.loop-at-preserved
 loop-at-preserved g c =
-    let old = g.D.SectorDevice.state c.args.device.now in
-    let now = g.D.SectorDevice.state c.loop-at.device in
-    let mid = g.D.SectorDevice.state c.read_sector.new.device in
-    let next = g.D.SectorDevice.state c.relocate_chunk.new.device in
     let so_far = c.loop-at.invariant in
     let lawful = g.met.D.SectorDevice.lawful c.args.device.now in
     let small = c.if-count-used.false in
@@ -79,9 +66,8 @@ loop-at-preserved g c =
           _
           (λ at between. let low = between.0 in let high = between.1 in (omega (arith, low), omega (arith, high, small, lt, count, few)))
           c.in_ok-relocate_chunk.ensures.relocates;
-      clears = clears_more c.args.segment c.from-used.result c.loop-at.at so_far.clears so_far.so_far.relocates c.read_sector.ensures.looks
-          (long_there c.args.memory.now c.args.segment c.from-used.result lawful c.requires.size c.requires.inside so_far.few)
-          c.loop-at-test.true c.in-Ok.ensures.read c.in-Some.ensures.exact c.requires.closed c.requires.inside so_far.used_is so_far.few
+      clears = clears_more c.args.segment c.from-used.result c.loop-at.at lawful so_far.so_far so_far.clears c.read_sector.ensures.looks
+          c.requires.size c.requires.inside few lt c.in-Ok.ensures.read c.in-Some.ensures.exact c.requires.closed so_far.used_is
           (omega (arith, small, lt, count)) c.in_ok-relocate_chunk.ensures.relocates.relocates
           (2 + 64 * c.args.segment + c.loop-at.at + 1) (c.loop-at.at + (1 + c.len-count.result)) refl
           (omega (arith, count)) c.in_ok-relocate_chunk.ensures.left;
@@ -101,8 +87,6 @@ returns-clause-vacates g c =
     let high = c.loop-at-test.false in
     let end : c.loop-at.at ≡ c.from-used.result = omega (arith, within, high) in
     all_cleared old (g.D.SectorDevice.state c.loop-at.device) c.args.memory.now c.loop-at.memory c.args.segment
-    c.requires.closed c.requires.inside so_far.used_is
-    (long_there c.args.memory.now c.args.segment c.from-used.result (g.met.D.SectorDevice.lawful c.args.device.now) c.requires.size
-    c.requires.inside so_far.few)
+    c.requires.closed c.requires.inside so_far.used_is (g.met.D.SectorDevice.lawful c.args.device.now) c.requires.size so_far.few
     (subst (ClearsTo old (g.D.SectorDevice.state c.loop-at.device) c.args.memory.now c.loop-at.memory c.args.segment c.from-used.result) end
     so_far.clears)

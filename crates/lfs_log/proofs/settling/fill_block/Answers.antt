@@ -6,7 +6,7 @@ use Rattle.lfs_log.proofs.settling.fill_block.Goals as goal
 
 pub returns-then-not-place-clause-done : goal.returns-then-not-place-clause-done
 returns-then-not-place-clause-done g c =
-    goes_none c.args.memory.now (g.met.D.SectorDevice.lawful c.args.device.now) c.requires.memory
+    goes_none _ (g.met.D.SectorDevice.lawful c.args.device.now) c.requires.memory
 
 pub returns-clause-done : goal.returns-clause-done
 returns-clause-done g c =

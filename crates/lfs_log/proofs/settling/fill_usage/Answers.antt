@@ -6,7 +6,7 @@ use Rattle.lfs_log.proofs.settling.fill_usage.Goals as goal
 pub loop-index-init : goal.loop-index-init
 loop-index-init g c =
     record {
-      goes = goes_none c.args.memory.now (g.met.D.SectorDevice.lawful c.args.device.now) c.requires.memory;
+      goes = goes_none _ (g.met.D.SectorDevice.lawful c.args.device.now) c.requires.memory;
       end = c.block_count-index-end.ensures.count;
       anew = c.requires.anew;
       fresh = λ j lt. absurd (omega arith);

@@ -6,4 +6,4 @@ pub next_place-place-requires-clause-placed : goal.next_place-place-requires-cla
 next_place-place-requires-clause-placed c =
     let few = c.requires.memory.count.most in
     let low = c.requires.index in
-    usage_placed c.args.index (omega arith)
+    usage_placed _ (omega arith)
