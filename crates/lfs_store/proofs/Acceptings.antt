@@ -23,11 +23,11 @@ use Rattle.lfs_store.specs.Accepting.{HasClean, HoldsNext, Commits, Readies, Sav
 
 -- a commit is due where anything isn't saved
 pub due_as : {D E : Type 0} (h : LogState D) (h' : LogState E) → h'.saved ≡ h.saved → commits_due h' ≡ commits_due h
-due_as h h' same = ap (λ (all : Bool). cond {A = ℕ} all 0 1) same
+due_as h h' same = cc
 
 -- at most one is, and one checkpoint comes with each pass
 pub written_most : {D : Type 0} (h : LogState D) → most_checkpoints h ≤ h.segments / 8 + 1
-written_most h = let due = due_most h.saved in omega (arith, due)
+written_most h = omega (arith, due_most h.saved)
   where
     due_most : (all : Bool) → cond {A = ℕ} all 0 1 ≤ 1
     due_most true = omega arith
@@ -36,30 +36,43 @@ written_most h = let due = due_most h.saved in omega (arith, due)
 -- what isn't saved stays so
 stays_then : (D : Type 0) (a b c : LogState D) → StaysUnsaved a b → StaysUnsaved b c → StaysUnsaved a c
 stays_then D a b c one two =
-    let first = one.fewer in
-    let second = two.fewer in
     record {
-      number = two.number ∙ one.number;
-      fewer = omega (arith, first, second);
+      number = cc;
+      fewer = omega arith;
       clean = λ enough. two.clean (one.clean enough);
     }
 
-module _ {D : Type 0} (state : D → DeviceState) where
+-- what room is to the log map
+module _ {D : Type 0} (state : D → DeviceState) {h h' : LogState D} (room : MakesRoom state h h') where
+  pub room_holds : (k : CheckpointValue) {m0 : LogMap} (m : LogMap) → (state h'.device).keeps_model → Holds state h k m0 m
+      → IsLogMap (dropped m)
+      → HoldsNext state k.segments m0 m h' m
+  room_holds k {m0} m keeps is map =
+      let over = room.keeps.holds k m0 m keeps is map in
+      record {
+        checkpoint = over.checkpoint;
+        acknowledged = over.acknowledged;
+        either = over.either;
+        same = over.same;
+        holds = over.holds;
+      }
+
+module _ {D : Type 0} {state : D → DeviceState} where
   -- ---- a commit
   pub commits_none : (h : LogState D) → IsLawful (state h.device) → h.halted ≡ false → h.saved ≡ true → Commits state h h
   commits_none h lawful running all = record {
     carries = carries_none;
     was_running = running;
     running = running;
-    number = subst (λ (saved : Bool). h.number ≡ cond saved h.number (h.number + 1)) (sym all) refl;
+    number = rw all refl;
     segments = refl;
     clean = omega arith;
     saved = all;
     no_failure = refl;
-    holds = λ k m0 m keeps is map. (k, subst (λ (x : LogMap). Holds state h k x m) (is.nothing_new all) is);
+    holds = λ k m0 m keeps is map. (k, rw (← (is.nothing_new all)) is);
     left = λ k m0 m keeps is map.
-        subst (λ (x : LogMap). AllLeft (state h.device) (λ c. StandsOn k.segments c x)) (is.nothing_new all) (acknowledged state is);
-    moment = (keeps_none state h lawful running).moment;
+        rw (← (is.nothing_new all)) (acknowledged _ is);
+    moment = (keeps_none _ h lawful running).moment;
   }
 
   pub commits_log : {h h' : LogState D} → h.halted ≡ false → h.saved ≡ false → Saves state h h' → Commits state h h'
@@ -67,7 +80,7 @@ module _ {D : Type 0} (state : D → DeviceState) where
     carries = s.carries;
     was_running = was;
     running = s.running;
-    number = subst (λ (saved : Bool). h'.number ≡ cond saved h.number (h.number + 1)) (sym off) s.number;
+    number = rw off s.number;
     segments = s.segments;
     clean = s.clean;
     saved = s.saved;
@@ -80,26 +93,24 @@ module _ {D : Type 0} (state : D → DeviceState) where
   -- ---- room
   pub readies_none : {h : LogState D} → IsLawful (state h.device) → h.halted ≡ false → Readies state h h
   readies_none {h} lawful running = record {
-    room = makes_none state lawful running;
+    room = makes_none _ lawful running;
     spent = omega arith;
     able = λ k m0 m keeps may. (k, m0, may);
   }
 
   pub readies_saves : {h h' : LogState D} → h.saved ≡ false → Saves state h h' → h'.totals ≡ h.totals → Readies state h h'
   readies_saves {h} {h'} off s totals =
-      let ready = readied_saves state off s totals in
-      let size = s.segments in
-      let rose = s.number in
-      let due : commits_due h ≡ 1 = ap (λ (all : Bool). cond {A = ℕ} all 0 1) off in
-      let none : commits_due h' ≡ 0 = ap (λ (all : Bool). cond {A = ℕ} all 0 1) s.saved in
+      let ready = readied_saves _ off s totals in
+      let due : commits_due h ≡ 1 = cc in
+      let none : commits_due h' ≡ 0 = cc in
       record {
         room = record {
-          keeps = keeps_weaker state ready.keeps (omega arith);
+          keeps = keeps_weaker _ ready.keeps (omega arith);
           unsaved = λ never. absurd (let all = s.saved in cc);
           all = λ e. inr s.holds;
-          rest = λ e rest. rest_saves state s;
+          rest = λ e rest. rest_saves _ s;
         };
-        spent = omega (arith, size, rose, due, none);
+        spent = omega arith;
         able = ready.room;
       }
 
@@ -139,25 +150,20 @@ module _ {D : Type 0} (state : D → DeviceState) where
   module _ {a b c : LogState D} (ready : Readies state a b) where
     pub room_then : MakesRoom state b c → MakesRoom state a c
     room_then two =
-        let number = two.keeps.number in
-        let spent = ready.spent in
         record {
-          keeps = keeps_numbered a c _ (keeps_then state c ready.room.keeps two.keeps) (omega (arith, number, spent));
+          keeps = keeps_numbered _ _ _ (keeps_then _ c ready.room.keeps two.keeps) (omega arith);
           unsaved = λ e.
-              (let second = two.unsaved e in let first = ready.room.unsaved second.0 in (first.0, stays_then D a b c first.1 second.1));
+              (let second = two.unsaved e in let first = ready.room.unsaved second.0 in (first.0, stays_then _ _ _ _ first.1 second.1));
           all = λ e. ⊎_elim
               (λ (was : b.saved ≡ true). ⊎_elim (λ (first : a.saved ≡ true). inl first)
-              (λ (all : Acknowledges state a b). inr (acknowledges_still state a c all two.keeps)) (ready.room.all was))
-              (λ (all : Acknowledges state b c). inr (acknowledges_before a b c _ ready.room.keeps two.keeps.carries all))
-              (two.all e);
+              (λ (all : Acknowledges state a b). inr (acknowledges_still _ a c all two.keeps)) (ready.room.all was))
+              (λ (all : Acknowledges state b c). inr (acknowledges_before _ _ _ _ ready.room.keeps two.keeps.carries all)) (two.all e);
           rest = λ e rest. two.rest e (λ was. ready.room.rest was rest);
         }
 
     pub halts_after : HaltsLater state b c (most_checkpoints b) → HaltsLater state a c (most_checkpoints a)
     halts_after halts =
-        let number = halts.number in
-        let spent = ready.spent in
-        halts_numbered a c _ (halts_then state c ready.room.keeps halts) (omega (arith, number, spent))
+        halts_numbered _ _ _ (halts_then _ c ready.room.keeps halts) (omega arith)
 
     pub lacks_after : LacksRoom state b c → LacksRoom state a c
     lacks_after lacks = record {
@@ -169,7 +175,7 @@ module _ {D : Type 0} (state : D → DeviceState) where
     pub fails_after : FailsRoom state b c → FailsRoom state a c
     fails_after fails = record {
       makes = room_then fails.makes;
-      fault = fault_then state c ready.room.keeps fails.makes.keeps.carries fails.fault;
+      fault = fault_then _ c ready.room.keeps fails.makes.keeps.carries fails.fault;
     }
 
   -- a quarter of the segments is enough for a commit
@@ -177,30 +183,16 @@ module _ {D : Type 0} (state : D → DeviceState) where
       → after.clean < after.segments / 8 + 8 → MayNotMakeRoom state h after
   cannot_lack {after} lawful room quarter few k m0 m keeps may =
       let over = room.keeps.holds k m0 m keeps may.holds may.shown in
-      let least = (segment_count state lawful over.holds).least in
-      omega (arith, quarter, few, least)
+      omega (arith, (segment_count _ lawful over.holds).least)
 
-  -- ---- what room is to the log map
+  -- ---- what room is to what is saved
   module _ {h h' : LogState D} (room : MakesRoom state h h') where
     pub saves_few : SavesFew h h'
     saves_few = record {
       number = room.keeps.later;
-      few = (let number = room.keeps.number in let most = written_most h in omega (arith, number, most));
+      few = omega (arith, written_most h);
       ready = λ ready e. (let none = room.unsaved e in none.1.clean (ready none.0));
     }
-
-    pub room_holds : (k : CheckpointValue) {m0 : LogMap} (m : LogMap) → (state h'.device).keeps_model → Holds state h k m0 m
-        → IsLogMap (dropped m)
-        → HoldsNext state k.segments m0 m h' m
-    room_holds k {m0} m keeps is map =
-        let over = room.keeps.holds k m0 m keeps is map in
-        record {
-          checkpoint = over.checkpoint;
-          acknowledged = over.acknowledged;
-          either = over.either;
-          same = over.same;
-          holds = over.holds;
-        }
 
   -- ---- the draft is staged, or refused
   module _ (h mid h' : LogState D) (d : Draft) (lawful : IsLawful (state mid.device)) (running : h.halted ≡ false)
@@ -212,44 +204,38 @@ module _ {D : Type 0} (state : D → DeviceState) where
     still_either : {segments : ℕ} (m0 m : LogMap) → HoldsNext state segments m0 m mid m
         → LeavesOnly (state mid.device) (state h'.device) (IsSaved state segments m0 m)
     still_either {segments} m0 m over =
-        weaker (λ x. StandsOn over.checkpoint.segments x over.acknowledged) (IsSaved state segments m0 m)
+        weaker (λ x. StandsOn over.checkpoint.segments x over.acknowledged) _
         (λ x there.
-        let stands : StandsOn segments x over.acknowledged = subst (λ (l : ℕ). StandsOn l x over.acknowledged) over.same there in ⊎_elim
-        (λ (old : over.acknowledged ≡ m0). inl (subst (λ (l : LogMap). StandsOn segments x l) old stands))
-        (λ (new : over.acknowledged ≡ dropped m). inr (subst (λ (l : LogMap). StandsOn segments x l) new stands))
-        over.either) (looks_leave state m lawful alters.looks over.holds)
+        let stands : StandsOn segments x over.acknowledged = rw (← over.same) there in ⊎_elim
+        (λ (old : over.acknowledged ≡ m0). inl (rw (← old) stands))
+        (λ (new : over.acknowledged ≡ dropped m). inr (rw (← new) stands)) over.either) (looks_leave _ m lawful alters.looks over.holds)
 
     moments : LeavesSaved state h h'
     moments k m0 m keeps is map =
-        joined (IsSaved state k.segments m0 m) (IsSaved state k.segments m0 m) (IsSaved state k.segments m0 m)
-        (room.keeps.moment k m0 m (before keeps) is map)
-        (still_either m0 m (room_holds room k m (before keeps) is map)) (λ x p. p) (λ x p. p)
+        joined _ _ _ (room.keeps.moment k m0 m (before keeps) is map)
+        (still_either _ _ (room_holds _ room _ _ (before keeps) is map)) (λ x p. p) (λ x p. p)
 
     carried : Carries (state h.device) (state h'.device)
     carried = carries_then room.keeps.carries alters.looks.carries
 
     enough_after : HasClean mid → HasClean h'
     enough_after enough =
-        let same = alters.clean in
-        subst (λ (n : ℕ). n / 8 + 8 ≤ h'.clean) (sym alters.segments) (omega (arith, enough, same))
+        rw alters.segments (omega arith)
 
     saved_after : HasClean mid → SavesFew h h'
     saved_after enough =
-        let same = alters.number in
         let few = saves_few room in
-        let later = few.number in
-        let most = few.few in
         record {
-          number = omega (arith, later, same);
-          few = omega (arith, most, same);
+          number = omega arith;
+          few = omega arith;
           ready = λ r e. enough_after enough;
         }
 
     pub accepts : HasClean mid → IsStaged state mid h' d.changes → Accepts state h h' d
     accepts enough s = record {
       carries = carried;
-      halted = alters.halted ∙ room.keeps.running ∙ sym running;
-      segments = alters.segments ∙ room.keeps.segments;
+      halted = cc;
+      segments = cc;
       enough = enough_after enough;
       unsaved = s.unsaved;
       saves = saved_after enough;
@@ -268,8 +254,8 @@ module _ {D : Type 0} (state : D → DeviceState) where
     pub declines : HasClean mid → IsRefused state mid h' d.changes → Declines state h h' d
     declines enough s = record {
       carries = carried;
-      halted = alters.halted ∙ room.keeps.running ∙ sym running;
-      segments = alters.segments ∙ room.keeps.segments;
+      halted = cc;
+      segments = cc;
       saves = saved_after enough;
       holds = λ k m0 m keeps is fits map. (
           let over = room.keeps.holds k m0 m (before keeps) is map in
@@ -286,18 +272,16 @@ module _ {D : Type 0} (state : D → DeviceState) where
     pub accept_fault : IsStageFault state mid h' d.changes → IsAcceptFault state h h' d
     accept_fault failed k m0 m keeps is fits map =
         let over = room.keeps.holds k m0 m (before keeps) is map in
-        let more = failed over.checkpoint over.acknowledged m keeps over.holds fits in
-        let before = room.keeps.carries.failures in
-        omega (arith, more, before)
+        omega (arith, failed over.checkpoint over.acknowledged m keeps over.holds fits)
 
   -- no room is made
-  pub declines_room : {h h' : LogState D} (d : Draft) → h.halted ≡ false → MakesRoom state h h' → Declines state h h' d
-  declines_room {h} {h'} d running room = record {
+  pub declines_room : {h h' : LogState D} {d : Draft} → h.halted ≡ false → MakesRoom state h h' → Declines state h h' d
+  declines_room {h} {h'} running room = record {
     carries = room.keeps.carries;
-    halted = room.keeps.running ∙ sym running;
+    halted = cc;
     segments = room.keeps.segments;
     saves = saves_few room;
-    holds = λ k m0 m keeps is fits map. room_holds room k m keeps is map;
+    holds = λ k m0 m keeps is fits map. room_holds _ room _ _ keeps is map;
     moment = room.keeps.moment;
   }
 
@@ -310,8 +294,8 @@ module _ {D : Type 0} (state : D → DeviceState) where
   asks_much {h'} d makes rest room much = by_flag h'.saved refl
     where
       by_flag : (flag : Bool) → h'.saved ≡ flag → MOST_UNSAVED < asked_by d
-      by_flag true e = let none = (makes.rest e rest).nothing.blocks in omega (arith, none, much)
-      by_flag false e = let le = room e in absurd (omega (arith, le, much))
+      by_flag true e = omega (arith, (makes.rest e rest).nothing.blocks)
+      by_flag false e = absurd (omega (arith, room e))
 
 -- what holds of any error holds of this one
 pub where_err : {T E : Type 0} (r : Result T E) (P : Type 0) {e : E} → r ≡ Err e → OnErr r P → P

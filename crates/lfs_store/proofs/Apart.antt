@@ -30,27 +30,26 @@ above_by P n inode leaf i = cond_both (nat_lt i 112) (Inode n) (Leaf n ((i - 112
 pub blocks_apart : (x : Cut) (n : ℕ) → n ≢ x.number → IsApart (Blocks x) n
 blocks_apart x n ne = record {
   inode = refl;
-  above = above_by (λ (y : Entry). is_lost (Blocks x) y ≡ false) n refl
+  above = above_by (λ (y : Entry). is_lost (Blocks x) y ≡ false) _ refl
       (λ q. and_left (n == x.number) (nat_le x.first (112 + 128 * q)) (ne_eqb n x.number ne));
 }
 
 pub file_apart : (x : Removal) (n : ℕ) → n ≢ x.number → IsApart (File x) n
 file_apart x n ne = record {
   inode = ne_eqb n x.number ne;
-  above = above_by (λ (y : Entry). is_lost (File x) y ≡ false) n (ne_eqb n x.number ne) (λ q. ne_eqb n x.number ne);
+  above = above_by (λ (y : Entry). is_lost (File x) y ≡ false) _ (ne_eqb n x.number ne) (λ q. ne_eqb n x.number ne);
 }
 
 -- ---- drafts without a header or a block
 
-pub edits_are : {x y : Loss} {hs : List HeaderEdit} (hs' : List HeaderEdit) {bs bs' : List BlockEdit} (m : LogMap) → x ≡ y → hs ≡ hs'
+pub edits_are : {x y : Loss} {hs : List HeaderEdit} {hs' : List HeaderEdit} {bs bs' : List BlockEdit} (m : LogMap) → x ≡ y → hs ≡ hs'
     → bs ≡ bs'
     → after_edits x hs bs m ≡ after_edits y hs' bs' m
-edits_are {y} {hs} hs' {bs} m loss headers blocks =
-    ap (λ (l : Loss). after_edits l hs bs m) loss ∙ ap (λ (es : List HeaderEdit). after_edits y es bs m) headers
-    ∙ ap (λ (es : List BlockEdit). after_edits y hs' es m) blocks
+edits_are {y} {hs} {bs} m loss headers blocks =
+    cc
 
-pub no_change : (c : Changes) (m : LogMap) → IsNoChange c → staged c m ≡ m
-no_change c m none = edits_are [] m none.loss none.headers none.blocks
+pub no_change : {c : Changes} {m : LogMap} → IsNoChange c → staged c m ≡ m
+no_change none = edits_are _ none.loss none.headers none.blocks
 
 -- what is lost alone
 fits_loss : (x : Loss) (m : LogMap) → FitsLoss m x → FitEdits m x [] []
@@ -59,9 +58,7 @@ fits_loss x m fits = record { fits_loss = fits; headers_apart = tt; blocks_apart
 pub fits_lost : (c : Changes) {x : Loss} (m : LogMap) → c.loss ≡ x → c.headers.items ≡ [] → c.blocks.items ≡ [] → FitsLoss m x
     → FitsBatch m c
 fits_lost c {x} m loss headers blocks fits =
-    subst (λ (l : Loss). FitEdits m l c.headers.items c.blocks.items) (sym loss)
-    (subst (λ (hs : List HeaderEdit). FitEdits m x hs c.blocks.items) (sym headers)
-    (subst (λ (bs : List BlockEdit). FitEdits m x [] bs) (sym blocks) (fits_loss x m fits)))
+    rw (loss, headers, blocks) (fits_loss x m fits)
 
 pub draft_empty : (c : Changes) (m : LogMap) → IsNoChange c → (staged c m ≡ m) × FitsBatch m c
-draft_empty c m none = (no_change c m none, fits_lost c m none.loss none.headers none.blocks tt)
+draft_empty c m none = (no_change none, fits_lost c _ none.loss none.headers none.blocks tt)

@@ -29,7 +29,7 @@ removed_file m gone = record {
   map = gone.map;
   has = gone.has;
   only = record { headers = gone.file.headers; blocks = λ k i ne. gone.file.blocks k i ne; version = gone.file.version };
-  around = λ i lt out. ⊎_elim (λ (low : i < 0). absurd (omega (arith, low))) (λ (high : 16624 ≤ i). absurd (omega (arith, lt, high))) out;
+  around = λ i lt out. ⊎_elim (λ (low : i < 0). absurd (omega arith)) (λ (high : 16624 ≤ i). absurd (omega arith)) out;
 }
 
 pub written_file : {S D : Type 0} {s' : FilesState S D} (m : LogMap) {m' : LogMap} {n : ℕ} {h h' : Header} {at : ℕ} {w : List ℕ} {to : ℕ}
@@ -38,7 +38,7 @@ written_file m {at} end is = record {
   map = is.map;
   has = is.has;
   only = is.file.only;
-  around = λ i lt out. is.around i (subst (λ (e : ℕ). (i < at / 512) ⊎ (e ≤ i)) end out);
+  around = λ i lt out. is.around i (rw (← end) out);
 }
 
 pub sized_file : {S D : Type 0} {s' : FilesState S D} (m : LogMap) {m' : LogMap} {n : ℕ} {h h' : Header} {len : ℕ}
@@ -48,7 +48,7 @@ sized_file m {len} is = record {
   map = is.map;
   has = is.has;
   only = is.file.only;
-  around = λ i lt out. ⊎_elim (λ (low : i < len / 512). is.file.below i low) (λ (high : 16624 ≤ i). absurd (omega (arith, lt, high))) out;
+  around = λ i lt out. ⊎_elim (λ (low : i < len / 512). is.file.below i low) (λ (high : 16624 ≤ i). absurd (omega arith)) out;
 }
 
 module _ {D : Type 0} {state : D → DeviceState} {a b c d : Store D} (first : ReadsStore state a b) (last : OnlyCounts state c d) where
@@ -65,18 +65,18 @@ module _ {D : Type 0} {state : D → DeviceState} {a b c d : Store D} (first : R
   E = files_of state d
 
   before : files.Reads A B
-  before = seen_read state a b first
+  before = seen_read _ _ _ first
 
   -- all but what is counted
   after : files.Reads C (state_of state d.log d.draft c.drafted)
-  after = seen_read state c (record d { drafted = c.drafted }) record { log = last.reads; draft = last.draft; drafted = refl }
+  after = seen_read _ _ _ record { log = last.reads; draft = last.draft; drafted = refl }
 
   pub removes_between : {n : ℕ} → Removes B C n → Removes A E n
   removes_between is = record {
-    headers = after.headers ∙ is.headers;
-    blocks = after.blocks ∙ is.blocks;
+    headers = cc;
+    blocks = cc;
     apart = λ k ne. let apart = is.apart k ne in
-        record { inode = after.lost _ ∙ apart.inode; above = λ i. after.lost _ ∙ apart.above i };
+        record { inode = cc; above = λ i. after.lost _ ∙ apart.above i };
     fits = λ m. after.fits m (is.fits m);
     has = λ m m' has. let gone = is.has m m' (before.has m m' has) in
         record { map = gone.map; has = after.has m gone.map gone.has; file = gone.file; keeps = gone.keeps };
@@ -87,26 +87,23 @@ module _ {D : Type 0} {state : D → DeviceState} {a b c d : Store D} (first : R
       let is = writes_behind A B n before writes in
       record {
         lost = λ x. after.lost x ∙ is.lost x;
-        headers = let more = is.headers in let same = after.headers in omega (arith, more, same);
-        blocks = let more = is.blocks in let same = after.blocks in omega (arith, more, same);
+        headers = omega (arith, after.headers);
+        blocks = omega (arith, after.blocks);
         fits = λ m m' has fits takes. after.fits m (is.fits m m' has fits takes);
         file = λ m m' keeps has. let now = is.file m m' (after.looks.carries.kept_before keeps) has in
             record { map = now.map; has = after.has m now.map now.has; file = now.file; around = now.around };
       }
 
-  pub asked_between : {w : List ℕ} (most : ℕ) → (IsLoneWrite B w → C.asked ≤ most) → IsLoneWrite A w → E.asked ≤ most
-  asked_between most asked lone =
-      let headers = lone.headers in
-      let same = before.headers in
-      subst (λ (k : ℕ). k ≤ most) (sym after.asked)
-      (asked record { headers = omega (arith, headers, same); blocks = before.blocks ∙ lone.blocks; few = lone.few })
+  pub asked_between : {w : List ℕ} {most : ℕ} → (IsLoneWrite B w → C.asked ≤ most) → IsLoneWrite A w → E.asked ≤ most
+  asked_between asked lone =
+      rw after.asked (asked record { headers = omega (arith, before.headers); blocks = cc; few = lone.few })
 
   pub sets_between : {n : ℕ} {head : Header} {len : ℕ} → SetsLen B C n head len → SetsLen A E n head len
   sets_between is = record {
     cut = λ less x. after.lost x ∙ is.cut less x;
     kept = λ more x. after.lost x ∙ is.kept more x;
-    headers = let few = is.headers in let same = after.headers in omega (arith, few, same);
-    blocks = let few = is.blocks in let same = after.blocks in omega (arith, few, same);
+    headers = omega (arith, after.headers);
+    blocks = omega (arith, after.blocks);
     fits = λ m m' has there fits. after.fits m (is.fits m m' (before.has m m' has) there fits);
     file = λ m m' keeps has. let now = is.file m m' (after.looks.carries.kept_before keeps) (before.has m m' has) in
         record { map = now.map; has = after.has m now.map now.has; file = now.file };
@@ -115,8 +112,8 @@ module _ {D : Type 0} {state : D → DeviceState} {a b c d : Store D} (first : R
   pub shrinks_between : {n : ℕ} {head : Header} {len : ℕ} → Shrinks B C n head len → Shrinks A E n head len
   shrinks_between {n} is = record {
     lost = λ x. after.lost x ∙ is.lost x ∙ before.lost x;
-    headers = let more = is.headers in let was = before.headers in let same = after.headers in omega (arith, more, was, same);
-    blocks = let more = is.blocks in let was = before.blocks in let same = after.blocks in omega (arith, more, was, same);
+    headers = omega (arith, before.headers, after.headers);
+    blocks = omega (arith, before.blocks, after.blocks);
     fits = λ m m' has fits takes. after.fits m (is.fits m m' (before.has m m' has) (before.fits m fits) record {
       there = takes.there;
       apart = still_apart before takes.apart;
@@ -137,14 +134,10 @@ module _ {D : Type 0} {state : D → DeviceState} {a b c d : Store D} (first : R
       let keeps_b = next.reads.looks.carries.kept_before keeps_c in
       let change = changes m x keeps_c (before.has m x has) in
       let now = change.has in
-      let same : change.map ≡ y = (after.has m change.map now).draft ∙ sym has'.draft in
+      let same : change.map ≡ y = cc in
       let kept : IsLogMap change.map = subst IsLogMap (sym same) whole' in
-      let was : AreTotals x c.drafted = subst (λ (t : BlockTotals). AreTotals x t) (sym (next.drafted ∙ first.drafted)) are in
-      subst (λ (z : LogMap). AreTotals z d.drafted) same (recounted x n change.only some few order low
-      (λ i out. ⊎_elim (λ (lt : i < 16624). change.around i lt out) (λ (high : 16624 ≤ i). same_high x n i whole kept high)
-      (cases_lt i 16624))
-      (subst (λ (z : LogMap). HasMeasure z n from to found.data_blocks found.meta_blocks) (sym has.draft)
-      (measured has.checkpoint has.acknowledged m keeps_b has.holds (subst IsLogMap has.draft whole)))
-      (subst (λ (z : LogMap). HasMeasure z n from to again.after.data_blocks again.after.meta_blocks) (sym now.draft)
-      (again.measures now.checkpoint now.acknowledged m keeps now.holds (subst IsLogMap now.draft kept)))
-      again.recounts was)
+      let was : AreTotals x c.drafted = subst (λ (t : BlockTotals). AreTotals x t) (cc) are in
+      rw (← same) (recounted _ _ change.only some few order low
+      (λ i out. ⊎_elim (λ (lt : i < 16624). change.around i lt out) (λ (high : 16624 ≤ i). same_high whole kept high) (cases_lt i 16624))
+      (rw has.draft (measured has.checkpoint has.acknowledged m keeps_b has.holds (rw (← has.draft) whole)))
+      (rw now.draft (again.measures now.checkpoint now.acknowledged m keeps now.holds (rw (← now.draft) kept))) again.recounts was)

@@ -18,12 +18,12 @@ use Rattle.lfs_store.specs.Drafting.{IsBlock, NoBlock, LastBlock, DraftsBlock, L
 abbrev under : LogMap → (ℕ → ℕ → List ℕ) → LogMap
 under m f = record { header = m.header; block = f; version = m.version }
 
-same_blocks : (m : LogMap) (f g : ℕ → ℕ → List ℕ) → ((k l : ℕ) → f k l ≡ g k l) → under m f ≡ under m g
-same_blocks m f g same = ap (under m) (fun_ext (λ k. fun_ext (same k)))
+same_blocks : (m : LogMap) {f g : ℕ → ℕ → List ℕ} → ((k l : ℕ) → f k l ≡ g k l) → under m f ≡ under m g
+same_blocks m same = rw (fun_ext (λ k. fun_ext (same k)))
 
 -- the second bytes are those that stay
 block_over : (m : LogMap) (n i : ℕ) (x y : List ℕ) → with_block (with_block m n i x) n i y ≡ with_block m n i y
-block_over m n i x y = same_blocks m _ _ (λ k l. over ((k == n) && (l == i)) (m.block k l))
+block_over m n i x y = same_blocks m (λ k l. over ((k == n) && (l == i)) (m.block k l))
   where
     over : (b : Bool) (z : List ℕ) → cond b y (cond b x z) ≡ cond b y z
     over true z = refl
@@ -32,12 +32,12 @@ block_over m n i x y = same_blocks m _ _ (λ k l. over ((k == n) && (l == i)) (m
 -- two blocks
 blocks_apart : (m : LogMap) (n i n' i' : ℕ) (x y : List ℕ) → (n' ≡ n → i' ≡ i → ⊥)
     → with_block (with_block m n i x) n' i' y ≡ with_block (with_block m n' i' y) n i x
-blocks_apart m n i n' i' x y ne = same_blocks m _ _ (λ k l. apart ((k == n) && (l == i)) ((k == n') && (l == i')) (m.block k l) (both k l))
+blocks_apart m n i n' i' x y ne = same_blocks m (λ k l. apart ((k == n) && (l == i)) ((k == n') && (l == i')) (m.block k l) (both k l))
   where
     both : (k l : ℕ) → ((k == n) && (l == i)) ≡ true → ((k == n') && (l == i')) ≡ true → ⊥
     both k l a b =
-        let p = both_yes (k == n) (l == i) a in
-        let q = both_yes (k == n') (l == i') b in
+        let p = both_yes _ _ a in
+        let q = both_yes _ _ b in
         ne (sym (equal_is k n' q.0) ∙ equal_is k n p.0) (sym (equal_is l i' q.1) ∙ equal_is l i p.1)
 
     apart : (b b' : Bool) (z : List ℕ) → (b ≡ true → b' ≡ true → ⊥) → cond b' y (cond b x z) ≡ cond b x (cond b' y z)
@@ -65,7 +65,7 @@ block_through (e ∷ es) m n i x none =
 block_stays : (es : List BlockEdit) (m : LogMap) (n i : ℕ) → NoBlock n i es → (after_blocks es m).block n i ≡ m.block n i
 block_stays [] m n i none = refl
 block_stays (e ∷ es) m n i none = block_stays es (after_block e m) n i none.1
-    ∙ other_block m e.number e.index n i (stored e.bytes) (λ a b. none.0 (a, b))
+    ∙ other_block m _ _ _ _ _ (λ a b. none.0 (a, b))
 
 -- ---- headers leave blocks
 block_kept : (hs : List HeaderEdit) (m : LogMap) (n i : ℕ) → (after_headers hs m).block n i ≡ m.block n i
@@ -81,7 +81,7 @@ module _ (es : List BlockEdit) (n i p : ℕ) (is : LastBlock es n i p) where
   behind m = after_blocks (drop (p + 1) es) m
 
   split : es ≡ take p es ++ is.edit ∷ drop (p + 1) es
-  split = sym (take-append-drop p es) ∙ ap (λ (fs : List BlockEdit). take p es ++ fs) is.there
+  split = cc (take-append-drop p es, is.there)
 
   -- the list with this edit at its place
   with_edit : (e : BlockEdit) (m : LogMap) → IsBlock n i e
@@ -94,18 +94,18 @@ module _ (es : List BlockEdit) (n i p : ℕ) (is : LastBlock es n i p) where
   last_says : (m : LogMap) → (after_blocks es m).block n i ≡ stored is.edit.bytes
   last_says m =
       ap (λ (fs : List BlockEdit). (after_blocks fs m).block n i) split
-      ∙ ap (λ (w : LogMap). w.block n i) (with_edit is.edit m is.block)
-      ∙ (is_with_block (behind (before m)) n i (stored is.edit.bytes)).own
+      ∙ ap (λ (w : LogMap). w.block n i) (with_edit _ _ is.block)
+      ∙ (is_with_block (behind (before m)) n i _).own
 
   pub edit_replaced : (e : BlockEdit) (m : LogMap) → IsBlock n i e
       → after_blocks (set es p e) m ≡ with_block (after_blocks es m) n i (stored e.bytes)
   edit_replaced e m own =
       let next : suc p ≡ p + 1 = omega arith in
       ap (λ (fs : List BlockEdit). after_blocks fs m) (set_split es p e is.inside ∙ ap (λ (k : ℕ). take p es ++ e ∷ drop k es) next)
-      ∙ with_edit e m own
-      ∙ sym (block_over (behind (before m)) n i (stored is.edit.bytes) (stored e.bytes))
+      ∙ with_edit _ _ own
+      ∙ sym (block_over _ _ _ _ _)
       ∙ ap (λ (w : LogMap). with_block w n i (stored e.bytes))
-      (sym (with_edit is.edit m is.block) ∙ ap (λ (fs : List BlockEdit). after_blocks fs m) (sym split))
+      (sym (with_edit _ _ is.block) ∙ ap (λ (fs : List BlockEdit). after_blocks fs m) (sym split))
 
   edit_there : (e : BlockEdit) → get_or es p e ≡ e → is.edit ≡ e
   edit_there e own = ap (λ (fs : List BlockEdit). get_or fs 0 e) (sym is.there ∙ drop_more es p e is.inside) ∙ own
@@ -114,14 +114,14 @@ module _ (es : List BlockEdit) (n i p : ℕ) (is : LastBlock es n i p) where
 pub found_block : {es : List BlockEdit} {n i : ℕ} (p : ℕ) {e : BlockEdit} → 0 < p → p ≤ length es → NoBlock n i (drop p es)
     → e ≡ get_or es (p - 1) e → IsBlock n i e → LastBlock es n i (p - 1)
 found_block {es} {n} {i} p {e} some le none own is =
-    let step : p ≡ p - 1 + 1 = omega (arith, some) in
-    let inside : p - 1 < length es = omega (arith, some, le) in
+    let step : p ≡ p - 1 + 1 = omega arith in
+    let inside : p - 1 < length es = omega arith in
     record {
       edit = e;
       block = is;
       inside = inside;
-      there = drop_more es (p - 1) e inside ∙ ap (λ (f : BlockEdit). f ∷ drop (p - 1 + 1) es) (sym own);
-      last = subst (λ (k : ℕ). NoBlock n i (drop k es)) step none;
+      there = cc (drop_more es (p - 1) e inside);
+      last = rw (← step) none;
     }
 
 -- ---- what a draft says
@@ -129,12 +129,12 @@ pub says_block : (c : Changes) {n i p : ℕ} {e : BlockEdit} → LastBlock c.blo
     → DraftsBlock c n i e.bytes
 says_block c {n} {i} {p} {e} is own m =
     last_says c.blocks.items n i p is (after_headers c.headers.items (lost c.loss m))
-    ∙ ap (λ (f : BlockEdit). stored f.bytes) (edit_there c.blocks.items n i p is e (sym own))
+    ∙ ap (λ (f : BlockEdit). stored f.bytes) (edit_there c.blocks.items n i p is _ (sym own))
 
 pub says_no_block : (c : Changes) (n i : ℕ) → NoBlock n i c.blocks.items → LeavesBlock c n i
 says_no_block c n i none = (
   none,
-  λ m. block_stays c.blocks.items (after_headers c.headers.items (lost c.loss m)) n i none
+  λ m. block_stays _ _ _ _ none
       ∙ block_kept c.headers.items (lost c.loss m) n i,
 )
 
@@ -143,6 +143,4 @@ pub put_into : (old new : Changes) (n i : ℕ) (x : List ℕ) → ((m : LogMap) 
     ≡ with_block (after_blocks old.blocks.items m) n i x) → new.headers ≡ old.headers → new.loss ≡ old.loss
     → (m : LogMap) → staged new m ≡ with_block (staged old m) n i x
 put_into old new n i x blocks headers loss m =
-    ap (λ (hs : List HeaderEdit). after_blocks new.blocks.items (after_headers hs (lost new.loss m))) (ap (λ v. v.items) headers)
-    ∙ ap (λ (l : Loss). after_blocks new.blocks.items (after_headers old.headers.items (lost l m))) loss
-    ∙ blocks (after_headers old.headers.items (lost old.loss m))
+    cc (blocks (after_headers old.headers.items (lost old.loss m)))

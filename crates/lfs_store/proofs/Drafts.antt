@@ -20,12 +20,12 @@ use Rattle.lfs_store.specs.Drafting.{NoHeader, LastHeader, DraftsHeader}
 abbrev under : LogMap → (ℕ → Option entry.Header) → LogMap
 under m f = record { header = f; block = m.block; version = m.version }
 
-same_headers : (m : LogMap) (f g : ℕ → Option entry.Header) → ((k : ℕ) → f k ≡ g k) → under m f ≡ under m g
-same_headers m f g same = ap (under m) (fun_ext same)
+same_headers : (m : LogMap) {f g : ℕ → Option entry.Header} → ((k : ℕ) → f k ≡ g k) → under m f ≡ under m g
+same_headers m same = rw (fun_ext same)
 
 -- the second header is the one that stays
 header_over : (m : LogMap) (n : ℕ) (h h' : Option entry.Header) → with_header (with_header m n h) n h' ≡ with_header m n h'
-header_over m n h h' = same_headers m _ _ (λ k. over (k == n) (m.header k))
+header_over m n h h' = same_headers m (λ k. over (k == n) (m.header k))
   where
     over : (b : Bool) (x : Option entry.Header) → cond b h' (cond b h x) ≡ cond b h' x
     over true x = refl
@@ -34,7 +34,7 @@ header_over m n h h' = same_headers m _ _ (λ k. over (k == n) (m.header k))
 -- headers of two files
 headers_apart : (m : LogMap) (n n' : ℕ) (h h' : Option entry.Header) → n' ≢ n
     → with_header (with_header m n h) n' h' ≡ with_header (with_header m n' h') n h
-headers_apart m n n' h h' ne = same_headers m _ _
+headers_apart m n n' h h' ne = same_headers m
     (λ k. apart (k == n) (k == n') (m.header k) (λ a b. let x = equal_is k n a in let y = equal_is k n' b in ne (sym y ∙ x)))
   where
     apart : (b b' : Bool) (x : Option entry.Header) → (b ≡ true → b' ≡ true → ⊥) → cond b' h' (cond b h x) ≡ cond b h (cond b' h' x)
@@ -59,13 +59,13 @@ header_through : (es : List HeaderEdit) (m : LogMap) (n : ℕ) (h : Option entry
     → after_headers es (with_header m n h) ≡ with_header (after_headers es m) n h
 header_through [] m n h none = refl
 header_through (e ∷ es) m n h none =
-    ap (after_headers es) (headers_apart m n e.number h (Some (as_header e.header)) none.0)
+    ap (after_headers es) (headers_apart _ _ _ _ _ none.0)
     ∙ header_through es (after_header e m) n h none.1
 
 header_stays : (es : List HeaderEdit) (m : LogMap) (n : ℕ) → NoHeader n es → (after_headers es m).header n ≡ m.header n
 header_stays [] m n none = refl
 header_stays (e ∷ es) m n none = header_stays es (after_header e m) n none.1
-    ∙ other_header m e.number n (Some (as_header e.header)) (λ is. none.0 (sym is))
+    ∙ other_header m _ _ _ (λ is. none.0 (sym is))
 
 -- ---- blocks leave headers
 blocks_headers : (bs : List BlockEdit) (m : LogMap) (n : ℕ) (h : Option entry.Header)
@@ -86,31 +86,34 @@ module _ {es : List HeaderEdit} {n p : ℕ} (is : LastHeader es n p) where
   behind m = after_headers (drop (p + 1) es) m
 
   pub split : es ≡ take p es ++ is.edit ∷ drop (p + 1) es
-  split = sym (take-append-drop p es) ∙ ap (λ (fs : List HeaderEdit). take p es ++ fs) is.there
+  split = cc (take-append-drop p es, is.there)
 
   -- the list with this edit at its place
   with_edit : (e : HeaderEdit) (m : LogMap) → e.number ≡ n
       → after_headers (take p es ++ e ∷ drop (p + 1) es) m ≡ with_header (behind (before m)) n (Some (as_header e.header))
   with_edit e m own =
-      after_more (take p es) (e ∷ drop (p + 1) es) m
-      ∙ ap (λ (k : ℕ). behind (with_header (before m) k (Some (as_header e.header)))) own
-      ∙ header_through (drop (p + 1) es) (before m) n (Some (as_header e.header)) is.last
+      cc (
+        after_more (take p es) (e ∷ drop (p + 1) es) m,
+        own,
+        header_through (drop (p + 1) es) (before m) n (Some (as_header e.header))
+            is.last,
+      )
 
   pub last_says : (m : LogMap) → (after_headers es m).header n ≡ Some (as_header is.edit.header)
   last_says m =
       ap (λ (fs : List HeaderEdit). (after_headers fs m).header n) split
-      ∙ ap (λ (w : LogMap). w.header n) (with_edit is.edit m is.number)
-      ∙ own_header (behind (before m)) n (Some (as_header is.edit.header))
+      ∙ ap (λ (w : LogMap). w.header n) (with_edit _ _ is.number)
+      ∙ own_header (behind (before m)) n _
 
   pub edit_replaced : (e : HeaderEdit) (m : LogMap) → e.number ≡ n
       → after_headers (set es p e) m ≡ with_header (after_headers es m) n (Some (as_header e.header))
   edit_replaced e m own =
       let next : suc p ≡ p + 1 = omega arith in
       ap (λ (fs : List HeaderEdit). after_headers fs m) (set_split es p e is.inside ∙ ap (λ (k : ℕ). take p es ++ e ∷ drop k es) next)
-      ∙ with_edit e m own
-      ∙ sym (header_over (behind (before m)) n (Some (as_header is.edit.header)) (Some (as_header e.header)))
+      ∙ with_edit _ _ own
+      ∙ sym (header_over _ _ _ _)
       ∙ ap (λ (w : LogMap). with_header w n (Some (as_header e.header)))
-      (sym (with_edit is.edit m is.number) ∙ ap (λ (fs : List HeaderEdit). after_headers fs m) (sym split))
+      (sym (with_edit _ _ is.number) ∙ ap (λ (fs : List HeaderEdit). after_headers fs m) (sym split))
 
   edit_there : (e : HeaderEdit) → get_or es p e ≡ e → is.edit ≡ e
   edit_there e own = ap (λ (fs : List HeaderEdit). get_or fs 0 e) (sym is.there ∙ drop_more es p e is.inside) ∙ own
@@ -122,16 +125,15 @@ header_found es n {p} e inside none own is = record {
   edit = e;
   number = is;
   inside = inside;
-  there = drop_more es p e inside ∙ ap (λ (f : HeaderEdit). f ∷ drop (p + 1) es) own;
+  there = cc (drop_more es p e inside);
   last = none;
 }
 
 pub found_header : {es : List HeaderEdit} {n : ℕ} (p : ℕ) {e : HeaderEdit} → 0 < p → p ≤ length es → NoHeader n (drop p es)
     → e ≡ get_or es (p - 1) e → (get_or es (p - 1) e).number ≡ n → LastHeader es n (p - 1)
 found_header {es} {n} p {e} some le none own is =
-    let step : p ≡ p - 1 + 1 = omega (arith, some) in
-    header_found es n e (omega (arith, some, le)) (subst (λ (k : ℕ). NoHeader n (drop k es)) step none) (sym own)
-    (ap (λ (f : HeaderEdit). f.number) own ∙ is)
+    let step : p ≡ p - 1 + 1 = omega arith in
+    header_found _ _ _ (omega arith) (rw (← step) none) (sym own) (cc)
 
 -- ---- what a draft says
 pub says_header : (c : Changes) {n p : ℕ} {e : HeaderEdit} → LastHeader c.headers.items n p → e ≡ get_or c.headers.items p e
@@ -144,7 +146,7 @@ pub says_no_header : (c : Changes) (n : ℕ) → NoHeader n c.headers.items → 
 says_no_header c n none = (
   none,
   λ m. header_kept c.blocks.items (after_headers c.headers.items (lost c.loss m)) n
-      ∙ header_stays c.headers.items (lost c.loss m) n none,
+      ∙ header_stays _ (lost c.loss m) _ none,
 )
 
 -- ---- what is put into it
@@ -152,7 +154,4 @@ pub put_into : (old new : Changes) (n : ℕ) (h : entry.Header) → ((m : LogMap
     ≡ with_header (after_headers old.headers.items m) n (Some h)) → new.blocks ≡ old.blocks → new.loss ≡ old.loss
     → (m : LogMap) → staged new m ≡ with_header (staged old m) n (Some h)
 put_into old new n h headers blocks loss m =
-    ap (λ (bs : List BlockEdit). after_blocks bs (after_headers new.headers.items (lost new.loss m))) (ap (λ v. v.items) blocks)
-    ∙ ap (λ (l : Loss). after_blocks old.blocks.items (after_headers new.headers.items (lost l m))) loss
-    ∙ ap (after_blocks old.blocks.items) (headers (lost old.loss m))
-    ∙ blocks_headers old.blocks.items (after_headers old.headers.items (lost old.loss m)) n (Some h)
+    cc (headers (lost old.loss m), blocks_headers old.blocks.items (after_headers old.headers.items (lost old.loss m)) _ _)

@@ -20,8 +20,7 @@ use Rattle.lfs_store.proofs.Acceptings.{due_as, room_then}
 early_clean : (D : Type 0) {state : D → DeviceState} (h h' : LogState D) → WritesEarly state h h' → (h' ≡ h) ⊎ HasClean h'
 early_clean D h h' w = ⊎_elim
     (λ (same : h' ≡ h). inl same)
-    (λ kept. inr (subst (λ (n : ℕ). n / 8 + 8 ≤ h'.clean) (sym w.segments) kept))
-    w.reserve
+    (λ kept. inr (rw w.segments kept)) w.reserve
 
 module _ {D : Type 0} (state : D → DeviceState) where
   pub early_none : {h : LogState D} → IsLawful (state h.device) → h.halted ≡ false → WritesEarly state h h
@@ -44,72 +43,65 @@ module _ {D : Type 0} (state : D → DeviceState) where
     no_failure = refl;
     holds = λ k m0 m keeps is. is;
     moment = λ k m0 m keeps is.
-        started (λ (c : Content). StandsOn k.segments c m0) lawful (acknowledged state is);
+        started (λ (c : Content). StandsOn k.segments c m0) lawful (acknowledged _ is);
   }
 
   module _ {h h' : LogState D} (w : WritesEarly state h h') (totals : h'.totals ≡ h.totals) where
     keeps_early : KeepsMap state h h' 0
     keeps_early =
-        let same = w.number in
         record {
           carries = w.carries;
           running = w.running;
-          later = omega (arith, same);
-          number = omega (arith, same);
+          later = omega arith;
+          number = omega arith;
           segments = w.segments;
           totals = totals;
-          saved = λ all. w.saved ∙ all;
+          saved = λ all. cc;
           rest = w.rest;
           holds = λ k m0 m keeps is map.
               record { checkpoint = k; acknowledged = m0; either = inl refl; same = refl; holds = w.holds k m0 m keeps is };
-          moment = λ k m0 m keeps is map. weaker (λ (c : Content). StandsOn k.segments c m0)
-              (IsSaved state k.segments m0 m) (λ x p. inl p) (w.moment k m0 m keeps is);
+          moment = λ k m0 m keeps is map. weaker (λ (c : Content). StandsOn k.segments c m0) _ (λ x p. inl p) (w.moment k m0 m keeps is);
         }
 
     clean_stays : HasClean h → HasClean h'
-    clean_stays enough = ⊎_elim (λ (same : h' ≡ h). subst (λ (x : LogState D). HasClean x) (sym same) enough) (λ (kept : HasClean h'). kept)
-        (early_clean D h h' w)
+    clean_stays enough = ⊎_elim (λ (same : h' ≡ h). rw same enough) (λ (kept : HasClean h'). kept) (early_clean _ _ _ w)
 
     room_early : MakesRoom state h h'
     room_early = record {
-      keeps = keeps_weaker state keeps_early (omega arith);
+      keeps = keeps_weaker _ keeps_early (omega arith);
       unsaved = λ e. (sym w.saved ∙ e, record { number = w.number; fewer = w.fewer; clean = clean_stays });
-      all = λ e. inl (sym w.saved ∙ e);
-      rest = λ e rest. w.rest (rest (sym w.saved ∙ e));
+      all = λ e. inl (cc);
+      rest = λ e rest. w.rest (rest (cc));
     }
 
     pub readies_early : Readies state h h'
     readies_early =
-        let number = w.number in
         let size = w.segments in
         let due = due_as h h' w.saved in
         record {
           room = room_early;
-          spent = omega (arith, number, size, due);
-          able = λ k m0 m keeps may.
-              let most = may.number in (
-                k,
-                m0,
-                record {
-                  holds = w.holds k m0 m keeps may.holds;
-                  map = may.map;
-                  shown = may.shown;
-                  counted = subst (λ (t : BlockTotals). IsCounted m t.data_blocks t.meta_blocks) (sym totals) may.counted;
-                  need = same_need state h h' totals size may.need;
-                  enough = λ e. clean_stays (may.enough (sym w.saved ∙ e));
-                  number = omega (arith, number, size, due, most);
-                },
-              );
+          spent = omega arith;
+          able = λ k m0 m keeps may. (
+            k,
+            m0,
+            record {
+              holds = w.holds k m0 m keeps may.holds;
+              map = may.map;
+              shown = may.shown;
+              counted = rw totals may.counted;
+              need = same_need state h h' totals size may.need;
+              enough = λ e. clean_stays (may.enough (cc));
+              number = omega arith;
+            },
+          );
         }
 
   -- ---- and a commit behind them
   pub readies_then : {a b c : LogState D} → Readies state a b → Readies state b c → Readies state a c
   readies_then {a} {b} {c} one two =
-      let first = one.spent in
-      let second = two.spent in
       record {
-        room = room_then state one two.room;
-        spent = omega (arith, first, second);
+        room = room_then one two.room;
+        spent = omega arith;
         able = λ k m0 m keeps may.
             (let next = one.able k m0 m (two.room.keeps.carries.kept_before keeps) may in two.able next.0 next.1 m keeps next.2);
       }
@@ -123,10 +115,9 @@ module _ {D : Type 0} (state : D → DeviceState) where
       → b.segments ≡ a.segments
       → length (state c.device).told ≤ length (state a.device).told + room_orders a.segments
   told_cleaned {a} {b} c once few first rest passes same = ⊎_elim
-      (λ (is : b ≡ a). subst (λ (x : LogState D).
-      length (state c.device).told ≤ length (state x.device).told + room_orders x.segments) is rest)
+      (λ (is : b ≡ a). rw (← is) rest)
       (λ (more : HasClean b ⊎ ((b.saved ≡ true) × AreAllSaved b)). ⊎_elim
-      (λ (clean : HasClean b). absurd (omega (arith, clean, few)))
+      (λ (clean : HasClean b). absurd (omega arith))
       (λ (all : (b.saved ≡ true) × AreAllSaved b). behind (length (state a.device).told) (length (state b.device).told)
       (length (state c.device).told) a.segments b.segments same first (passes all.0))
       more)
@@ -138,4 +129,4 @@ module _ {D : Type 0} (state : D → DeviceState) where
           sum x y z commit_orders (passes_orders n) one after
         where
           sum : (x y z p q : ℕ) → y ≤ x + p → z ≤ y + q → z ≤ x + (p + q)
-          sum x y z p q one two = omega (arith, one, two)
+          sum x y z p q one two = omega arith

@@ -22,14 +22,9 @@ use Rattle.lfs_store.specs.StoreState.{asked_by}
 use Rattle.lfs_store.proofs.Acceptings.{accepts, accept_fault, commits_none, declines, declines_room, fails_after, halts_after, lacks_after}
 use Rattle.lfs_store.proofs.Acceptings.{readies_none, room_fault, room_then}
 
--- what holds at an error holds at the exit of a `?`
-pub same_exit : {T E : Type 0} (r : Result T E) (e : E) (P : Result T E → Type 0) → IsErr r × IsErrAnd r (λ y. y ≡ e) → P (Err e) → P r
-same_exit r e P gives holds = let y = err_from_is_err_and r gives.1 in rw (y.1, y.2) holds
-
--- so for an error of memory, or of another kind for a reason
-pub fails_so : {T : Type 0} (r : Result T StoreFault) (e : StoreFault) {P : Type 0} → IsErr r × IsErrAnd r (λ y. y ≡ e)
-    → ((e ≡ NoMemory → ⊥) → P) → IfErr r (λ fault. (fault ≡ NoMemory → ⊥) → P)
-fails_so r e {P} = same_exit r e (λ x. IfErr x (λ fault. (fault ≡ NoMemory → ⊥) → P))
+-- the exit of a `?` is the error that it passes on
+pub exit_is : {T E : Type 0} {r : Result T E} {e : E} → IsErr r × IsErrAnd r (λ y. y ≡ e) → r ≡ Err e
+exit_is {r} gives = let y = err_from_is_err_and r gives.1 in rw (y.1, y.2) refl
 
 abbrev log_error : LogFault → Result Unit LogFault
 log_error fault = Err fault
@@ -37,28 +32,32 @@ log_error fault = Err fault
 abbrev store_error : StoreFault → Result Unit StoreFault
 store_error fault = Err fault
 
+-- the error of the log is the store's
+as_log : {fault : LogFault} (other : LogFault) → store_error (Log fault) ≡ store_error (Log other) → log_error fault ≡ log_error other
+as_log {fault} other e = let same : fault ≡ other = cc in ap log_error same
+
 -- a commit that fails leaves what isn't saved so
 pub still_unsaved : (D : Type 0) {h h' : LogState D} (X : Type 0) (fault : LogFault) → h.saved ≡ false
     → (log_error fault ≡ log_error Full → (h' ≡ h) × X) → (log_error fault ≡ log_error Device → ⊥)
     → (log_error fault ≡ log_error Halted → h'.saved ≡ false) → h'.saved ≡ h.saved
-still_unsaved D X Full off full device halted = ap (λ (x : LogState D). x.saved) (full refl).0
+still_unsaved D X Full off full device halted = cc ((full refl).0)
 still_unsaved D X Device off full device halted = absurd (device refl)
 still_unsaved D X Halted off full device halted = halted refl ∙ sym off
 
 pub keeps_none : {D : Type 0} {a : Store D} → KeepsDraft a a
 keeps_none = record { draft = refl; totals = refl; drafted = refl }
 
-no_more : {x y : ℕ} (most : ℕ) → x ≡ y → y ≤ most → x ≤ most
-no_more most same le = rw same le
+no_more : {x y : ℕ} {most : ℕ} → x ≡ y → y ≤ most → x ≤ most
+no_more same le = rw same le
 
 keeps_then : {D : Type 0} (a b c : Store D) → KeepsDraft a b → KeepsDraft b c → KeepsDraft a c
 keeps_then a b c one two = record {
-  draft = two.draft ∙ one.draft;
-  totals = two.totals ∙ one.totals;
-  drafted = two.drafted ∙ one.drafted;
+  draft = cc;
+  totals = cc;
+  drafted = cc;
 }
 
-module _ {D : Type 0} (state : D → DeviceState) where
+module _ {D : Type 0} {state : D → DeviceState} where
   -- ---- a commit of a log that is halted, and of one that is saved
   pub committed_halted : {a : Store D} → a.log.halted ≡ true → Committed state a a (Err Halted)
   committed_halted {a} is = record {
@@ -82,8 +81,8 @@ module _ {D : Type 0} (state : D → DeviceState) where
       → Committed state a a (Ok tt)
   committed_saved {a} lawful running all = record {
     keeps = keeps_none;
-    done = commits_none state a.log lawful running all;
-    ready = readies_none state lawful running;
+    done = commits_none _ lawful running all;
+    ready = readies_none lawful running;
     saved = all;
     saves = λ never. absurd (cc);
     same = tt;
@@ -98,15 +97,6 @@ module _ {D : Type 0} (state : D → DeviceState) where
   }
 
   -- ---- room
-  pub made_none : {a : Store D} → IsLawful (state a.log.device) → a.log.halted ≡ false → RoomMade state a a (Ok tt)
-  made_none {a} lawful running = record {
-    keeps = keeps_none;
-    done = makes_none state lawful running;
-    full = λ e. absurd (cc);
-    device = λ e. absurd (cc);
-    halted = λ e. absurd (cc);
-  }
-
   pub made_ready : {a b : Store D} → KeepsDraft a b → Readies state a.log b.log → RoomMade state a b (Ok tt)
   made_ready keeps ready = record {
     keeps = keeps;
@@ -116,15 +106,18 @@ module _ {D : Type 0} (state : D → DeviceState) where
     halted = λ e. absurd (cc);
   }
 
+  pub made_none : {a : Store D} → IsLawful (state a.log.device) → a.log.halted ≡ false → RoomMade state a a (Ok tt)
+  made_none lawful running = made_ready keeps_none (readies_none lawful running)
+
   -- a commit that failed
   pub made_uncommitted : (a b : Store D) {fault : LogFault} → IsLawful (state a.log.device) → a.log.halted ≡ false
       → Committed state a b (Err fault) → RoomMade state a b (Err fault)
   made_uncommitted a b lawful running commit = record {
     keeps = commit.keeps;
     done = tt;
-    full = λ e. lacks_commit state lawful running (commit.full e).0 (commit.full e).1 (commit.unsaved e);
+    full = λ e. lacks_commit _ lawful running (commit.full e).0 (commit.full e).1 (commit.unsaved e);
     device = λ e. absurd (commit.other e);
-    halted = λ e ne. halts_first state {a = a.log} {b = b.log} (commit.halted e ne);
+    halted = λ e ne. halts_first _ {a = a.log} {b = b.log} (commit.halted e ne);
   }
 
   -- room that is made behind steps that leave the log ready
@@ -133,18 +126,18 @@ module _ {D : Type 0} (state : D → DeviceState) where
   made_then {a} {b} {c} {r} keeps ready made =
       let running = ready.room.keeps.running in
       record {
-        keeps = keeps_then a b c keeps made.keeps;
-        done = ok_then r _ _ (room_then state {c = c.log} ready) made.done;
-        full = λ e. lacks_after state ready (made.full e);
-        device = λ e. fails_after state ready (made.device e);
-        halted = λ e ne. halts_after state ready (made.halted e (λ (t : b.log.halted ≡ true). absurd (cc)));
+        keeps = keeps_then _ _ _ keeps made.keeps;
+        done = ok_then r _ _ (room_then {c = c.log} ready) made.done;
+        full = λ e. lacks_after ready (made.full e);
+        device = λ e. fails_after ready (made.device e);
+        halted = λ e ne. halts_after ready (made.halted e (λ (t : b.log.halted ≡ true). absurd (cc)));
       }
 
   -- a commit behind them
   pub made_committed : {a b : Store D} (r : Result Unit LogFault) → IsLawful (state a.log.device) → a.log.halted ≡ false
       → Committed state a b r → RoomMade state a b r
   made_committed {a} {b} (Ok x) lawful running commit = made_ready commit.keeps commit.ready
-  made_committed {a} {b} (Err fault) lawful running commit = made_uncommitted a b lawful running commit
+  made_committed {a} {b} (Err fault) lawful running commit = made_uncommitted _ _ lawful running commit
 
   -- ---- the cleaner makes room
   pub cleaned : {a : Store D} {h : LogState D} {r : Result Unit LogFault} → h.totals ≡ a.log.totals → OnOk r (MakesRoom state a.log h)
@@ -183,10 +176,6 @@ module _ {D : Type 0} (state : D → DeviceState) where
     one_commit = λ two. omega arith;
   }
 
-  -- the error of the log is the store's
-  as_log : (fault other : LogFault) → store_error (Log fault) ≡ store_error (Log other) → log_error fault ≡ log_error other
-  as_log fault other e = let same : fault ≡ other = cc in ap log_error same
-
   -- ---- what holds however a draft ends, behind what readied the log
   module _ {a b : Store D} (running : a.log.halted ≡ false) (quiet : HasRoomFor a.log a.draft → HasClean a.log → b.log ≡ a.log)
       (told : length (state b.log.device).told
@@ -199,16 +188,16 @@ module _ {D : Type 0} (state : D → DeviceState) where
       counted = tt;
       kept = made.keeps.totals;
       done = tt;
-      full = λ e. declines_room state a.draft running (made.full (as_log fault Full e)).makes;
-      lacks = λ e. lacks (as_log fault Full e);
-      never = λ e. (made.full (as_log fault Full e)).never;
+      full = λ e. declines_room running (made.full (as_log _ e)).makes;
+      lacks = λ e. lacks (as_log _ e);
+      never = λ e. (made.full (as_log _ e)).never;
       memory = λ e. absurd (cc);
       fits = λ e. absurd (cc);
-      device = λ e. declines_room state a.draft running (made.device (as_log fault Device e)).makes;
-      failed = λ e. room_fault state a.log b.log a.draft (made.device (as_log fault Device e)).fault;
-      halted = λ e. made.halted (as_log fault Halted e);
+      device = λ e. declines_room running (made.device (as_log _ e)).makes;
+      failed = λ e. room_fault _ b.log a.draft (made.device (as_log _ e)).fault;
+      halted = λ e. made.halted (as_log _ e);
       still = λ t. absurd (cc);
-      quiet = λ room clean. ap (λ (h : LogState D). h.number) (quiet room clean);
+      quiet = λ room clean. cc (quiet room clean);
       told = told;
       one_commit = one_commit;
     }
@@ -217,10 +206,9 @@ module _ {D : Type 0} (state : D → DeviceState) where
       -- it is staged
       pub accepted_staged : IsStaged state b.log h b.draft.changes → h.totals ≡ b.drafted → Accepted state a h (Ok tt)
       accepted_staged s totals = record {
-        counted = totals ∙ made.keeps.drafted;
+        counted = cc;
         kept = tt;
-        done = subst (Accepts state a.log h) made.keeps.draft
-            (accepts state a.log b.log h b.draft lawful running made.done s.alters enough s);
+        done = rw (← made.keeps.draft) (accepts _ _ _ _ lawful running made.done s.alters enough s);
         full = λ e. absurd (cc);
         lacks = λ e. absurd (cc);
         never = λ e. absurd (cc);
@@ -230,9 +218,9 @@ module _ {D : Type 0} (state : D → DeviceState) where
         failed = λ e. absurd (cc);
         halted = λ e. absurd (cc);
         still = λ t. absurd (cc);
-        quiet = λ room clean. s.alters.number ∙ ap (λ (x : LogState D). x.number) (quiet room clean);
-        told = no_more _ (ap length s.alters.looks.told) told;
-        one_commit = λ two. no_more _ (ap length s.alters.looks.told) (one_commit two);
+        quiet = λ room clean. cc (quiet room clean);
+        told = no_more (cc) told;
+        one_commit = λ two. no_more (cc) (one_commit two);
       }
 
       -- it is refused
@@ -243,22 +231,21 @@ module _ {D : Type 0} (state : D → DeviceState) where
           → Accepted state a h (Err fault)
       accepted_refused r totals some running' asks failed =
           let declined : Declines state a.log h a.draft = subst (Declines state a.log h) made.keeps.draft
-          (declines state a.log b.log h b.draft lawful running made.done r.alters enough r) in
+          (declines _ _ _ _ lawful running made.done r.alters enough r) in
           record {
             counted = tt;
-            kept = totals ∙ made.keeps.totals;
+            kept = cc;
             done = tt;
             full = λ e. absurd (some (cc));
             lacks = λ e. absurd (some (cc));
             never = λ e. absurd (some (cc));
             memory = λ e. declined;
-            fits = λ e rest. subst (λ (d : Draft). MOST_UNSAVED < asked_by d) made.keeps.draft (asks (cc) rest);
+            fits = λ e rest. rw (← made.keeps.draft) (asks (cc) rest);
             device = λ e. declined;
-            failed = λ e. subst (IsAcceptFault state a.log h) made.keeps.draft
-                (accept_fault state a.log b.log h b.draft lawful running made.done r.alters (failed (cc)));
+            failed = λ e. rw (← made.keeps.draft) (accept_fault _ _ h b.draft lawful running made.done r.alters (failed (cc)));
             halted = λ e. absurd (running' (cc));
             still = λ t. absurd (cc);
-            quiet = λ room clean. r.alters.number ∙ ap (λ (x : LogState D). x.number) (quiet room clean);
-            told = no_more _ (ap length r.alters.looks.told) told;
-            one_commit = λ two. no_more _ (ap length r.alters.looks.told) (one_commit two);
+            quiet = λ room clean. cc (quiet room clean);
+            told = no_more (cc) told;
+            one_commit = λ two. no_more (cc) (one_commit two);
           }

@@ -35,8 +35,8 @@ all_more P [] x all own = (own, tt)
 all_more P (y ∷ ys) x all own = (all.0, all_more P ys x all.1 own)
 
 -- ---- headers that fit
-fits_same : (m m' : LogMap) (e : HeaderEdit) → m'.header e.number ≡ m.header e.number → FitsFile m e → FitsFile m' e
-fits_same m m' e same f = record { header = f.header; name = λ has. f.name (has.0, sym same ∙ has.1) ∙ ap is_unlinked (sym same) }
+fits_same : (m : LogMap) {m' : LogMap} (e : HeaderEdit) → m'.header e.number ≡ m.header e.number → FitsFile m e → FitsFile m' e
+fits_same m e same f = record { header = f.header; name = λ has. cc (f.name (has.0, sym same ∙ has.1), same) }
 
 -- two log maps have the same headers, but for file n
 abbrev AgreeBut : ℕ → LogMap → LogMap → Type 0
@@ -45,7 +45,7 @@ AgreeBut n m m' = (k : ℕ) → k ≢ n → m'.header k ≡ m.header k
 fit_through : (es : List HeaderEdit) (m m' : LogMap) (n : ℕ) → NoHeader n es → AgreeBut n m m' → AreHeadersFit m es → AreHeadersFit m' es
 fit_through [] m m' n none agree fit = tt
 fit_through (e ∷ es) m m' n none agree fit = (
-  fits_same m m' e (agree e.number none.0) fit.0,
+  fits_same _ _ (agree e.number none.0) fit.0,
   fit_through es (after_header e m) (after_header e m') n none.1
       (λ k ne. ap (cond (k == e.number) (Some (as_header e.header))) (agree k ne)) fit.1,
 )
@@ -70,8 +70,7 @@ fit_set : {es : List HeaderEdit} (p : ℕ) (e : HeaderEdit) (m : LogMap) → Las
     → FitsHeader e.header.kind e.header.form e.header.links e.header.size → Renames (after_headers es m) e
     → AreHeadersFit m (set es p e)
 fit_set {es} p e m is fit header name =
-    subst (AreHeadersFit m) (sym placed)
-    (fit_join (take p es) (e ∷ drop (p + 1) es) m parts.0 (record { header = header; name = own_name }, behind))
+    rw placed (fit_join (take p es) (e ∷ drop (p + 1) es) m parts.0 (record { header = header; name = own_name }, behind))
   where
     placed : set es p e ≡ take p es ++ e ∷ drop (p + 1) es
     placed = let next : suc p ≡ p + 1 = omega arith in set_split es p e is.inside ∙ ap (λ (k : ℕ). take p es ++ e ∷ drop k es) next
@@ -80,7 +79,7 @@ fit_set {es} p e m is fit header name =
     before = after_headers (take p es) m
 
     parts : AreHeadersFit m (take p es) × AreHeadersFit (after_headers (take p es) m) (is.edit ∷ drop (p + 1) es)
-    parts = fit_split (take p es) (is.edit ∷ drop (p + 1) es) m (subst (AreHeadersFit m) (split is) fit)
+    parts = fit_split _ _ _ (subst (AreHeadersFit m) (split is) fit)
 
     own_name : Renames (after_headers (take p es) m) e
     own_name has =
@@ -92,11 +91,11 @@ fit_set {es} p e m is fit header name =
     agree : AgreeBut e.number (after_header is.edit (after_headers (take p es) m)) (after_header e (after_headers (take p es) m))
     agree k ne =
         let w = after_headers (take p es) m in
-        (is_with_header w e.number {h = Some (as_header e.header)}).others k ne
-        ∙ sym ((is_with_header w is.edit.number {h = Some (as_header is.edit.header)}).others k (λ same. ne (same ∙ is.number)))
+        (is_with_header w _ {h = Some (as_header e.header)}).others k ne
+        ∙ sym ((is_with_header w _ {h = Some (as_header is.edit.header)}).others k (λ same. ne (cc)))
 
     behind : AreHeadersFit (after_header e (after_headers (take p es) m)) (drop (p + 1) es)
-    behind = fit_through (drop (p + 1) es) _ _ e.number is.last agree parts.1.1
+    behind = fit_through _ _ _ _ is.last agree parts.1.1
 
 -- ---- files that are there stay there
 there_still : (m : LogMap) (n k : ℕ) (h : entry.Header) → HasInode m k → HasInode (with_header m n (Some h)) k
@@ -118,37 +117,33 @@ module _ (old new : Changes) (m : LogMap) (e : HeaderEdit) (loss : new.loss ≡ 
   before_blocks = header_kept old.blocks.items (after_headers old.headers.items (lost old.loss m)) e.number
 
   renames : Renames (after_headers old.headers.items (lost old.loss m)) e
-  renames has = takes.name (has.0, before_blocks ∙ has.1) ∙ ap is_unlinked before_blocks
+  renames has = cc (takes.name (has.0, before_blocks ∙ has.1), before_blocks)
 
   with_headers : AreHeadersFit (lost old.loss m) new.headers.items
       → AllByRecursion (λ (e : HeaderEdit). is_lost old.loss (Inode e.number) ≡ false) new.headers.items → FitsBatch m new
   with_headers headers apart =
-      subst (λ (x : Loss). FitEdits m x new.headers.items new.blocks.items) (sym loss)
-      (subst (λ (bs : List BlockEdit). FitEdits m old.loss new.headers.items bs) (sym (ap (λ v. v.items) blocks))
+      rw loss
+      (rw (ap (λ v. v.items) blocks)
       (record {
         fits_loss = fit.fits_loss;
         headers_apart = apart;
         blocks_apart = fit.blocks_apart;
         fit_headers = headers;
-        fit_blocks = subst (λ (w : LogMap). AreBlocksFit w old.blocks.items) (sym after) (blocks_still old.blocks.items
+        fit_blocks = rw after (blocks_still old.blocks.items
             (after_headers old.headers.items (lost old.loss m)) e.number (as_header e.header) fit.fit_blocks);
         within = fit.within;
       }))
 
   pub fits_set : (p : ℕ) → LastHeader old.headers.items e.number p → new.headers.items ≡ set old.headers.items p e → FitsBatch m new
   fits_set p is placed =
-      with_headers
-      (subst (AreHeadersFit (lost old.loss m)) (sym placed) (fit_set p e (lost old.loss m) is fit.fit_headers takes.header renames))
-      (subst (AllByRecursion (λ (e : HeaderEdit). is_lost old.loss (Inode e.number) ≡ false)) (sym placed)
-      (all_set _ old.headers.items p e fit.headers_apart takes.apart))
+      with_headers (rw placed (fit_set p e (lost old.loss m) is fit.fit_headers takes.header renames))
+      (rw placed (all_set _ old.headers.items p e fit.headers_apart takes.apart))
 
   pub fits_more : new.headers.items ≡ old.headers.items ++ e ∷ [] → FitsBatch m new
   fits_more placed =
       with_headers
-      (subst (AreHeadersFit (lost old.loss m)) (sym placed)
-      (fit_more old.headers.items e (lost old.loss m) fit.fit_headers takes.header renames))
-      (subst (AllByRecursion (λ (e : HeaderEdit). is_lost old.loss (Inode e.number) ≡ false)) (sym placed)
-      (all_more _ old.headers.items e fit.headers_apart takes.apart))
+      (rw placed (fit_more _ _ _ fit.fit_headers takes.header renames))
+      (rw placed (all_more _ _ _ fit.headers_apart takes.apart))
 
 -- ---- a block is
 module _ (old new : Changes) (m : LogMap) (e : BlockEdit) (loss : new.loss ≡ old.loss) (headers : new.headers ≡ old.headers)
@@ -158,8 +153,8 @@ module _ (old new : Changes) (m : LogMap) (e : BlockEdit) (loss : new.loss ≡ o
 
   with_blocks : ((P : BlockEdit → Type 0) → AllByRecursion P old.blocks.items → P e → AllByRecursion P new.blocks.items) → FitsBatch m new
   with_blocks all =
-      subst (λ (x : Loss). FitEdits m x new.headers.items new.blocks.items) (sym loss)
-      (subst (λ (hs : List HeaderEdit). FitEdits m old.loss hs new.blocks.items) (sym (ap (λ v. v.items) headers))
+      rw loss
+      (rw (ap (λ v. v.items) headers)
       (record {
         fits_loss = fit.fits_loss;
         headers_apart = fit.headers_apart;
@@ -170,10 +165,10 @@ module _ (old new : Changes) (m : LogMap) (e : BlockEdit) (loss : new.loss ≡ o
       }))
 
   pub fits_block_set : (p : ℕ) → new.blocks.items ≡ set old.blocks.items p e → FitsBatch m new
-  fits_block_set p placed = with_blocks (λ P all own. subst (AllByRecursion P) (sym placed) (all_set P old.blocks.items p e all own))
+  fits_block_set p placed = with_blocks (λ P all own. rw placed (all_set _ _ _ _ all own))
 
   pub fits_block_more : new.blocks.items ≡ old.blocks.items ++ e ∷ [] → FitsBatch m new
-  fits_block_more placed = with_blocks (λ P all own. subst (AllByRecursion P) (sym placed) (all_more P old.blocks.items e all own))
+  fits_block_more placed = with_blocks (λ P all own. rw placed (all_more _ _ _ all own))
 
 -- ---- the whole of it, where an edit takes the place of another, or comes behind the others
 module _ (old new : Changes) (e : HeaderEdit) (loss : new.loss ≡ old.loss) (blocks : new.blocks ≡ old.blocks) where
@@ -186,38 +181,36 @@ module _ (old new : Changes) (e : HeaderEdit) (loss : new.loss ≡ old.loss) (bl
   put_set p is placed = record {
     map = put_into old new e.number (as_header e.header) follows blocks loss;
     fits = λ m fit takes. fits_set old new m e loss blocks fit takes (follows (lost old.loss m)) p is placed;
-    few = let same = ap length placed ∙ length-set old.headers.items p e in omega (arith, same);
+    few = omega (arith, ap length placed ∙ length-set old.headers.items p e);
     blocks = blocks;
     loss = loss;
   }
     where
       follows : Follows
-      follows m = ap (λ (es : List HeaderEdit). after_headers es m) placed ∙ edit_replaced is e m refl
+      follows m = cc (placed, edit_replaced is e m refl)
 
   put_more : new.headers.items ≡ old.headers.items ++ e ∷ [] → PutsHeader old new e.number e.header
   put_more placed = record {
     map = put_into old new e.number (as_header e.header) follows blocks loss;
     fits = λ m fit takes. fits_more old new m e loss blocks fit takes (follows (lost old.loss m)) placed;
-    few = let same = ap length placed ∙ length-append old.headers.items (e ∷ []) in omega (arith, same);
+    few = omega (arith, ap length placed ∙ length-append old.headers.items (e ∷ []));
     blocks = blocks;
     loss = loss;
   }
     where
       follows : Follows
-      follows m = ap (λ (es : List HeaderEdit). after_headers es m) placed ∙ after_more old.headers.items (e ∷ []) m
+      follows m = cc (placed, after_more old.headers.items (e ∷ []) m)
 
 pub header_replaced : {old : Changes} (new : Changes) {n p : ℕ} (e : HeaderEdit) → LastHeader old.headers.items n p → e.number ≡ n
     → new.headers.items ≡ set old.headers.items p e → new.blocks ≡ old.blocks → new.loss ≡ old.loss
     → PutsHeader old new n e.header
 header_replaced {old} new {p} e is own placed blocks loss =
-    subst (λ (k : ℕ). PutsHeader old new k e.header) own
-    (put_set old new e loss blocks p (subst (λ (k : ℕ). LastHeader old.headers.items k p) (sym own) is) placed)
+    rw (← own) (put_set old new e loss blocks p (rw own is) placed)
 
-pub header_appended : (old new : Changes) (n : ℕ) (h : Header) → batch.AddsHeaderEdit old new n h → new.blocks ≡ old.blocks
+pub header_appended : {old new : Changes} (n : ℕ) (h : Header) → batch.AddsHeaderEdit old new n h → new.blocks ≡ old.blocks
     → new.loss ≡ old.loss → PutsHeader old new n h
-header_appended old new n h put blocks loss =
-    subst (PutsHeader old new n) put.says
-    (subst (λ (k : ℕ). PutsHeader old new k put.edit.header) put.number (put_more old new put.edit loss blocks put.headers))
+header_appended n h put blocks loss =
+    rw (← put.says, ← put.number) (put_more _ _ _ loss blocks put.headers)
 
 module _ (old new : Changes) (e : BlockEdit) (loss : new.loss ≡ old.loss) (headers : new.headers ≡ old.headers) where
   abbrev FollowsBlock : Type 0
@@ -228,42 +221,34 @@ module _ (old new : Changes) (e : BlockEdit) (loss : new.loss ≡ old.loss) (hea
       → PutsBlock old new e.number e.index e.bytes
   put_block_set p is placed = record {
     map = drafted.put_into old new e.number e.index (stored e.bytes) follows headers loss;
-    fits = λ m fit takes. fits_block_set old new m e loss headers fit takes p placed;
-    few = let same = ap length placed ∙ length-set old.blocks.items p e in omega (arith, same);
+    fits = λ m fit takes. fits_block_set old new _ _ loss headers fit takes _ placed;
+    few = omega (arith, ap length placed ∙ length-set old.blocks.items p e);
     headers = headers;
     loss = loss;
   }
     where
       follows : FollowsBlock
-      follows m = ap (λ (es : List BlockEdit). after_blocks es m) placed
-          ∙ drafted.edit_replaced old.blocks.items e.number e.index p is e m (refl, refl)
+      follows m = cc (placed, drafted.edit_replaced old.blocks.items e.number e.index p is e m (refl, refl))
 
   put_block_more : new.blocks.items ≡ old.blocks.items ++ e ∷ [] → PutsBlock old new e.number e.index e.bytes
   put_block_more placed = record {
     map = drafted.put_into old new e.number e.index (stored e.bytes) follows headers loss;
-    fits = λ m fit takes. fits_block_more old new m e loss headers fit takes placed;
-    few = let same = ap length placed ∙ length-append old.blocks.items (e ∷ []) in omega (arith, same);
+    fits = λ m fit takes. fits_block_more old new _ _ loss headers fit takes placed;
+    few = omega (arith, ap length placed ∙ length-append old.blocks.items (e ∷ []));
     headers = headers;
     loss = loss;
   }
     where
       follows : FollowsBlock
-      follows m = ap (λ (es : List BlockEdit). after_blocks es m) placed ∙ drafted.after_more old.blocks.items (e ∷ []) m
+      follows m = cc (placed, drafted.after_more old.blocks.items (e ∷ []) m)
 
-pub block_replaced : {old : Changes} (new : Changes) {n i p : ℕ} (e : BlockEdit) → LastBlock old.blocks.items n i p → IsBlock n i e
+pub block_replaced : {old : Changes} {new : Changes} {n i p : ℕ} (e : BlockEdit) → LastBlock old.blocks.items n i p → IsBlock n i e
     → new.blocks.items ≡ set old.blocks.items p e → new.headers ≡ old.headers → new.loss ≡ old.loss
     → PutsBlock old new n i e.bytes
-block_replaced {old} new {n} {i} {p} e is own placed headers loss =
-    subst (λ (l : ℕ). PutsBlock old new n l e.bytes) own.1
-    (subst (λ (k : ℕ). PutsBlock old new k e.index e.bytes) own.0
-    (put_block_set old new e loss headers p
-    (subst (λ (l : ℕ). LastBlock old.blocks.items e.number l p) (sym own.1)
-    (subst (λ (k : ℕ). LastBlock old.blocks.items k i p) (sym own.0) is)) placed))
+block_replaced {old} {n} {i} {p} e is own placed headers loss =
+    rw (← own.1, ← own.0) (put_block_set _ _ _ loss headers _ (rw (own.1, own.0) is) placed)
 
-pub block_appended : (old new : Changes) (n i : ℕ) (bytes : List ℕ) → batch.AddsBlockEdit old new n i bytes → new.headers ≡ old.headers
+pub block_appended : {old new : Changes} (n i : ℕ) {bytes : List ℕ} → batch.AddsBlockEdit old new n i bytes → new.headers ≡ old.headers
     → new.loss ≡ old.loss → PutsBlock old new n i bytes
-block_appended old new n i bytes put headers loss =
-    subst (PutsBlock old new n i) put.says
-    (subst (λ (l : ℕ). PutsBlock old new n l put.edit.bytes) put.index
-    (subst (λ (k : ℕ). PutsBlock old new k put.edit.index put.edit.bytes) put.number
-    (put_block_more old new put.edit loss headers put.blocks)))
+block_appended n i put headers loss =
+    rw (← put.says, ← put.index, ← put.number) (put_block_more _ _ _ loss headers put.blocks)

@@ -12,17 +12,14 @@ cond_three false = omega arith
 
 pub way_most : (before : Option BlockEdit) (e : BlockEdit) → way_from before e ≤ 3
 way_most None e = let le : 3 ≤ 3 = omega arith in le
-way_most (Some b) e = cond_three (is_beside b e)
+way_most (Some b) e = cond_three _
 
 ways_most : (before : Option BlockEdit) (es : List BlockEdit) → ways_from before es ≤ 3 * length es
 ways_most before [] = let le : 0 ≤ 3 * 0 = omega arith in le
 ways_most before (e ∷ es) =
-    let one = way_most before e in
-    let rest = ways_most (Some e) es in
-    omega (arith, one, rest)
+    omega (arith, way_most before e, ways_most (Some e) es)
 
 -- ---- what a draft asks for
 pub room_few : (c : Changes) (h k : ℕ) → length c.headers.items ≤ h → length c.blocks.items ≤ k → room_for c ≤ 2 * h + 4 * k + 4
 room_few c h k few low =
-    let most = ways_most None c.blocks.items in
-    omega (arith, few, low, most)
+    omega (arith, ways_most None c.blocks.items)

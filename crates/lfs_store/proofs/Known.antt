@@ -17,11 +17,11 @@ use Rattle.lfs_store.proofs.Growths.{room_few}
 
 -- it changes no log map, and each may be changed so
 pub empty_draft : (d : Draft) (m : LogMap) → IsEmpty d → (with_draft d m ≡ m) × Fits d m
-empty_draft d m none = draft_empty d.changes m none
+empty_draft d m none = draft_empty _ _ none
 
 -- nothing is lost by it
 pub empty_apart : (d : Draft) (n : ℕ) → IsEmpty d → IsApart d.changes.loss n
-empty_apart d n none = subst (λ (x : Loss). IsApart x n) (sym none.loss) (nothing_apart n)
+empty_apart d n none = rw none.loss (nothing_apart _)
 
 -- ---- how many blocks of memory a draft asks for
 
@@ -30,10 +30,7 @@ pub grown_asks : (a b : Draft) (h k : ℕ) → 2 * h + 4 * k ≤ 452 → IsEmpty
     → length b.changes.headers.items ≤ length a.changes.headers.items + h
     → length b.changes.blocks.items ≤ length a.changes.blocks.items + k → asked_by b ≤ 456
 grown_asks a b h k few none headers blocks =
-    let no_header = ap length none.headers in
-    let no_block = ap length none.blocks in
-    let room = room_few b.changes h k (omega (arith, headers, no_header)) (omega (arith, blocks, no_block)) in
-    omega (arith, room, few)
+    omega (arith, room_few b.changes h k (omega (arith, headers, ap length none.headers)) (omega (arith, blocks, ap length none.blocks)))
 
 -- ---- its volume
 
@@ -60,7 +57,7 @@ reads_staged looks same = record {
 
 -- one checkpoint more than for passes is written at most where room is made
 pub few_checkpoints : {D : Type 0} (h : LogState D) → most_checkpoints h ≤ h.segments / 8 + 1
-few_checkpoints h = let due : commits_due h ≤ 1 = one_due h.saved in omega (arith, due)
+few_checkpoints h = let due : commits_due h ≤ 1 = one_due h.saved in omega arith
   where
     one_due : (all : Bool) → cond {A = ℕ} all 0 1 ≤ 1
     one_due true = omega arith

@@ -14,33 +14,39 @@ use Rattle.lfs_store.proofs.Pointers.{empty, leaves_none, leaves_same, leaves_sp
 pub beside_split : (m : LogMap) (n from to : ℕ) → from ≤ to → to ≤ 16624
     → leaves_in m n 0 129 ≡ leaves_in m n (leaf_from from) (leaf_to to) + leaves_beside m n from to
 beside_split m n from to order low =
-    let first = leaves_split m n 0 (leaf_from from) 129 (omega arith) (omega (arith, order, low)) in
-    let next = leaves_split m n (leaf_from from) (leaf_to to) 129 (omega (arith, order)) (omega (arith, low)) in
-    omega (arith, first, next)
+    omega (
+      arith,
+      leaves_split m n 0 (leaf_from from) 129 (omega arith) (omega (arith, order, low)),
+      leaves_split m n (leaf_from from)
+          (leaf_to to) 129 (omega (arith, order)) (omega (arith, low)),
+    )
 
 -- a file without blocks has no leaf
 leafless : (m : LogMap) (n : ℕ) → ((i : ℕ) → is_stored m n i ≡ false) → (q : ℕ) → has_leaf m n q ≡ false
 leafless m n none q = false_from_ne_true (has_leaf m n q) (λ on.
     let has = ((leaf_tests m n).0 q).0 on in
     let there = lt-ltb 0 (length (m.block n (112 + 128 * q + has.0))) has.2 in
-    let bad : true ≡ false = sym there ∙ none (112 + 128 * q + has.0) in
+    let bad : true ≡ false = cc (none (112 + 128 * q + has.0)) in
     absurd (cc))
 
 pub beside_none : (m : LogMap) (n : ℕ) → ((i : ℕ) → is_stored m n i ≡ false) → (from to : ℕ) → leaves_beside m n from to ≡ 0
 beside_none m n none from to =
-    let first = leaves_none m n 0 (leaf_from from) (λ q le lt. leafless m n none q) in
-    let next = leaves_none m n (leaf_to to) 129 (λ q le lt. leafless m n none q) in
-    omega (arith, first, next)
+    omega (
+      arith,
+      leaves_none m n 0 (leaf_from from) (λ q le lt. leafless m n none q),
+      leaves_none m n (leaf_to to) 129
+          (λ q le lt. leafless m n none q),
+    )
 
 -- where only blocks of a range change, those beside it are as they were
 pub beside_same : (m m' : LogMap) (n from to : ℕ) → ((i : ℕ) → (i < from) ⊎ (to ≤ i) → m'.block n i ≡ m.block n i)
     → leaves_beside m' n from to ≡ leaves_beside m n from to
 beside_same m m' n from to same =
     let first = leaves_same m m' n 0 (leaf_from from)
-    (λ q le lt. same_leaf m m' n q (λ i inside. (let high = inside.1 in same i (inl (omega (arith, high, lt)))))) in
+    (λ q le lt. same_leaf m m' n q (λ i inside. (same i (inl (omega arith))))) in
     let next = leaves_same m m' n (leaf_to to) 129
-    (λ q le lt. same_leaf m m' n q (λ i inside. (let low = inside.0 in same i (inr (omega (arith, low, le)))))) in
-    omega (arith, first, next)
+    (λ q le lt. same_leaf m m' n q (λ i inside. (same i (inr (omega arith))))) in
+    omega arith
 
 -- ---- those within, up to the end of the file
 module _ (m : LogMap) (n size blocks from to : ℕ) (ends : EndsBy m n size) (covers : size ≤ 512 * blocks) where
@@ -49,19 +55,21 @@ module _ (m : LogMap) (n size blocks from to : ℕ) (ends : EndsBy m n size) (co
 
   past_end : (q : ℕ) → end ≤ q → q < leaf_to to → to ≤ 16624 → has_leaf m n q ≡ false
   past_end q le lt low = ⊎_elim
-      (λ (less : blocks < to). empty m n size end ends (inl (omega (arith, less, covers))) q le (omega (arith, lt, low)))
-      (λ (no : to ≤ blocks). absurd (omega (arith, no, le, lt)))
-      (cases_lt blocks to)
+      (λ (less : blocks < to). empty m n size end ends (inl (omega arith)) q le (omega arith))
+      (λ (no : to ≤ blocks). absurd (omega arith)) (cases_lt blocks to)
 
   pub leaves_to_end : from ≤ to → to ≤ 16624 → leaves_in m n (min (leaf_from from) end) end ≡ leaves_in m n (leaf_from from) (leaf_to to)
   leaves_to_end order low = ⊎_elim
       (λ (inside : leaf_from from < end).
-      let first : min (leaf_from from) end ≡ leaf_from from = omega (arith, inside) in
-      let split = leaves_split m n (leaf_from from) end (leaf_to to) (omega (arith, inside)) (omega arith) in
-      let rest = leaves_none m n end (leaf_to to) (λ q le lt. past_end q le lt low) in
-      ap (λ (a : ℕ). leaves_in m n a end) first ∙ omega (arith, split, rest))
+      let first : min (leaf_from from) end ≡ leaf_from from = omega arith in
+      ap (λ (a : ℕ). leaves_in m n a end) first
+      ∙ omega (
+        arith,
+        leaves_split m n (leaf_from from) end (leaf_to to) (omega (arith, inside)) (omega arith),
+        leaves_none m n end (leaf_to to) (λ q le lt. past_end q le lt low),
+      ))
       (λ (past : end ≤ leaf_from from).
-      let none = leaves_none m n (min (leaf_from from) end) end (λ q le lt. absurd (omega (arith, past, le, lt))) in
-      let rest = leaves_none m n (leaf_from from) (leaf_to to) (λ q le lt. past_end q (omega (arith, past, le)) lt low) in
+      let none = leaves_none _ _ _ _ (λ q le lt. absurd (omega arith)) in
+      let rest = leaves_none _ _ _ _ (λ q le lt. past_end _ (omega arith) lt low) in
       none ∙ sym rest)
       (cases_lt (leaf_from from) end)

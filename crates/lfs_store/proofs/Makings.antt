@@ -21,9 +21,8 @@ none_stored m n i is none = by (m.block n i) refl
     by : (b : List ℕ) → m.block n i ≡ b → b ≡ []
     by [] e = refl
     by (x ∷ b) e =
-        let long = ap length e in
-        let there = is.within n i (omega (arith, long)) in
-        let never : None ≡ Some there.0 = sym none ∙ there.1 in
+        let there = is.within n i (omega (arith, ap length e)) in
+        let never : None ≡ Some there.0 = cc in
         absurd (cc)
 
 -- ---- a file is made
@@ -35,23 +34,23 @@ made_object : (m : LogMap) (n : ℕ) (h : entry.Header) → IsLogMap m → m.hea
     → IsForm m.version h.kind h.form → IsObject (with_header m n (Some h)) n h
 made_object m n h is none some few form = record {
   number = some;
-  root = λ e. (let root = is.root in let never : Some root.0 ≡ None = sym root.1 ∙ ap m.header (sym e) ∙ none in absurd (cc));
+  root = λ e. (let root = is.root in let never : Some root.0 ≡ None = cc in absurd (cc));
   form = form;
   size = few;
   whole = record {
     long = λ i has. absurd (nothing i has);
     nonzero = λ i has. absurd (nothing i has);
   };
-  ends = λ p le. ap (λ (b : List ℕ). slice_index b (p % 512)) (none_stored m n (p / 512) is none);
+  ends = λ p le. cc (none_stored _ _ _ is none);
 }
   where
     nothing : (i : ℕ) → HasData m n i → ⊥
-    nothing i has = let e = ap length (none_stored m n i is none) in omega (arith, has, e)
+    nothing i has = omega (arith, ap length (none_stored m n i is none))
 
 pub made_map : (m : LogMap) (n : ℕ) (h : entry.Header) → IsLogMap m → m.header n ≡ None → 1 ≤ n → h.size ≤ 8511488
     → IsForm m.version h.kind h.form → IsLogMap (with_header m n (Some h))
-made_map m n h is none some few form = object_kept m (with_header m n (Some h)) n h is (changed_header m n (Some h))
-    (is_with_header m n {h = Some h}).own (made_object m n h is none some few form)
+made_map m n h is none some few form = object_kept m (with_header m n (Some h)) n h is (changed_header _ _ _)
+    (is_with_header m n {h = Some h}).own (made_object _ _ _ is none some few form)
 
 -- ---- its links
 
@@ -64,14 +63,14 @@ module _ (m : LogMap) (n : ℕ) (h : entry.Header) (links : ℕ) (is : IsLogMap 
   over = with_header m n (Some now)
 
   own : {k : ℕ} → k ≡ n → over.header k ≡ Some now
-  own here = ap over.header here ∙ (is_with_header m n {h = Some now}).own
+  own here = cc (here, (is_with_header m n {h = Some now}).own)
 
   -- what is there has the kind and the size that it had
   was_there : (k : ℕ) (g : entry.Header) → over.header k ≡ Some g
       → (f : entry.Header) × (m.header k ≡ Some f) × (g.kind ≡ f.kind) × (g.size ≡ f.size)
   was_there k g at = ⊎_elim
       (λ (here : k ≡ n).
-      let both : Some now ≡ Some g = sym (own here) ∙ at in
+      let both : Some now ≡ Some g = cc (own here) in
       let same : now ≡ g = cc in
       (h, ap m.header here ∙ there, ap (λ (x : entry.Header). x.kind) (sym same), ap (λ (x : entry.Header). x.size) (sym same)))
       (λ (ne : k ≡ n → ⊥). (g, sym ((is_with_header m n {h = Some now}).others k ne) ∙ at, refl, refl)) (cases_eq k n)
@@ -80,30 +79,28 @@ module _ (m : LogMap) (n : ℕ) (h : entry.Header) (links : ℕ) (is : IsLogMap 
       × (g.kind ≡ f.kind) × (g.size ≡ f.size)
   now_there k {f} at = ⊎_elim
       (λ (here : k ≡ n).
-      let both : Some h ≡ Some f = sym there ∙ sym (ap m.header here) ∙ at in
+      let both : Some h ≡ Some f = cc in
       let same : h ≡ f = cc in
       (now, own here, ap (λ (x : entry.Header). x.kind) same, ap (λ (x : entry.Header). x.size) same))
       (λ (ne : k ≡ n → ⊥). (f, (is_with_header m n {h = Some now}).others k ne ∙ at, refl, refl)) (cases_eq k n)
 
   pub relinked_map : IsLogMap over
   relinked_map = record {
-    none = λ g at. (let was = was_there 0 g at in is.none was.0 was.1);
-    root = (let root = is.root in let now = now_there 1 root.1 in (now.0, now.1, now.2 ∙ root.2));
+    none = λ g at. (let was = was_there _ _ at in is.none was.0 was.1);
+    root = (let root = is.root in let now = now_there _ root.1 in (now.0, now.1, now.2 ∙ root.2));
     within = λ k i has. (
         let was = is.within k i has in
-        let now = now_there k was.1 in
-        let same = now.3 in
-        let low = was.2 in
-        (now.0, now.1, omega (arith, same, low)));
+        let now = now_there _ was.1 in
+        (now.0, now.1, omega arith));
     forms = λ k g at. ⊎_elim
         (λ (here : k ≡ n).
-        let both : Some now ≡ Some g = sym (own here) ∙ at in
+        let both : Some now ≡ Some g = cc (own here) in
         let same : now ≡ g = cc in
-        subst (λ (x : entry.Header). IsForm m.version x.kind x.form) same (is.forms n h there))
-        (λ (ne : k ≡ n → ⊥). is.forms k g (sym ((is_with_header m n {h = Some now}).others k ne) ∙ at)) (cases_eq k n);
+        rw (← same) (is.forms n h there))
+        (λ (ne : k ≡ n → ⊥). is.forms k g (cc ((is_with_header m n {h = Some now}).others k ne))) (cases_eq k n);
     small = is.small;
     nonzero = is.nonzero;
-    past = λ k i o g at le. (let was = was_there k g at in let same = was.3 in is.past k i o was.0 was.1 (omega (arith, same, le)));
+    past = λ k i o g at le. (let was = was_there _ _ at in is.past k i o was.0 was.1 (omega arith));
   }
 
 -- ---- it goes

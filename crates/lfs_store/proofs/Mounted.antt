@@ -10,6 +10,5 @@ use Rattle.lfs_store.specs.Accepting.{IsMountRefusal}
 -- the log isn't there
 pub log_refused : (old new : DeviceState) (f : MountFault) → IsOpenFault old new f → IsMountRefusal old new f
 log_refused old new f =
-    fault_on (old.failures < new.failures) (LacksLog old new)
-    ((m : LogMap) → new.keeps_model → StandsLog old.content m → old.failures < new.failures) (LacksLog old new)
+    fault_on _ _ _ _
     (λ rose m keeps is. rose) (λ lacks. lacks) f

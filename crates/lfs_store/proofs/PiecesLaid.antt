@@ -36,9 +36,9 @@ module _ (a k : ℕ) (xs ys : List ℕ) (room : a + k ≤ length xs) where
 pub written_overlays : (a : ℕ) {k : ℕ} (xs ys : List ℕ) {w : List ℕ} → a + k ≤ length xs → ys ≡ w → length w ≡ k
     → Overlays a w (slice_index xs) (slice_index (put_mid a k xs ys))
 written_overlays a {k} xs ys room same long = record {
-  before = written_before a k xs ys room;
-  inside = λ j lt. written_inside a k xs ys room (ap length same ∙ long) j (omega arith) ∙ ap (λ (zs : List ℕ). get_or zs j 0) same;
-  behind = λ i le. written_behind a k xs ys room (ap length same ∙ long) i (omega arith);
+  before = written_before _ _ _ _ room;
+  inside = λ j lt. written_inside _ _ _ _ room (cc) _ (omega arith) ∙ ap (λ (zs : List ℕ). get_or zs j 0) same;
+  behind = λ i le. written_behind a k xs ys room (cc) i (omega arith);
 }
 
 -- as many elements as there are, or more, are taken either way
@@ -46,7 +46,7 @@ pub take_same : (a b : ℕ) (xs : List ℕ) → min a (length xs) ≡ min b (len
 take_same a b xs same =
     let la = length-take a xs in
     let lb = length-take b xs in
-    same_number_lists (take a xs) (take b xs) (la ∙ same ∙ sym lb)
+    same_number_lists (take a xs) (take b xs) (cc)
     (λ k lt. get_or-take a xs k 0 (omega arith) ∙ sym (get_or-take b xs k 0 (omega arith)))
 
 -- the piece of w in a block has as many bytes as the block has places for it
@@ -66,7 +66,7 @@ pub copied_piece : (at : ℕ) (w : List ℕ) (index skip len : ℕ) → skip ≡
     → take (skip + len - skip) (drop skip w) ≡ piece at w index
 copied_piece at w index skip len place fits =
     let d = length-drop skip w in
-    take_same (skip + len - skip) (512 - place_in_block at index) (drop skip w) (omega arith)
+    take_same _ _ _ (omega arith)
     ∙ ap (λ (k : ℕ). take (512 - place_in_block at index) (drop k w)) place
 
 pub copied_overlays : {block : List ℕ} (new : List ℕ) {w : List ℕ} {at index : ℕ} (skip start stop : ℕ) → length block ≡ 512
@@ -75,13 +75,13 @@ pub copied_overlays : {block : List ℕ} (new : List ℕ) {w : List ℕ} {at ind
     → start < stop → skip ≡ 512 * index - at → new ≡ take (skip + (stop - start) - skip) (drop skip w)
     → BlockOverlays at w index block (put_mid start (stop - start) block new)
 copied_overlays {block} new {w} {at} {index} skip start stop long from to some place copied =
-    let is : new ≡ piece at w index = copied ∙ copied_piece at w index skip (stop - start) place (omega arith) in
+    let is : new ≡ piece at w index = copied ∙ copied_piece _ _ _ _ _ place (omega arith) in
     let l : length (piece at w index) ≡ stop - start = length_piece at w index ∙ (omega arith) in
     record {
-      fits = piece_fits at w index;
+      fits = piece_fits _ _ _;
       laid =
           subst (λ (s : ℕ). Overlays s (piece at w index) (slice_index block) (slice_index (put_mid start (stop - start) block new))) from
-          (written_overlays start block new (omega arith) is l);
+          (written_overlays _ _ _ (omega arith) is l);
     }
 
 -- a block that was filled with zeros from a place on
@@ -99,10 +99,10 @@ module _ (from : ℕ) (block new : List ℕ) (whole : length block ≡ 512) (low
       (λ (inside : k < 512).
       let at : k ≡ from + (k - from) = omega arith in
       ap (λ (p : ℕ). get_or (put_mid from (512 - from) block new) p 0) at
-      ∙ written_inside from (512 - from) block new (omega arith) long (k - from) (omega arith) ∙ zeros (k - from) 0 (omega arith))
+      ∙ written_inside _ _ _ _ (omega arith) long _ (omega arith) ∙ zeros (k - from) 0 (omega arith))
       (λ (past : 512 ≤ k). written_behind from (512 - from) block new (omega arith) long k (omega arith)
       ∙ get_or_past block k 0 (omega arith))
       (cases_lt k 512)
 
   pub filled_tail : CutsTail from block (put_mid from (512 - from) block new)
-  filled_tail = record { before = λ k lt. written_before from (512 - from) block new (omega arith) k lt; zeros = filled_zeros }
+  filled_tail = record { before = λ k lt. written_before _ _ _ _ (omega arith) _ lt; zeros = filled_zeros }

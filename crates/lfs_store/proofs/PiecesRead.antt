@@ -45,8 +45,8 @@ module _ (m : LogMap) (n from to index : ℕ) (out block : List ℕ) (order : fr
       get_or-take (stop - start) (drop start block) j 0 (omega arith)
       ∙ get_or-drop start block j 0
       ∙ holds.bytes (start + j)
-      ∙ ap (λ (i : ℕ). slice_index (m.block n i) (start + j)) (sym block_at)
-      ∙ ap (slice_index (m.block n (p / 512))) (sym place_at)
+      ∙ ap (λ (i : ℕ). slice_index (m.block n i) (start + j)) (cc)
+      ∙ ap (slice_index (m.block n (p / 512))) (cc)
 
   pub gone_on : PartSoFar m n from to (index + 1) (out ++ more)
   gone_on = record {
@@ -58,16 +58,15 @@ module _ (m : LogMap) (n from to index : ℕ) (out block : List ℕ) (order : fr
         ⊎_elim
         (λ (low : j < length out). get_or_append_left out more 0 j low ∙ far.bytes j low)
         (λ (high : length out ≤ j). get_or-append_right out more (length out) j 0 refl high
-        ∙ more_byte (j - length out) (omega arith) (from + j) (omega arith))
-        (cases_lt j (length out));
+        ∙ more_byte _ (omega arith) _ (omega arith)) (cases_lt j (length out));
   }
 
 pub part_goes_on : PartGoesOn
-part_goes_on m n from to index out block order far holds = gone_on m n from to index out block order far holds
+part_goes_on m n from to index out block order far holds = gone_on _ _ _ _ _ _ _ order far holds
 
 -- the blocks below that index have the bytes up to a place
-pub last_block : (to index : ℕ) → div_ceil to 512 ≤ index → to ≤ 512 * index
-last_block to index le = omega arith
+pub last_block : {to index : ℕ} → div_ceil to 512 ≤ index → to ≤ 512 * index
+last_block le = omega arith
 
 pub part_ends : PartEnds
 part_ends m n h from to index out inside all far =

@@ -1,9 +1,9 @@
 -- Blocks that are stored, or aren't where they are zeros alone.
 use Rattle.std.proofs.Common.{◌≡◌, ◌<◌, ⊎_elim, ◌==◌, cond, ℕ, zero, suc, Bool, true, false, List, [], ◌∷◌, length, refl, sym, ◌∙◌, ap}
-use Rattle.std.proofs.Common.{subst, arith, slice_index, eqb-true}
+use Rattle.std.proofs.Common.{Option, arith, slice_index, eqb-true}
 use Rattle.std.proofs.lemmas.Bool.{cases_Bool, and_parts}
-use Rattle.lfs_model.specs.Changing.{IsWithBlock}
-use Rattle.lfs_model.specs.Entry.{Data}
+use Rattle.lfs_model.specs.Changing.{IsWithBlock, IsWithHeader}
+use Rattle.lfs_model.specs.Entry.{Data, Header}
 use Rattle.lfs_model.specs.Objects.{AreStoredWhole, IsChangedAt}
 use Rattle.lfs_model.specs.Stands.{LogMap}
 use Rattle.lfs_cleaner.specs.log.memory.Changing.{is_blank, stored}
@@ -14,7 +14,7 @@ unfolding is_blank
 blank_zero [] on k = refl
 blank_zero (zero ∷ bytes) on zero = refl
 blank_zero (zero ∷ bytes) on (suc k) = blank_zero bytes on k
-blank_zero (suc b ∷ bytes) on k = let z = eqb-true (suc b) 0 (and_parts (suc b == 0) (is_blank bytes) on).0 in absurd (omega (arith, z))
+blank_zero (suc b ∷ bytes) on k = absurd (omega (arith, eqb-true (suc b) 0 (and_parts (suc b == 0) (is_blank bytes) on).0))
 
 some_byte : (bytes : List ℕ) → is_blank bytes ≡ false → (k : ℕ) × (0 < slice_index bytes k)
 unfolding is_blank
@@ -33,13 +33,12 @@ stored_reads bytes k = ⊎_elim
 pub stored_whole : (bytes : List ℕ) → length bytes ≡ 512 → 0 < length (stored bytes)
     → (length (stored bytes) ≡ 512) × ((k : ℕ) × (0 < slice_index (stored bytes) k))
 stored_whole bytes long some = ⊎_elim
-    (λ (on : is_blank bytes ≡ true). let none : length (stored bytes) ≡ 0 = ap (λ (b : Bool). length (cond b [] bytes)) on in
+    (λ (on : is_blank bytes ≡ true). let none : length (stored bytes) ≡ 0 = cc in
     absurd (omega arith))
     (λ (off : is_blank bytes ≡ false).
-    let is : stored bytes ≡ bytes = ap (λ (b : Bool). cond b [] bytes) off in
-    let one = some_byte bytes off in
-    (ap length is ∙ long, (one.0, subst (λ (b : List ℕ). 0 < slice_index b one.0) (sym is) one.1)))
-    (cases_Bool (is_blank bytes))
+    let is : stored bytes ≡ bytes = cc in
+    let one = some_byte _ off in
+    (ap length is ∙ long, (one.0, rw is one.1))) (cases_Bool (is_blank bytes))
 
 -- ---- log maps with another block, and with another header
 module _ {m m' : LogMap} {n i : ℕ} {bytes : List ℕ} (with_it : IsWithBlock m n i bytes m') where
@@ -56,26 +55,30 @@ module _ {m m' : LogMap} {n i : ℕ} {bytes : List ℕ} (with_it : IsWithBlock m
       file : (k l : ℕ) → Data k l ≡ Data n i → k ≡ n
       file k l h = cc
 
+-- a header changes no more than its file
+pub header_apart : {m m' : LogMap} {n : ℕ} {h : Option Header} → IsWithHeader m n h m' → IsChangedAt m n m'
+header_apart with_it = record { headers = with_it.others; blocks = λ k i ne. with_it.block k i; version = with_it.version }
+
 pub changed_twice : {m m' m'' : LogMap} {n : ℕ} → IsChangedAt m n m' → IsChangedAt m' n m'' → IsChangedAt m n m''
 changed_twice first next = record {
   headers = λ k ne. next.headers k ne ∙ first.headers k ne;
   blocks = λ k i ne. next.blocks k i ne ∙ first.blocks k i ne;
-  version = next.version ∙ first.version;
+  version = cc;
 }
 
 pub changed_none : {m : LogMap} {n : ℕ} → IsChangedAt m n m
 changed_none = record { headers = λ k ne. refl; blocks = λ k i ne. refl; version = refl }
 
 -- A file whose blocks are the same is whole.
-pub same_whole : {m : LogMap} (m' : LogMap) {n : ℕ} → ((i : ℕ) → m'.block n i ≡ m.block n i) → AreStoredWhole m n → AreStoredWhole m' n
-same_whole m' same was = record {
-  long = λ i has. ap length (same i) ∙ was.long i (subst (λ (b : List ℕ). 0 < length b) (same i) has);
+pub same_whole : {m : LogMap} {m' : LogMap} {n : ℕ} → ((i : ℕ) → m'.block n i ≡ m.block n i) → AreStoredWhole m n → AreStoredWhole m' n
+same_whole same was = record {
+  long = λ i has. cc (same i, was.long i (rw (← (same i)) has));
   nonzero = λ i has.
-      let one = was.nonzero i (subst (λ (b : List ℕ). 0 < length b) (same i) has) in
-      (one.0, subst (λ (b : List ℕ). 0 < slice_index b one.0) (sym (same i)) one.1);
+      let one = was.nonzero i (rw (← (same i)) has) in
+      (one.0, rw (same i) one.1);
 }
 
 -- ---- what is put is held, and so are the other blocks
 pub held_put : (m m' : LogMap) (n i : ℕ) (new : List ℕ) → length new ≡ 512 → IsWithBlock m n i (stored new) m' → HoldsBlock m' n i new
 held_put m m' n i new long with_it =
-    record { long = long; bytes = λ k. sym (stored_reads new k) ∙ ap (λ (b : List ℕ). slice_index b k) (sym with_it.own) }
+    record { long = long; bytes = λ k. cc (stored_reads _ _) }

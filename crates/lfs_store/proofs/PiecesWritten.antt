@@ -11,7 +11,8 @@ use Rattle.lfs_cleaner.specs.log.memory.Changing.{stored}
 use Rattle.lfs_store.specs.Pieces.{place_in_block, piece, BlockOverlays, Covers, HoldsBlock, IsBeneath, WriteSoFar, WriteBegins}
 use Rattle.lfs_store.specs.Pieces.{WriteGoesOn, WriteHeads, WriteIsDone}
 use Rattle.lfs_store.proofs.PiecesLaid.{length_piece}
-use Rattle.lfs_store.proofs.PiecesStored.{stored_reads, stored_whole, other_block, block_apart, changed_twice, changed_none, same_whole}
+use Rattle.lfs_store.proofs.PiecesStored.{header_apart, stored_reads, stored_whole, other_block, block_apart, changed_twice, changed_none}
+use Rattle.lfs_store.proofs.PiecesStored.{same_whole}
 
 pub write_begins : WriteBegins
 write_begins m n at w = record {
@@ -38,19 +39,17 @@ module _ (m' m'' : LogMap) (n at : ℕ) {index : ℕ} (w old new : List ℕ) (ov
   over_any : Covers at w index → Overlays (512 * index + place_in_block at index) (piece at w index) (byte_in m' n) (byte_in m'' n)
   over_any covers =
       let l = length_piece at w index in
-      let low = covers.0 in
-      let high = covers.1 in
       overlays_by_blocks m' m'' n (512 * index + place_in_block at index) (piece at w index)
-      (λ i k few before. apart i k (λ is. absurd (omega (arith, is, before, low))))
+      (λ i k few before. apart i k (λ is. absurd (omega arith)))
       (λ i k j few lt is. (
-      let place : k ≡ place_in_block at index + j = omega (arith, few, lt, is, low, high, l) in
-      let own : i ≡ index = omega (arith, few, lt, is, low, high, l) in
+      let place : k ≡ place_in_block at index + j = omega arith in
+      let own : i ≡ index = omega arith in
       ap (λ (q : ℕ). slice_index (m''.block n q) k) own ∙ ap (λ (b : List ℕ). slice_index b k) with_it.own ∙ stored_reads new k
       ∙ ap (slice_index new) place ∙ over.laid.inside j lt))
-      (λ i k few behind. apart i k (λ is. absurd (omega (arith, is, few, behind, low, high, l))))
+      (λ i k few behind. apart i k (λ is. absurd (omega arith)))
     where
       apart : (i k : ℕ) → (i ≡ index → ⊥) → slice_index (m''.block n i) k ≡ slice_index (m'.block n i) k
-      apart i k ne = ap (λ (b : List ℕ). slice_index b k) (other_block with_it i ne)
+      apart i k ne = rw (other_block with_it i ne)
 
 module _ (m m' m'' : LogMap) (n at index : ℕ) (w old new : List ℕ) (far : WriteSoFar m m' n at w index)
     (beneath : IsBeneath m' n index at w old) (over : BlockOverlays at w index old new)
@@ -111,7 +110,7 @@ module _ (m m' m'' : LogMap) (n at index : ℕ) (w old new : List ℕ) (far : Wr
 
 pub write_goes_on : WriteGoesOn
 write_goes_on m m' m'' n at index w old new far beneath over long with_it =
-    gone_on m m' m'' n at index w old new far beneath over long with_it
+    gone_on _ m' _ _ _ _ _ old new far beneath over long with_it
 
 pub write_heads : WriteHeads
 write_heads m m' m'' n at index w h far with_it = record {
@@ -119,13 +118,12 @@ write_heads m m' m'' n at index w h far with_it = record {
   inside = λ j lt below. same (at + j) ∙ far.inside j lt below;
   behind = λ p le. same p ∙ far.behind p le;
   rest = λ i le. with_it.block n i ∙ far.rest i le;
-  only = changed_twice far.only
-      record { headers = with_it.others; blocks = λ k i ne. with_it.block k i; version = with_it.version };
-  whole = λ was. same_whole m'' (with_it.block n) (far.whole was);
+  only = changed_twice far.only (header_apart with_it);
+  whole = λ was. same_whole (with_it.block n) (far.whole was);
 }
   where
     same : (p : ℕ) → byte_in m'' n p ≡ byte_in m' n p
-    same p = ap (λ (b : List ℕ). slice_index b (p % 512)) (with_it.block n (p / 512))
+    same p = rw (with_it.block n (p / 512))
 
 pub write_is_done : WriteIsDone
 write_is_done m m' n at index w h h' far all some size = record {

@@ -17,7 +17,7 @@ use Rattle.lfs_cleaner.proofs.of_log.of_memory.Ranges.{passing, passing_none, pa
 -- ---- ranges
 one_or : (b c : Bool) (k : ℕ) → one_if c ≡ min k 1 → one_if (b || c) ≡ min (one_if b + k) 1
 one_or true c k is = omega arith
-one_or false c k is = omega (arith, is)
+one_or false c k is = omega arith
 
 -- whether one passes, by how many do
 any_count : (p : ℕ → Bool) (a n : ℕ) → one_if (list_any p (range_with_len a n)) ≡ min (passing p a n) 1
@@ -33,10 +33,8 @@ up_count p n = sym (length-filter p (range_with_len 0 n))
 shifted : (p : ℕ → Bool) (a n : ℕ) → passing (λ q. p (suc q)) a n ≡ passing p (a + 1) n
 shifted p a zero = refl
 shifted p a (suc n) =
-    let rest = shifted p (a + 1) n in
     let next : suc a ≡ a + 1 = omega arith in
-    let own = ap (λ (q : ℕ). one_if (p q)) next in
-    omega (arith, rest, own, passing_first (λ q. p (suc q)) a n, passing_first p (a + 1) n)
+    omega (arith, shifted p (a + 1) n, ap (λ (q : ℕ). one_if (p q)) next, passing_first (λ q. p (suc q)) a n, passing_first p (a + 1) n)
 
 -- ---- leaves
 module _ (m : LogMap) (n : ℕ) where
@@ -51,7 +49,7 @@ module _ (m : LogMap) (n : ℕ) where
   by_leaves : (single below : ℕ) → one_if (has_leaf m n 0) ≡ single → passing (has_leaf m n) 1 128 ≡ below
       → pointers (stored_blocks m n) ≡ single + below + min below 1
   by_leaves single below first others =
-      let up = up_count (λ q. has_leaf m n (suc q)) 128 ∙ below_count ∙ others in
+      let up = up_count (λ q. has_leaf m n (suc q)) _ ∙ below_count ∙ others in
       let root = double_count ∙ ap (λ (k : ℕ). min k 1) (below_count ∙ others) in
       pointer_count m n ∙ ap₂ (λ (a b : ℕ). a + b) (ap₂ (λ (a b : ℕ). a + b) first up) root
 
@@ -59,9 +57,12 @@ module _ (m : LogMap) (n : ℕ) where
   pointers_of : (all below : ℕ) → all ≡ suc below → below ≡ 128
       → pointers (stored_blocks m n) ≡ passing (has_leaf m n) 0 all + min (passing (has_leaf m n) 1 below) 1
   pointers_of all below next is =
-      let up = by_leaves (one_if (has_leaf m n 0)) (passing (has_leaf m n) 1 below) refl (ap (passing (has_leaf m n) 1) (sym is)) in
-      let first = ap (passing (has_leaf m n) 0) next ∙ passing_first (has_leaf m n) 0 below in
-      omega (arith, up, first)
+      omega (
+        arith,
+        by_leaves (one_if (has_leaf m n 0)) (passing (has_leaf m n) 1 below) refl (cc),
+        ap (passing (has_leaf m n) 0) next ∙
+            passing_first (has_leaf m n) 0 below,
+      )
 
   double_of : (below : ℕ) → below ≡ 128 → one_if (has_double m n) ≡ min (passing (has_leaf m n) 1 below) 1
   double_of below is = double_count ∙ ap (λ (k : ℕ). min k 1) (below_count ∙ ap (passing (has_leaf m n) 1) (sym is))
@@ -77,34 +78,31 @@ module _ (m : LogMap) (n : ℕ) where
   -- ---- ranges of leaves
   pub leaves_none : (a b : ℕ) → ((q : ℕ) → a ≤ q → q < b → has_leaf m n q ≡ false) → leaves_in m n a b ≡ 0
   unfolding leaves_in
-  leaves_none a b none = passing_nothing (has_leaf m n) a (b - a) (λ q le lt. none q le (omega (arith, le, lt)))
+  leaves_none a b none = passing_nothing _ a _ (λ q le lt. none q le (omega arith))
 
   pub leaves_split : (a b c : ℕ) → a ≤ b → b ≤ c → leaves_in m n a c ≡ leaves_in m n a b + leaves_in m n b c
   unfolding leaves_in
-  leaves_split a b c low high = passing_split (has_leaf m n) a (b - a) (c - b) b (c - a) (omega (arith, low)) (omega (arith, low, high))
+  leaves_split a b c low high = passing_split (has_leaf m n) a (b - a) (c - b) b (c - a) (omega arith) (omega arith)
 
   leaves_one : (q : ℕ) → has_leaf m n q ≡ true → leaves_in m n q (q + 1) ≡ 1
   unfolding leaves_in
   leaves_one q on =
       let one : q + 1 - q ≡ 1 = omega arith in
-      let first = passing_first (has_leaf m n) q 0 in
-      let none = passing_none (has_leaf m n) (q + 1) in
-      let own = ap one_if on in
-      ap (passing (has_leaf m n) q) one ∙ omega (arith, first, none, own)
+      ap (passing (has_leaf m n) q) one ∙ omega (arith, passing_first (has_leaf m n) q 0, passing_none (has_leaf m n) (q + 1), ap one_if on)
 
   -- ---- the double root
   pub double_found : (q : ℕ) → 1 ≤ q → q ≤ 128 → has_leaf m n q ≡ true → min (leaves_in m n 1 129) 1 ≡ 1
   double_found q some few on =
-      let low = leaves_split 1 q 129 some (omega (arith, few)) in
-      let high = leaves_split q (q + 1) 129 (omega arith) (omega (arith, few)) in
-      let own = leaves_one q on in
-      omega (arith, low, high, own)
+      omega (
+        arith,
+        leaves_split 1 q 129 some (omega (arith, few)),
+        leaves_split q (q + 1) 129 (omega arith) (omega (arith, few)),
+        leaves_one q on,
+      )
 
   pub double_beside : (a b : ℕ) → 1 ≤ a → a ≤ b → b ≤ 129 → 1 ≤ leaves_in m n a b → min (leaves_in m n 1 129) 1 ≡ 1
   double_beside a b some order few on =
-      let low = leaves_split 1 a 129 some (omega (arith, order, few)) in
-      let high = leaves_split a b 129 order few in
-      omega (arith, low, high, on)
+      omega (arith, leaves_split 1 a 129 some (omega (arith, order, few)), leaves_split a b 129 order few)
 
   -- no leaf from an end on is stored
   module _ (size end : ℕ) (ends : EndsBy m n size) (past : (size ≤ 512 * (112 + 128 * end)) ⊎ (129 ≤ end)) where
@@ -113,29 +111,31 @@ module _ (m : LogMap) (n : ℕ) where
         let has = ((leaf_tests m n).0 q).0 on in
         let there = lt-ltb 0 (length (m.block n (112 + 128 * q + has.0))) has.2 in
         let off = ends (112 + 128 * q + has.0) (⊎_elim
-        (λ (covers : size ≤ 512 * (112 + 128 * end)). omega (arith, covers, le))
-        (λ (all : 129 ≤ end). absurd (omega (arith, all, le, low)))
-        past) in
-        let bad : true ≡ false = sym there ∙ off in
+        (λ (covers : size ≤ 512 * (112 + 128 * end)). omega arith)
+        (λ (all : 129 ≤ end). absurd (omega arith)) past) in
+        let bad : true ≡ false = cc in
         absurd (cc))
 
     pub double_none : leaves_in m n 1 (max end 1) ≡ 0 → end ≤ 129 → min (leaves_in m n 1 129) 1 ≡ 0
     double_none none few =
-        let split = leaves_split 1 (max end 1) 129 (omega arith) (omega (arith, few)) in
-        let rest = leaves_none (max end 1) 129 (λ q le lt. empty q (omega (arith, le)) (omega (arith, lt))) in
-        omega (arith, split, none, rest)
+        omega (
+          arith,
+          leaves_split 1 (max end 1) 129 (omega arith) (omega (arith, few)),
+          leaves_none (max end 1) 129
+              (λ q le lt. empty q (omega (arith, le)) (omega (arith, lt))),
+        )
 
 -- the same leaves are as many
 pub leaves_same : (m m' : LogMap) (n a b : ℕ) → ((q : ℕ) → a ≤ q → q < b → has_leaf m' n q ≡ has_leaf m n q)
     → leaves_in m' n a b ≡ leaves_in m n a b
 unfolding leaves_in
-leaves_same m m' n a b same = passing_same (has_leaf m' n) (has_leaf m n) a (b - a) (λ q le lt. same q le (omega (arith, le, lt)))
+leaves_same m m' n a b same = passing_same _ _ a _ (λ q le lt. same q le (omega arith))
 
 -- as many leaves as the blocks of a size need, or all
 pub leaves_cover : (size : ℕ) {blocks leaves end : ℕ} → blocks ≡ div_ceil size 512 → leaves ≡ div_ceil (blocks - 112) 128
     → end ≡ min leaves 129
     → (size ≤ 512 * (112 + 128 * end)) ⊎ (129 ≤ end)
 leaves_cover size {end} up down few = ⊎_elim
-    (λ (less : end < 129). inl (omega (arith, up, down, few, less)))
+    (λ (less : end < 129). inl (omega arith))
     (λ (all : 129 ≤ end). inr all)
     (cases_lt end 129)

@@ -23,10 +23,10 @@ says_after_loss c n (Some None) left loses = λ m. left.1 m ∙ loses m
 says_after_loss c n (Some (Some h)) left loses = λ m. left.1 m ∙ loses m
 
 -- bytes in a draft, of which it is known whether they are zeros
-pub says_stored : (m : LogMap) (n i : ℕ) (bytes : List ℕ) (blank : Bool) → length bytes ≡ 512 → (IsTrue blank ↔ bytes ≡ zeros 512)
+pub says_stored : (m : LogMap) (n i : ℕ) {bytes : List ℕ} (blank : Bool) → length bytes ≡ 512 → (IsTrue blank ↔ bytes ≡ zeros 512)
     → m.block n i ≡ stored bytes → BlockAnswer m n i bytes (not blank)
-says_stored m n i bytes true long test is = is ∙ stored_none bytes 512 (test.0 refl)
-says_stored m n i bytes false long test is = is ∙ stored_some bytes long (λ e. let bad : false ≡ true = test.1 e in absurd (cc))
+says_stored m n i true long test is = is ∙ stored_none _ 512 (test.0 refl)
+says_stored m n i false long test is = is ∙ stored_some _ long (λ e. let bad : false ≡ true = test.1 e in absurd (cc))
 
 -- ---- what the log answers
 same_header : (m m' : LogMap) (n : ℕ) (found : Option Header) → m'.header n ≡ m.header n → HeaderAnswer m n found → HeaderAnswer m' n found
@@ -41,10 +41,10 @@ same_block m m' n i out false same is = same ∙ is
 module _ {D : Type 0} (state : D → DeviceState) (h h' : LogState D) (c : Changes) (n : ℕ) where
   pub log_header : {E : Type 0} (r : Result (Option Header) E) → SaysHeader c n None → IfOk r (held.ReadsHeader state h h' n)
       → IfOk r (ReadsHeader state h h' c n)
-  log_header (Ok found) left answer = λ k m0 m keeps is. same_header m (staged c m) n found (left m) (answer k m0 m keeps is)
+  log_header (Ok found) left answer = λ k m0 m keeps is. same_header m (staged c m) n _ (left m) (answer k m0 m keeps is)
   log_header (Err e) left answer = tt
 
   pub log_block : {E : Type 0} (i : ℕ) (out : List ℕ) (r : Result Bool E) → ((m : LogMap) → (staged c m).block n i ≡ m.block n i)
       → IfOk r (held.ReadsBlock state h h' n i out) → IfOk r (ReadsBlock state h h' c n i out)
-  log_block i out (Ok found) left answer = λ k m0 m keeps is. same_block m (staged c m) n i out found (left m) (answer k m0 m keeps is)
+  log_block i out (Ok found) left answer = λ k m0 m keeps is. same_block m (staged c m) n i out _ (left m) (answer k m0 m keeps is)
   log_block i out (Err e) left answer = tt

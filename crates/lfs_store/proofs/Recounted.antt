@@ -33,47 +33,46 @@ use Rattle.lfs_store.proofs.Summing.{stored_all, totals_of_change}
 
 empty_list : {X : Type 0} (xs : List X) → length xs ≡ 0 → xs ≡ []
 empty_list [] e = refl
-empty_list (x ∷ xs) e = absurd (omega (arith, e))
+empty_list (x ∷ xs) e = absurd (omega arith)
 
 -- a file without blocks has an inode alone
 inode_alone : (m : LogMap) (n : ℕ) → ((i : ℕ) → is_stored m n i ≡ false) → pointers (stored_blocks m n) ≡ 0
-inode_alone m n none = ap pointers (empty_list (stored_blocks m n) (stored_all m n 16624 ∙ stored_nothing m n 0 16624 (λ i le lt. none i)))
+inode_alone m n none = ap pointers (empty_list _ (stored_all _ _ _ ∙ stored_nothing _ _ _ _ (λ i le lt. none i)))
 
 abbrev meta_by : Option Header → ℕ → ℕ
 meta_by o k = elim o [ None ↦ 0 | Some h ↦ 1 + k ]
 
 pub no_measure : (m : LogMap) (n from to : ℕ) → ((i : ℕ) → is_stored m n i ≡ false) → m.header n ≡ None → HasMeasure m n from to 0 0
 no_measure m n from to none gone = record {
-  stored = sym (stored_nothing m n from to (λ i le lt. none i));
+  stored = sym (stored_nothing _ _ _ _ (λ i le lt. none i));
   above = (
-      let beside = beside_none m n none from to in
-      let meta : meta_of_file m n ≡ 0 = ap (λ (o : Option Header). meta_by o (pointers (stored_blocks m n))) gone in
-      omega (arith, beside, meta));
+      let meta : meta_of_file m n ≡ 0 = cc in
+      omega (arith, beside_none m n none from to));
 }
 
 -- ---- a file is made
-pub made_counts : (a b : LogMap) (n : ℕ) (head : Header) {old : BlockTotals} (new : BlockTotals) → 1 ≤ n → n ≤ 4095
+pub made_counts : (a b : LogMap) (n : ℕ) (head : Header) {old : BlockTotals} {new : BlockTotals} → 1 ≤ n → n ≤ 4095
     → with_header a n (Some head) ≡ b
     → IsLogMap a → a.header n ≡ None
     → Recounts old new (record { data_blocks = 0; meta_blocks = 0 }) (record { data_blocks = 0; meta_blocks = 1 })
     → AreTotals a old → AreTotals b new
-made_counts a b n head {old} new some few is map gone recounts are = subst (λ (x : LogMap). AreTotals x new) is (recounted a n
+made_counts a b n head {old} some few is map gone recounts are = rw (← is) (recounted a n
     (changed_header a n (Some head)) some few (omega arith) (omega arith)
     (λ i out. refl) (no_measure a n 0 0 none gone)
     (record {
       stored = sym (stored_nothing over n 0 0 (λ i le lt. none i));
-      above = (let none = beside_none over n none 0 0 in let one = above in omega (arith, none, one));
+      above = omega (arith, beside_none over n none 0 0, above);
     }) recounts are)
   where
     over : LogMap
     over = with_header a n (Some head)
 
     none : (i : ℕ) → is_stored a n i ≡ false
-    none = nothing_stored n map gone
+    none = nothing_stored _ map gone
 
     above : 1 ≡ meta_of_file over n
     above =
-        ap (λ (k : ℕ). 1 + k) (sym (inode_alone over n none))
+        ap (λ (k : ℕ). 1 + k) (sym (inode_alone _ _ none))
         ∙ ap (λ (o : Option Header). meta_by o (pointers (stored_blocks over n))) (sym (is_with_header a n {h = Some head}).own)
 
 -- ---- a file has other links
@@ -88,23 +87,23 @@ pub relinked_totals : (m : LogMap) (n : ℕ) {h : Header} (h' : Header) (t : Blo
 relinked_totals m n h' t some few there are =
     let law = totals_of_change m (with_header m n (Some h')) n 0 0 (changed_header m n (Some h')) some few (omega arith) (omega arith)
     (λ i out. refl) in
-    let none = stored_nothing m n 0 0 (λ i le lt. absurd (omega (arith, lt))) in
-    let none' = stored_nothing (with_header m n (Some h')) n 0 0 (λ i le lt. absurd (omega (arith, lt))) in
+    let none = stored_nothing m n 0 0 (λ i le lt. absurd (omega arith)) in
+    let none' = stored_nothing (with_header m n (Some h')) n 0 0 (λ i le lt. absurd (omega arith)) in
     let was = ap (λ (o : Option Header). meta_by o (pointers (stored_blocks m n))) there in
     let now =
     ap (λ (o : Option Header). meta_by o (pointers (stored_blocks (with_header m n (Some h')) n))) (is_with_header m n {h = Some h'}).own in
     let same = ap (λ (is : List ℕ). 1 + pointers is) (same_list m n (Some h') 16624) in
     record {
-      stored = are.stored ∙ blocks (data_in m) (data_in (with_header m n (Some h'))) _ _ law.0 none none';
+      stored = cc (blocks (data_in m) (data_in (with_header m n (Some h'))) _ _ law.0 none none');
       above = are.above ∙ others (meta_in m) (meta_in (with_header m n (Some h'))) (meta_of_file m n)
-          (meta_of_file (with_header m n (Some h')) n) law.1 (was ∙ sym same ∙ sym now);
+          (meta_of_file (with_header m n (Some h')) n) law.1 (cc);
     }
   where
     blocks : (a b x y : ℕ) → b + x ≡ a + y → x ≡ 0 → y ≡ 0 → a ≡ b
-    blocks a b x y e none none' = omega (arith, e, none, none')
+    blocks a b x y e none none' = omega arith
 
     others : (a b x y : ℕ) → b + x ≡ a + y → x ≡ y → a ≡ b
-    others a b x y e same = omega (arith, e, same)
+    others a b x y e same = omega arith
 
 module _ {D : Type 0} {state : D → DeviceState} where
   -- ---- a file goes at once
@@ -112,14 +111,13 @@ module _ {D : Type 0} {state : D → DeviceState} where
       → Reads state h a → Measures state h a c n 0 16624 before → Alters state a h' 0 false
       → Recounts old new before (record { data_blocks = 0; meta_blocks = 0 }) → CountsGone state h h' n old new
   gone_counts {c} n {before} {old} {new} some few none first measured alters recounts k m0 m keeps is map map' are =
-      let same = no_change c m none in
+      let same = no_change none in
       let was = measured k m0 m (alters.looks.carries.kept_before keeps) is (subst IsLogMap (sym same) map) in
       let gone = (is_without m n).header in
-      recounted m n (without_changed m n) some few (omega arith) (omega arith)
+      recounted _ _ (without_changed _ _) some few (omega arith) (omega arith)
       (λ i out.
-      ⊎_elim (λ (lt : i < 0). absurd (omega (arith, lt))) (λ (high : 16624 ≤ i). same_high m n i map map' high) out)
-      (subst (λ (x : LogMap). HasMeasure x n 0 16624 before.data_blocks before.meta_blocks) same was)
-      (no_measure (without_file n m) n 0 16624 (nothing_stored n map' gone) gone) recounts are
+      ⊎_elim (λ (lt : i < 0). absurd (omega arith)) (λ (high : 16624 ≤ i). same_high map map' high) out) (rw (← same) was)
+      (no_measure _ _ _ _ (nothing_stored _ map' gone) gone) recounts are
 
   -- a log that was only read
   pub alters_read : (h a : LogState D) → Reads state h a → Alters state h a 0 false
@@ -131,19 +129,19 @@ module _ {D : Type 0} {state : D → DeviceState} where
     halted = reads.halted;
     segments = reads.segments;
     clean = reads.clean;
-    few = let same = reads.waiting in omega (arith, same);
+    few = omega arith;
   }
 
-  alters_more : (h a h' : LogState D) → IsLawful (state h.device) → Reads state h a → Alters state a h' 0 false → Alters state h h' 0 false
-  alters_more h a h' lawful reads alters = record {
+  alters_more : {h a h' : LogState D} → IsLawful (state h.device) → Reads state h a → Alters state a h' 0 false → Alters state h h' 0 false
+  alters_more lawful reads alters = record {
     looks = looks_then lawful reads.looks alters.looks;
-    number = alters.number ∙ reads.number;
-    version = alters.version ∙ reads.version;
-    upgraded = alters.upgraded ∙ reads.upgraded;
-    halted = alters.halted ∙ reads.halted;
-    segments = alters.segments ∙ reads.segments;
-    clean = alters.clean ∙ reads.clean;
-    few = let same = reads.waiting in let few = alters.few in omega (arith, same, few);
+    number = cc;
+    version = cc;
+    upgraded = cc;
+    halted = cc;
+    segments = cc;
+    clean = cc;
+    few = omega arith;
   }
 
   untaken_read : {h a : LogState D} → Reads state h a → AreUntaken h.usage → AreUntaken a.usage
@@ -151,28 +149,28 @@ module _ {D : Type 0} {state : D → DeviceState} where
 
   pub kept_read : {h a : LogState D} → Reads state h a → IsKept state h a
   kept_read {h} {a} reads = record {
-    alters = alters_read h a reads;
+    alters = alters_read _ _ reads;
     saved = reads.saved;
     untaken = untaken_read reads;
-    holds = λ k m0 m keeps is. held_still state reads is;
+    holds = λ k m0 m keeps is. held_still _ reads is;
   }
 
   pub kept_more : {h a h' : LogState D} → IsLawful (state h.device) → Reads state h a → IsKept state a h' → IsKept state h h'
   kept_more {h} {a} {h'} lawful reads kept =
       record {
-        alters = alters_more h a h' lawful reads kept.alters;
-        saved = kept.saved ∙ reads.saved;
+        alters = alters_more lawful reads kept.alters;
+        saved = cc;
         untaken = λ before. kept.untaken (untaken_read reads before);
-        holds = λ k m0 m keeps is. kept.holds k m0 m keeps (held_still state reads is);
+        holds = λ k m0 m keeps is. kept.holds k m0 m keeps (held_still _ reads is);
       }
 
   pub removed_more : {h a h' : LogState D} {n : ℕ} → IsLawful (state h.device) → Reads state h a → IsRemoved state a h' n
       → IsRemoved state h h' n
   removed_more {h} {a} {h'} lawful reads gone =
       record {
-        alters = alters_more h a h' lawful reads gone.alters;
-        unsaved = λ off. gone.unsaved (reads.saved ∙ off);
-        nameless = λ k m0 m keeps is off. gone.nameless k m0 m keeps (held_still state reads is) off ∙ reads.saved;
+        alters = alters_more lawful reads gone.alters;
+        unsaved = λ off. gone.unsaved (cc);
+        nameless = λ k m0 m keeps is off. cc (gone.nameless k m0 m keeps (held_still _ reads is) off);
         untaken = λ before. gone.untaken (untaken_read reads before);
-        holds = λ k m0 m keeps is. gone.holds k m0 m keeps (held_still state reads is);
+        holds = λ k m0 m keeps is. gone.holds k m0 m keeps (held_still _ reads is);
       }

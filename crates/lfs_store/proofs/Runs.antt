@@ -19,42 +19,41 @@ none_behind n i zero es none = none
 none_behind n i (suc p) [] none = none
 none_behind n i (suc p) (e ∷ es) none = none_behind n i p es none.1
 
-pub placed_again : (old new : Changes) {n i p : ℕ} → LastBlock old.blocks.items n i p → PlacesBlock old new n i
-placed_again old new {n} {i} {p} last none =
-    absurd ((subst (NoBlock n i) last.there (none_behind n i p old.blocks.items none)).0 last.block)
+pub placed_again : {old new : Changes} {n i p : ℕ} → LastBlock old.blocks.items n i p → PlacesBlock old new n i
+placed_again {n} {i} {p} last none =
+    absurd ((subst (NoBlock n i) last.there (none_behind _ _ _ _ none)).0 last.block)
 
-pub placed_behind : (old new : Changes) (n i : ℕ) (bytes : List ℕ) → batch.AddsBlockEdit old new n i bytes → PlacesBlock old new n i
-placed_behind old new n i bytes put none = record { edit = put.edit; block = (put.number, put.index); blocks = put.blocks }
+pub placed_behind : {old new : Changes} (n i : ℕ) {bytes : List ℕ} → batch.AddsBlockEdit old new n i bytes → PlacesBlock old new n i
+placed_behind n i put none = record { edit = put.edit; block = (put.number, put.index); blocks = put.blocks }
 
 -- ---- runs
 run_order : (n from to : ℕ) (es : List BlockEdit) → IsRun n from to es → from ≤ to
-run_order n from to [] run = let e : from ≡ to = run in omega (arith, e)
-run_order n from to (e ∷ es) run = let rest = run_order n (from + 1) to es run.1 in omega (arith, rest)
+run_order n from to [] run = let e : from ≡ to = run in omega arith
+run_order n from to (e ∷ es) run = omega (arith, run_order n (from + 1) to es run.1)
 
 run_long : (n from to : ℕ) (es : List BlockEdit) → IsRun n from to es → from + length es ≡ to
-run_long n from to [] run = let e : from ≡ to = run in omega (arith, e)
-run_long n from to (e ∷ es) run = let rest = run_long n (from + 1) to es run.1 in omega (arith, rest)
+run_long n from to [] run = let e : from ≡ to = run in omega arith
+run_long n from to (e ∷ es) run = omega (arith, run_long n (from + 1) to es run.1)
 
 run_none : (n from to : ℕ) (es : List BlockEdit) → IsRun n from to es → NoBlock n to es
 run_none n from to [] run = tt
 run_none n from to (e ∷ es) run =
-    let order = run_order n (from + 1) to es run.1 in
     let at : e.index ≡ from = run.0.1 in
-    (λ is. (let other : e.index ≡ to = is.1 in omega (arith, other, at, order)), run_none n (from + 1) to es run.1)
+    (λ is. (let other : e.index ≡ to = is.1 in omega (arith, run_order n (from + 1) to es run.1)), run_none n (from + 1) to es run.1)
 
 run_more : (n from to : ℕ) (es : List BlockEdit) (e : BlockEdit) → IsRun n from to es → IsBlock n to e
     → IsRun n from (to + 1) (es ++ e ∷ [])
 run_more n from to [] e run is =
     let same : from ≡ to = run in
-    (subst (λ (i : ℕ). IsBlock n i e) (sym same) is, ap (λ (i : ℕ). i + 1) same)
+    (rw same is, ap (λ (i : ℕ). i + 1) same)
 run_more n from to (f ∷ es) e run is = (run.0, run_more n (from + 1) to es e run.1 is)
 
 -- a run goes on where the next block is put
-pub run_goes_on : (c c' : Changes) (n from to : ℕ) → IsRun n from to c.blocks.items → PlacesBlock c c' n to
+pub run_goes_on : (c : Changes) {c' : Changes} (n from to : ℕ) → IsRun n from to c.blocks.items → PlacesBlock c c' n to
     → IsRun n from (to + 1) c'.blocks.items
-run_goes_on c c' n from to run places =
-    let put = places (run_none n from to c.blocks.items run) in
-    subst (IsRun n from (to + 1)) (sym put.blocks) (run_more n from to c.blocks.items put.edit run put.block)
+run_goes_on c n from to run places =
+    let put = places (run_none _ _ _ _ run) in
+    rw put.blocks (run_more _ _ _ _ _ run put.block)
 
 -- ---- the blocks above
 row_low : (i : ℕ) → i < 112 → row_of i ≡ 0
@@ -66,106 +65,85 @@ row_high i high = cond-false (nat_lt i 112) 0 (1 + (i - 112) / 128) (le-ltb i 11
 -- a later block has no earlier one above it
 row_up : (i j : ℕ) → i ≤ j → row_of i ≤ row_of j
 row_up i j le = ⊎_elim
-    (λ (low : i < 112). let a = row_low i low in omega (arith, a))
+    (λ (low : i < 112). omega (arith, row_low _ low))
     (λ (high : 112 ≤ i).
-    let a = row_high i high in
-    let b = row_high j (omega (arith, high, le)) in
-    omega (arith, a, b, le))
-    (cases_lt i 112)
+    omega (arith, row_high i high, row_high j (omega (arith, high, le)))) (cases_lt i 112)
 
 -- and one that is 128 blocks later at most has the next above it at most
 row_near : (i j : ℕ) → j ≤ i + 128 → row_of j ≤ row_of i + 1
 row_near i j near = ⊎_elim
-    (λ (low : j < 112). let b = row_low j low in omega (arith, b))
+    (λ (low : j < 112). omega (arith, row_low _ low))
     (λ (high : 112 ≤ j).
-    let b = row_high j high in
+    let b = row_high _ high in
     ⊎_elim
-    (λ (l : i < 112). let a = row_low i l in omega (arith, a, b, near, l, high))
-    (λ (h : 112 ≤ i). let a = row_high i h in omega (arith, a, b, near, h, high))
-    (cases_lt i 112))
-    (cases_lt j 112)
+    (λ (l : i < 112). omega (arith, row_low _ l))
+    (λ (h : 112 ≤ i). omega (arith, row_high _ h)) (cases_lt i 112)) (cases_lt j 112)
 
 beside : (n i j : ℕ) (a b : BlockEdit) → IsBlock n i a → IsBlock n j b → row_of i ≡ row_of j → is_beside a b ≡ true
 beside n i j a b is is' rows =
-    let file : a.number ≡ b.number = is.0 ∙ sym is'.0 in
-    let above : row_of a.index ≡ row_of b.index = ap row_of is.1 ∙ rows ∙ sym (ap row_of is'.1) in
+    let file : a.number ≡ b.number = cc in
+    let above : row_of a.index ≡ row_of b.index = cc in
     ap₂ (λ (x y : Bool). x && y) (eq-eqb a.number b.number file) (eq-eqb (row_of a.index) (row_of b.index) above)
 
 way_beside : (n i : ℕ) (a b : BlockEdit) → IsBlock n i a → IsBlock n (i + 1) b → way_from (Some a) b ≤ 3 * (row_of (i + 1) - row_of i)
 way_beside n i a b is is' = ⊎_elim
-    (λ (up : row_of i < row_of (i + 1)). let most = way_most (Some a) b in omega (arith, most, up))
+    (λ (up : row_of i < row_of (i + 1)). omega (arith, way_most (Some a) b))
     (λ (down : row_of (i + 1) ≤ row_of i).
-    let order = row_up i (i + 1) (omega arith) in
     let none : way_from (Some a) b ≡ 0 =
-    ap (λ (t : Bool). cond {A = ℕ} t 0 3) (beside n i (i + 1) a b is is' (omega (arith, down, order))) in
-    omega (arith, none))
-    (cases_lt (row_of i) (row_of (i + 1)))
+    cc (beside n i (i + 1) a b is is' (omega (arith, row_up i (i + 1) (omega arith)))) in
+    omega arith) (cases_lt (row_of i) (row_of (i + 1)))
 
 ways_behind : (n i to : ℕ) (a : BlockEdit) (es : List BlockEdit) → IsBlock n i a → IsRun n (i + 1) to es
     → ways_from (Some a) es ≤ 3 * (row_of (to - 1) - row_of i)
 ways_behind n i to a [] is run = let le : 0 ≤ 3 * (row_of (to - 1) - row_of i) = omega arith in le
 ways_behind n i to a (e ∷ es) is run =
-    let one = way_beside n i a e is run.0 in
-    let rest = ways_behind n (i + 1) to e es run.0 run.1 in
-    let order = run_order n (i + 1 + 1) to es run.1 in
-    let first = row_up i (i + 1) (omega arith) in
-    let last = row_up (i + 1) (to - 1) (omega (arith, order)) in
-    omega (arith, one, rest, first, last)
+    omega (
+      arith,
+      way_beside n i a e is run.0,
+      ways_behind n (i + 1) to e es run.0 run.1,
+      row_up i (i + 1) (omega arith),
+      row_up (i + 1)
+          (to - 1) (omega (arith, run_order n (i + 1 + 1) to es run.1)),
+    )
 
 pub ways_run : (n from to : ℕ) (es : List BlockEdit) → to ≤ from + 129 → IsRun n from to es → ways es ≤ 6
 ways_run n from to [] few run = let le : 0 ≤ 6 = omega arith in le
 ways_run n from to (e ∷ es) few run =
-    let rest = ways_behind n from to e es run.0 run.1 in
-    let near = row_near from (to - 1) (omega (arith, few)) in
-    omega (arith, rest, near)
+    omega (arith, ways_behind n from to e es run.0 run.1, row_near from (to - 1) (omega (arith, few)))
 
 -- ---- a write into an empty draft
 pub written_room : (c : Changes) {c' c'' : Changes} {n : ℕ} (from to : ℕ) {head : Header} → IsNoChange c → c'.headers ≡ c.headers
     → IsRun n from to c'.blocks.items → to ≤ from + 129 → PutsHeader c' c'' n head
     → room_for c'' ≤ 144
 written_room c {c'} {c''} {n} from to none headers run few puts =
-    let a = ap length none.headers in
-    let b = ap length (ap (λ v. v.items) headers) in
-    let x = puts.few in
     let same = ap (λ v. v.items) puts.blocks in
-    let long = run_long n from to c'.blocks.items run in
-    let longer = ap length same in
     let most : ways c''.blocks.items ≤ 6 =
-    subst (λ (es : List BlockEdit). ways es ≤ 6) (sym same) (ways_run n from to c'.blocks.items few run) in
-    omega (arith, a, b, x, long, longer, few, most)
+    subst (λ (es : List BlockEdit). ways es ≤ 6) (sym same) (ways_run _ _ _ _ few run) in
+    omega (arith, ap length none.headers, ap length (ap (λ v. v.items) headers), run_long _ _ _ _ run, ap length same)
 
 -- as long as 65,536 bytes are, at most
 pub blocks_few : (at len : ℕ) → len ≤ 65536 → div_ceil (at + len) 512 ≤ at / 512 + 129
-blocks_few at len few = omega (arith, few)
+blocks_few at len few = omega arith
 
 -- ---- as long as a full directory of form 1 is, at most
 
 -- a block that is 256 blocks later at most has the second next above it at most
 row_far : (i j : ℕ) → j ≤ i + 256 → row_of j ≤ row_of i + 2
 row_far i j near =
-    let half = row_near i (i + 128) (omega arith) in
-    let rest = row_near (i + 128) (i + 256) (omega arith) in
-    let up = row_up j (i + 256) near in
-    omega (arith, half, rest, up)
+    omega (arith, row_near i (i + 128) (omega arith), row_near (i + 128) (i + 256) (omega arith), row_up j (i + 256) near)
 
 ways_far : (n from to : ℕ) (es : List BlockEdit) → to ≤ from + 257 → IsRun n from to es → ways es ≤ 9
 ways_far n from to [] few run = let le : 0 ≤ 9 = omega arith in le
 ways_far n from to (e ∷ es) few run =
-    let rest = ways_behind n from to e es run.0 run.1 in
-    let near = row_far from (to - 1) (omega (arith, few)) in
-    omega (arith, rest, near)
+    omega (arith, ways_behind n from to e es run.0 run.1, row_far from (to - 1) (omega (arith, few)))
 
-pub lone_room : (c c' c'' : Changes) (n from to : ℕ) (head : Header) → length c.headers.items ≤ 1 → c'.headers ≡ c.headers
+pub lone_room : (c c' c'' : Changes) (n from to : ℕ) {head : Header} → length c.headers.items ≤ 1 → c'.headers ≡ c.headers
     → IsRun n from to c'.blocks.items → to ≤ from + 257 → PutsHeader c' c'' n head → room_for c'' ≤ 274
-lone_room c c' c'' n from to head one headers run few puts =
-    let b = ap length (ap (λ v. v.items) headers) in
-    let x = puts.few in
+lone_room c c' c'' n from to one headers run few puts =
     let same = ap (λ v. v.items) puts.blocks in
-    let long = run_long n from to c'.blocks.items run in
-    let longer = ap length same in
     let most : ways c''.blocks.items ≤ 9 =
-    subst (λ (es : List BlockEdit). ways es ≤ 9) (sym same) (ways_far n from to c'.blocks.items few run) in
-    omega (arith, one, b, x, long, longer, few, most)
+    subst (λ (es : List BlockEdit). ways es ≤ 9) (sym same) (ways_far _ _ _ _ few run) in
+    omega (arith, ap length (ap (λ v. v.items) headers), run_long _ _ _ _ run, ap length same)
 
 pub blocks_most : (at len : ℕ) → len ≤ 131072 → div_ceil (at + len) 512 ≤ at / 512 + 257
-blocks_most at len few = omega (arith, few)
+blocks_most at len few = omega arith

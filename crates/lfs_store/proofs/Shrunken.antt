@@ -30,7 +30,7 @@ use Rattle.lfs_files.specs.Files.{Shrinks}
 use Rattle.lfs_files.specs.Headers.{resized}
 use Rattle.lfs_store.proofs.Cuttings.{sized}
 use Rattle.lfs_store.proofs.PiecesCut.{cut_between, cut_inside}
-use Rattle.lfs_store.proofs.PiecesStored.{block_apart, changed_none, changed_twice, other_block, stored_reads, stored_whole}
+use Rattle.lfs_store.proofs.PiecesStored.{header_apart, block_apart, changed_none, changed_twice, other_block, stored_reads, stored_whole}
 use Rattle.lfs_store.proofs.Writings.{block_put, block_read, header_put, still_has, takes_header}
 
 -- ---- the last block ends at a length
@@ -39,37 +39,34 @@ use Rattle.lfs_store.proofs.Writings.{block_put, block_read, header_put, still_h
 none_stored : (new : List ℕ) → length new ≡ 512 → ((k : ℕ) → slice_index new k ≡ 0) → stored new ≡ []
 none_stored new long each = ⊎_elim
     (λ (some : 0 < length (stored new)).
-    let one = (stored_whole new long some).1 in
-    let none : slice_index (stored new) one.0 ≡ 0 = stored_reads new one.0 ∙ each one.0 in
-    let more = one.1 in
-    absurd (omega (arith, none, more)))
-    (λ (empty : length (stored new) ≤ 0). nil_from_length (stored new) (omega (arith, empty)))
-    (cases_lt 0 (length (stored new)))
+    let one = (stored_whole _ long some).1 in
+    let none : slice_index (stored new) one.0 ≡ 0 = stored_reads _ _ ∙ each one.0 in
+    absurd (omega arith))
+    (λ (empty : length (stored new) ≤ 0). nil_from_length (stored new) (omega arith)) (cases_lt 0 (length (stored new)))
 
 module _ {a b : LogMap} (n len : ℕ) (old new : List ℕ) (none : HasNoneBehind a n len) (holds : HoldsBlock a n (len / 512) old)
     (cuts : CutsTail (len % 512) old new) (long : length new ≡ 512)
     (with_it : IsWithBlock a n (len / 512) (stored new) b) where
   before : CutSoFar a a n (len / 512 + 1)
-  before = record { below = λ i lt. refl; gone = λ i le. none i (omega (arith, le)); only = changed_none; whole = λ was. was }
+  before = record { below = λ i lt. refl; gone = λ i le. none i (omega arith); only = changed_none; whole = λ was. was }
 
   others : (i : ℕ) → (i ≡ len / 512 → ⊥) → b.block n i ≡ a.block n i
   others = other_block with_it
 
   whole_gone : len % 512 ≡ 0 → CutSoFar a b n (len / 512)
   whole_gone even = record {
-    below = λ i lt. others i (λ e. absurd (omega (arith, e, lt)));
+    below = λ i lt. others _ (λ e. absurd (omega arith));
     gone = λ i le. ⊎_elim
-        (λ (here : i ≡ len / 512). ap (b.block n) here ∙ with_it.own ∙ none_stored new long (λ k. cuts.zeros k (omega (arith, even))))
-        (λ (ne : i ≡ len / 512 → ⊥). others i ne ∙ none i (omega (arith, le, ne)))
-        (cases_eq i (len / 512));
+        (λ (here : i ≡ len / 512). ap (b.block n) here ∙ with_it.own ∙ none_stored _ long (λ k. cuts.zeros k (omega arith)))
+        (λ (ne : i ≡ len / 512 → ⊥). others _ ne ∙ none i (omega arith)) (cases_eq i (len / 512));
     only = block_apart with_it;
-    whole = λ was. block_whole a b n (len / 512) (stored new) with_it was (stored_whole new long);
+    whole = λ was. block_whole a b n (len / 512) (stored new) with_it was (stored_whole _ long);
   }
 
   tail_cut : CutBlocks a b n len
   tail_cut = ⊎_elim
       (λ (odd : 0 < len % 512). cut_inside a a b n len old new odd before holds cuts long with_it)
-      (λ (even : len % 512 ≤ 0). let none_left : len % 512 ≡ 0 = omega (arith, even) in
+      (λ (even : len % 512 ≤ 0). let none_left : len % 512 ≡ 0 = omega arith in
       cut_between a b n len none_left (whole_gone none_left))
       (cases_lt 0 (len % 512))
 
@@ -78,28 +75,27 @@ none_behind : (a : LogMap) (n : ℕ) (head : Header) (len : ℕ) → head.size �
     → a.header n ≡ Some (as_header head) → HasNoneBehind a n len
 none_behind a n head len last map there i lt =
     (lengthened a a n (as_header head) (as_header (resized head (512 * (len / 512) + 512))) map there (512 * (len / 512) + 512) last refl
-    (λ j. refl)).gone i (omega (arith, lt))
+    (λ j. refl)).gone i (omega arith)
 
 module _ {D : Type 0} (state : D → DeviceState) where
-  pub clears_tail : {h h' : LogState D} {c c' : Changes} {n len : ℕ} {old new : List ℕ} (found : Bool) → length old ≡ 512 → length new ≡ 512
+  pub clears_tail : {h h' : LogState D} {c c' : Changes} {n len : ℕ} {old new : List ℕ} {found : Bool} → length old ≡ 512 → length new ≡ 512
       → (IsFalse found → old ≡ zeros 512)
       → ReadsBlock state h h' c n (len / 512) old found → CutsTail (len % 512) old new → PutsBlock c c' n (len / 512) new
       → ClearsTail state h h' c c' n len
-  clears_tail {c} {c'} {n} {len} {old} {new} found long stays blank answer cuts puts = record {
+  clears_tail {c} {c'} {n} {len} {old} {new} long stays blank answer cuts puts = record {
     loss = puts.loss;
     headers = puts.headers;
     blocks = puts.few;
-    header = λ m. ap (λ (a : LogMap). a.header n) (puts.map m);
+    header = λ m. cc (puts.map m);
     only = λ m. block_apart (with_it m);
     others = λ m. other_block (with_it m);
     fits = puts.fits;
     file = λ k m0 m keeps holds none.
-        tail_cut n len old new none
-        (block_read (staged c m) n (len / 512) found long blank (answer k m0 m keeps holds)) cuts stays (with_it m);
+        tail_cut _ _ old new none (block_read _ _ _ _ long blank (answer k m0 m keeps holds)) cuts stays (with_it m);
   }
     where
       with_it : (m : LogMap) → IsWithBlock (staged c m) n (len / 512) (stored new) (staged c' m)
-      with_it m = block_put (staged c m) n (len / 512) (stored new) (puts.map m)
+      with_it m = block_put (puts.map m)
 
   -- ---- and its header says so
   module _ (a b c : Store D) (n : ℕ) (head : Header) (len : ℕ) (log : c.log ≡ b.log) (reads : Reads state a.log b.log)
@@ -109,47 +105,38 @@ module _ {D : Type 0} (state : D → DeviceState) where
     with_it m = header_put (staged b.draft.changes m) n (resized head len) (puts.map m)
 
     has_now : (m m' : LogMap) → HasMap state a.log a.draft.changes m m' → HasMap state c.log c.draft.changes m (staged c.draft.changes m)
-    has_now m m' has = still_has state a c (subst (Reads state a.log) (sym log) reads) has
+    has_now m m' has = still_has a c (rw log reads) has
 
     -- no more than the file changes, in that block
     pub shrinks_only : ChangesOnly (files_of state a) (files_of state c) n (len / 512) (len / 512 + 1)
     shrinks_only m m' has = record {
       map = staged c.draft.changes m;
       has = has_now m m' has;
-      only = subst (λ (x : LogMap). IsChangedAt x n (staged c.draft.changes m)) (sym has.draft)
-          (changed_twice {m'' = staged c.draft.changes m} (clears.only m) record {
-            headers = (with_it m).others;
-            blocks = λ k i ne. (with_it m).block k i;
-            version = (with_it m).version;
-          });
+      only = rw has.draft (changed_twice {m'' = staged c.draft.changes m} (clears.only m) (header_apart (with_it m)));
       around = λ i lt out. (with_it m).block n i ∙ clears.others m i (λ here. ⊎_elim
-          (λ (low : i < len / 512). absurd (omega (arith, here, low)))
-          (λ (high : len / 512 + 1 ≤ i). absurd (omega (arith, here, high)))
-          out) ∙ ap (λ (x : LogMap). x.block n i) (sym has.draft);
+          (λ (low : i < len / 512). absurd (omega arith))
+          (λ (high : len / 512 + 1 ≤ i). absurd (omega arith)) out) ∙ ap (λ (x : LogMap). x.block n i) (sym has.draft);
     }
 
     pub shrinks : len < head.size → head.size ≤ 512 * (len / 512) + 512
         → Shrinks (files_of state a) (files_of state c) n head len
     shrinks less last = record {
-      lost = λ y. ap (λ (x : Loss). is_lost x y) (puts.loss ∙ clears.loss);
-      headers = let more = puts.few in let same = ap length (ap (λ v. v.items) clears.headers) in omega (arith, more, same);
-      blocks = let more = clears.blocks in let same = ap length (ap (λ v. v.items) puts.blocks) in omega (arith, more, same);
+      lost = λ y. cc;
+      headers = omega (arith, ap length (ap (λ v. v.items) clears.headers));
+      blocks = omega (arith, ap length (ap (λ v. v.items) puts.blocks));
       fits = λ m m' has fit takes. (
           let there = ap (λ (x : LogMap). x.header n) (sym has.draft) ∙ takes.there in
           puts.fits m (clears.fits m fit record {
             there = (as_header head, there);
             apart = takes.apart.above (len / 512);
-            within = λ none. (let low = takes.within none in omega (arith, low));
-          })
-          (takes_header b.draft.changes m n head (resized head len) (clears.header m ∙ there) refl
-          (ap (λ (x : Loss). is_lost x (Inode n)) clears.loss ∙ takes.apart.inode) takes.header));
+            within = λ none. omega (arith, takes.within none);
+          }) (takes_header (clears.header m ∙ there) refl (cc) takes.header));
       has = λ m m' keeps has. record {
         map = staged c.draft.changes m;
-        has = has_now m m' has;
+        has = has_now _ _ has;
         header = (with_it m).own;
-        file = λ there. sized m' n head less (subst (λ (x : LogMap). CutBlocks x (staged b.draft.changes m) n len) (sym has.draft)
-            (clears.file has.checkpoint has.acknowledged m (subst (λ (h : LogState D). (state h.device).keeps_model) log keeps) has.holds
-            (subst (λ (x : LogMap). HasNoneBehind x n len) has.draft (none_behind m' n head len last there.map there.there))))
-            (puts.map m);
+        file = λ there. sized _ _ _ less (rw has.draft
+            (clears.file has.checkpoint has.acknowledged m (rw (← log) keeps) has.holds
+            (rw (← has.draft) (none_behind _ _ _ _ last there.map there.there)))) (puts.map m);
       };
     }

@@ -54,18 +54,18 @@ module _ {D : Type 0} (state : D → DeviceState) (a b : Store D) where
     saved = reads.saved;
     staged = same_staged reads;
     draft = same;
-    totals = ap counted_of reads.totals;
-    drafted = ap counted_of is.drafted;
-    headers = ap (λ (x : Draft). length x.changes.headers.items) same;
-    blocks = ap (λ (x : Draft). length x.changes.blocks.items) same;
-    asked = ap (λ (x : Draft). room_for x.changes) same;
+    totals = cc;
+    drafted = cc;
+    headers = cc;
+    blocks = cc;
+    asked = cc;
     empty = subst (λ (x : Draft). IsNoChange x.changes) (sym same);
-    lost = λ y. ap (λ (x : Draft). is_lost x.changes.loss y) same;
+    lost = λ y. cc;
     has = λ m m' has. record {
       checkpoint = has.checkpoint;
       acknowledged = has.acknowledged;
-      holds = held_still state reads has.holds;
-      draft = has.draft ∙ ap (λ (x : Draft). staged x.changes m) (sym same);
+      holds = held_still _ reads has.holds;
+      draft = cc;
     };
     fits = λ m. subst (λ (x : Draft). FitsBatch m x.changes) (sym same);
   }
@@ -75,25 +75,23 @@ module _ {D : Type 0} (state : D → DeviceState) (a b : Store D) where
 
   pub seen_header : (n : ℕ) (found : Option Header) → ReadsHeader state a.log b.log a.draft.changes n found → files.TellsHeader S S' n found
   seen_header n found answer m m' keeps is =
-      subst (λ (x : LogMap). HeaderAnswer x n found) (sym is.draft) (answer is.checkpoint is.acknowledged m keeps is.holds)
+      rw is.draft (answer is.checkpoint is.acknowledged m keeps is.holds)
 
-  seen_block : (n i : ℕ) (out : List ℕ) (stored : Bool) → length out ≡ 512 → (IsFalse stored → out ≡ zeros 512)
+  seen_block : (n i : ℕ) {out : List ℕ} {stored : Bool} → length out ≡ 512 → (IsFalse stored → out ≡ zeros 512)
       → ReadsBlock state a.log b.log a.draft.changes n i out stored → files.TellsBlock S S' n i out
-  seen_block n i out stored long blank answer m m' keeps is =
-      subst (λ (x : LogMap). HoldsBlock x n i out) (sym is.draft)
-      (block_read (staged a.draft.changes m) n i stored long blank (answer is.checkpoint is.acknowledged m keeps is.holds))
+  seen_block n i long blank answer m m' keeps is =
+      rw is.draft (block_read _ _ _ _ long blank (answer is.checkpoint is.acknowledged m keeps is.holds))
 
   pub seen_block_then : {E : Type 0} (n i : ℕ) (out : List ℕ) (r : Result Bool E) → length out ≡ 512
       → IfOk r (λ stored. IsFalse stored → out ≡ zeros 512)
       → IfOk r (ReadsBlock state a.log b.log a.draft.changes n i out) → OnOk r (files.TellsBlock S S' n i out)
-  seen_block_then n i out (Ok stored) long blank answer = seen_block n i out stored long blank answer
+  seen_block_then n i out (Ok stored) long blank answer = seen_block _ _ long blank answer
   seen_block_then n i out (Err e) long blank answer = record {}
 
   pub seen_part : (n from to : ℕ) (bytes : List ℕ) → ReadsPart state a.log b.log a.draft.changes n from to bytes
       → files.TellsPart S S' n from to bytes
   seen_part n from to bytes answer m m' keeps is head few =
-      subst (λ (x : LogMap). bytes ≡ part (object x n head) from (to - from)) (sym is.draft)
-      (answer is.checkpoint is.acknowledged m keeps is.holds head few)
+      rw is.draft (answer is.checkpoint is.acknowledged m keeps is.holds head few)
 
   -- ---- changing the draft
   pub seen_redraft : held.Reads state a.log b.log → files.Redrafts S S'
@@ -102,5 +100,5 @@ module _ {D : Type 0} (state : D → DeviceState) (a b : Store D) where
     halted = reads.halted;
     saved = reads.saved;
     staged = same_staged reads;
-    totals = ap counted_of reads.totals;
+    totals = cc;
   }

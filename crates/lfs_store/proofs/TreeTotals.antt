@@ -39,9 +39,7 @@ module _ (m : LogMap) (f : Node → ℕ) (w : ℕ → ℕ) where
     first : (count a : ℕ) → total (nodes_from m (suc count) a) ≡ w a + total (nodes_from m count (a + 1))
     unfolding nodes_from
     first count a =
-        let own = each a in
-        let one = one_more a (node_of m a (m.header a)) (nodes_from m count (a + 1)) in
-        omega (arith, own, one)
+        omega (arith, each a, one_more a (node_of m a (m.header a)) (nodes_from m count (a + 1)))
 
     none : (a : ℕ) → total (nodes_from m 0 a) ≡ 0
     unfolding nodes_from
@@ -50,27 +48,20 @@ module _ (m : LogMap) (f : Node → ℕ) (w : ℕ → ℕ) where
     nodes_sum : (count b : ℕ) → total (nodes_from m count (b + 1)) + sum_upto w b ≡ sum_upto w (b + count)
     nodes_sum zero b =
         let same : b ≡ b + 0 = omega arith in
-        let e = ap (sum_upto w) same in
-        omega (arith, none (b + 1), e)
+        omega (arith, none (b + 1), ap (sum_upto w) same)
     nodes_sum (suc count) b =
-        let rest = nodes_sum count (b + 1) in
         let next : b + 1 ≡ suc b = omega arith in
         let last : b + 1 + count ≡ b + suc count = omega arith in
-        let up = ap (sum_upto w) next ∙ sum_more w b in
-        let own = ap w next in
-        let end = ap (sum_upto w) last in
-        omega (arith, rest, up, own, end, first count (b + 1))
+        omega (arith, nodes_sum count (b + 1), ap (sum_upto w) next ∙ sum_more w b, ap w next, ap (sum_upto w) last, first count (b + 1))
 
     all_nodes : (many : ℕ) → total (nodes_from m many 1) ≡ sum_upto w many
     all_nodes many =
-        let all = nodes_sum many 0 in
         let same : 0 + many ≡ many = omega arith in
-        let end = ap (sum_upto w) same in
-        omega (arith, all, end, sum_none w)
+        omega (arith, nodes_sum many 0, ap (sum_upto w) same, sum_none w)
 
     tree_sum : total (tree_in m) ≡ sum_upto w 4095
     unfolding tree_in
-    tree_sum = all_nodes 4095
+    tree_sum = all_nodes _
 
 -- ---- what a number adds
 module _ (m : LogMap) (is : IsLogMap m) (long : (n : ℕ) → AreLong m n)
@@ -78,17 +69,16 @@ module _ (m : LogMap) (is : IsLogMap m) (long : (n : ℕ) → AreLong m n)
   costs : (n : ℕ) (h : Header) → m.header n ≡ Some h → HasCosts (node_by m h.kind n h) (stored_blocks m n)
   costs n h at = object_costs m n h is (long n) at (formed n h at)
 
-  data_each : (n : ℕ) (o : Option Header) → m.header n ≡ o → weighs m data_of (data_of_file m) (node_of m n o) ≡ data_of_file m n
-  data_each n None at = sym (stored_all m n 16624 ∙ stored_nothing m n 0 16624 (λ i le lt. nothing_stored n is at i))
-  data_each n (Some h) at = (costs n h at).blocks
+  data_each : {n : ℕ} (o : Option Header) → m.header n ≡ o → weighs m data_of (data_of_file m) (node_of m n o) ≡ data_of_file m n
+  data_each None at = sym (stored_all _ _ _ ∙ stored_nothing _ _ _ _ (λ i le lt. nothing_stored _ is at _))
+  data_each (Some h) at = (costs _ _ at).blocks
 
   meta_each : (n : ℕ) (o : Option Header) → m.header n ≡ o → weighs m meta_of (meta_of_file m) (node_of m n o) ≡ meta_of_file m n
-  meta_each n None at = sym (ap (λ (o : Option Header). elim o [ None ↦ 0 | Some h ↦ 1 + pointers (stored_blocks m n) ]) at)
-  meta_each n (Some h) at = (costs n h at).above
-      ∙ sym (ap (λ (o : Option Header). elim o [ None ↦ 0 | Some h ↦ 1 + pointers (stored_blocks m n) ]) at)
+  meta_each n None at = cc
+  meta_each n (Some h) at = cc ((costs _ _ at).above, at)
 
 pub totals_of_tree : TotalsOfTree
 totals_of_tree m is long formed = (
-  tree_sum m data_of (data_of_file m) (λ n. data_each m is long formed n (m.header n) refl),
-  tree_sum m meta_of (meta_of_file m) (λ n. meta_each m is long formed n (m.header n) refl),
+  tree_sum _ _ _ (λ n. data_each _ is long formed _ refl),
+  tree_sum _ _ _ (λ n. meta_each m is long formed n _ refl),
 )

@@ -19,8 +19,8 @@ pub upgrades : {c : Changes} {d : Draft} → IsNoChange c → d.changes.headers 
 upgrades none headers blocks only = record {
   map = only.map;
   fits = λ m. only.fits m tt;
-  headers = ap (λ v. v.items) headers ∙ none.headers;
-  blocks = ap (λ v. v.items) blocks ∙ none.blocks;
+  headers = cc;
+  blocks = cc;
 }
 
 -- ---- the totals
@@ -29,12 +29,12 @@ unfolding stored_below
 raised_list m n end = refl
 
 data_raised : (m : LogMap) → data_in (raised true m) ≡ data_in m
-data_raised m = ap (λ (f : ℕ → ℕ). sum_upto f 4095) (fun_ext (λ n. ap length (raised_list m n 16624)))
+data_raised m = ap (λ (f : ℕ → ℕ). sum_upto f 4095) (fun_ext (λ n. ap length (raised_list _ _ _)))
 
 meta_raised : (m : LogMap) → meta_in (raised true m) ≡ meta_in m
 meta_raised m = ap (λ (f : ℕ → ℕ). sum_upto f 4095)
-    (fun_ext (λ n. ap (λ (is : List ℕ). elim (m.header n) [ None ↦ 0 | Some h ↦ 1 + pointers is ]) (raised_list m n 16624)))
+    (fun_ext (λ n. ap (λ (is : List ℕ). elim (m.header n) [ None ↦ 0 | Some h ↦ 1 + pointers is ]) (raised_list _ _ _)))
 
 pub counts_upgraded : {d : Draft} → DraftsUpgrade d → CountsUpgraded d
 counts_upgraded is m t are = subst (λ (x : LogMap). AreTotals x t)
-    (sym (is.map m)) record { stored = are.stored ∙ sym (data_raised m); above = are.above ∙ sym (meta_raised m) }
+    (sym (is.map m)) record { stored = cc (data_raised _); above = cc (meta_raised _) }

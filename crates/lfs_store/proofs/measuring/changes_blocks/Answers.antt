@@ -7,6 +7,5 @@ use Rattle.lfs_store.proofs.measuring.changes_blocks.Goals as goal
 
 pub returns-in-None : goal.returns-in-None
 returns-in-None c off =
-    leaves_blocks c.args.draft.now.changes c.args.number.value c.args.from c.args.to (c.takes_before.ensures off)
-    (subst (λ (es : List BlockEdit). AllByRecursion (IsOff c.args.number.value c.args.from c.args.to) es) c.deref.ensures.value
-    c.in-None.ensures.none)
+    leaves_blocks c.args.draft.now.changes _ (c.takes_before.ensures off)
+    (rw (← c.deref.ensures.value) c.in-None.ensures.none)

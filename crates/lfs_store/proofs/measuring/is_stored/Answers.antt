@@ -5,7 +5,7 @@ use Rattle.lfs_store.proofs.measuring.is_stored.Goals as goal
 
 pub returns-in-Some-clause-reads : goal.returns-in-Some-clause-reads
 returns-in-Some-clause-reads g c =
-    looked_done g.D.SectorDevice.state (reads_none g.D.SectorDevice.state c.args.log.now)
+    looked_done (reads_none _ _)
 
 pub returns-in-None-clause-reads : goal.returns-in-None-clause-reads
 returns-in-None-clause-reads g c =
@@ -13,5 +13,5 @@ returns-in-None-clause-reads g c =
 
 pub returns-in-None-clause-answer : goal.returns-in-None-clause-answer
 returns-in-None-clause-answer g c =
-    log_stored g.D.SectorDevice.state c.args.log.now c.has_block.new.self c.args.draft.now.changes c.args.number.value c.args.index
-    c.has_block.result c.in-None.ensures c.has_block.ensures.answer
+    log_stored g.D.SectorDevice.state c.args.log.now c.has_block.new.self c.args.draft.now.changes _
+    _ c.in-None.ensures c.has_block.ensures.answer

@@ -5,7 +5,7 @@ use Rattle.lfs_store.proofs.reading.read_block.Goals as goal
 
 pub returns-in-Some-clause-reads : goal.returns-in-Some-clause-reads
 returns-in-Some-clause-reads g c =
-    looked_done g.D.SectorDevice.state (reads_none g.D.SectorDevice.state c.args.log.now)
+    looked_done (reads_none _ _)
 
 pub returns-in-Some-clause-answer : goal.returns-in-Some-clause-answer
 returns-in-Some-clause-answer g c k m0 m keeps is = c.in-Some.ensures.says m
@@ -16,5 +16,5 @@ returns-in-None-clause-reads g c =
 
 pub returns-in-None-clause-answer : goal.returns-in-None-clause-answer
 returns-in-None-clause-answer g c =
-    log_block g.D.SectorDevice.state c.args.log.now c.block-in-None.new.self c.args.draft.now.changes c.args.number.value c.args.index
-    c.block-in-None.new.out c.block-in-None.result c.in-None.ensures.says c.block-in-None.ensures.answer
+    log_block g.D.SectorDevice.state c.args.log.now c.block-in-None.new.self c.args.draft.now.changes _ _
+    c.block-in-None.new.out _ c.in-None.ensures.says c.block-in-None.ensures.answer

@@ -8,23 +8,18 @@ use Rattle.lfs_store.proofs.draft.Draft.put_block.Goals as goal
 
 pub returns-in_default-clause-done : goal.returns-in_default-clause-done
 returns-in_default-clause-done c =
-    ok_then c.put_block.result _ _
-    (λ put. block_appended c.args.self.now.changes c.put_block.new.self c.args.number.value c.args.index c.args.bytes.now put
-    c.put_block.ensures.headers c.put_block.ensures.loss) c.put_block.ensures.done
+    ok_then _ _ _
+    (λ put. block_appended _ _ put c.put_block.ensures.headers c.put_block.ensures.loss) c.put_block.ensures.done
 
 pub returns-clause-done : goal.returns-clause-done
 returns-clause-done c =
-    block_replaced _ _
-    (subst (λ (es : List BlockEdit). LastBlock es c.args.number.value c.args.index c.in-Some.place) c.deref.ensures.value c.in-Some.ensures)
-    (refl, refl) refl refl refl
+    block_replaced _ (rw (← c.deref.ensures.value) c.in-Some.ensures) (refl, refl) refl refl refl
 
 pub returns-in_default-clause-placed : goal.returns-in_default-clause-placed
 returns-in_default-clause-placed c =
-    ok_then c.put_block.result _ _
-    (λ put. placed_behind c.args.self.now.changes c.put_block.new.self c.args.number.value c.args.index c.args.bytes.now put)
-    c.put_block.ensures.done
+    ok_then _ _ _
+    (λ put. placed_behind _ _ put) c.put_block.ensures.done
 
 pub returns-clause-placed : goal.returns-clause-placed
 returns-clause-placed c =
-    placed_again c.args.self.now.changes _
-    (subst (λ (es : List BlockEdit). LastBlock es c.args.number.value c.args.index c.in-Some.place) c.deref.ensures.value c.in-Some.ensures)
+    placed_again (rw c.deref.ensures.value at c.in-Some.ensures)

@@ -7,12 +7,9 @@ use Rattle.lfs_store.proofs.draft.Draft.put_header.Goals as goal
 
 pub returns-in_default-clause-done : goal.returns-in_default-clause-done
 returns-in_default-clause-done c =
-    ok_then c.put_header.result _ _
-    (λ put. header_appended c.args.self.now.changes c.put_header.new.self c.args.number.value c.args.header put c.put_header.ensures.blocks
-    c.put_header.ensures.loss) c.put_header.ensures.done
+    ok_then _ _ _
+    (λ put. header_appended _ _ put c.put_header.ensures.blocks c.put_header.ensures.loss) c.put_header.ensures.done
 
 pub returns-clause-done : goal.returns-clause-done
 returns-clause-done c =
-    header_replaced _ _
-    (subst (λ (es : List HeaderEdit). LastHeader es c.args.number.value c.in-Some.place) c.deref.ensures.value c.in-Some.ensures) refl refl
-    refl refl
+    header_replaced _ _ (rw (← c.deref.ensures.value) c.in-Some.ensures) refl refl refl refl

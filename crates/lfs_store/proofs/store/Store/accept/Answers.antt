@@ -5,7 +5,5 @@ use Rattle.lfs_store.proofs.store.Store.accept.Goals as goal
 
 pub returns-clause-accepts : goal.returns-clause-accepts
 returns-clause-accepts g c =
-    let state = g.D.SectorDevice.state in
     let outcome = c.stage_draft-outcome.result in
-    subst (λ (h : LogState g.row.D.Denot). Accepted state c.args.self.now h outcome) (sym c.give_up.ensures.keeps.log)
-    c.stage_draft-outcome.ensures.accepts
+    rw c.give_up.ensures.keeps.log c.stage_draft-outcome.ensures.accepts

@@ -4,8 +4,7 @@ use Rattle.lfs_store.proofs.store.Store.clean_once.Goals as goal
 
 pub returns-clause-cleans : goal.returns-clause-cleans
 returns-clause-cleans g c =
-    cleaned g.D.SectorDevice.state c.clean_once.ensures.totals
-    (ok_then c.clean_once.result _ _ (λ cleans. cleans.makes) c.clean_once.ensures.done)
+    cleaned c.clean_once.ensures.totals (ok_then c.clean_once.result _ _ (λ cleans. cleans.makes) c.clean_once.ensures.done)
     c.clean_once.ensures.full c.clean_once.ensures.device c.clean_once.ensures.halted c.clean_once.ensures.still c.clean_once.ensures.quiet
 
 pub returns-clause-once : goal.returns-clause-once

@@ -2,21 +2,18 @@ use Rattle.std.proofs.Common.{◌/◌, subst}
 use Rattle.lfs_store.specs.declared.draft.Draft.{Draft}
 use Rattle.lfs_store.specs.Drafting.{PutsBlock}
 use Rattle.lfs_store.proofs.Shrunken.{clears_tail}
+use Rattle.lfs_store.proofs.Keepings.{uncounted_reads}
 use Rattle.lfs_store.proofs.store.Store.clear_tail.Goals as goal
 
 pub returns-clause-done : goal.returns-clause-done
 returns-clause-done g c =
-    clears_tail g.D.SectorDevice.state c.in-Ok.field-0 c.block.array_long c.cut_tail.array_long c.in-Ok.ensures.zeros
-    c.in-Ok.ensures.answer c.cut_tail.ensures
-    (subst (λ (d : Draft). PutsBlock d.changes c.put_block.new.self.changes c.args.number.value (c.args.len / 512) c.cut_tail.new.block)
-    c.block.ensures.reads.draft c.in-Ok-put_block.ensures.done)
+    clears_tail _ c.block.array_long c.cut_tail.array_long c.in-Ok.ensures.zeros c.in-Ok.ensures.answer c.cut_tail.ensures
+    (rw (← c.block.ensures.reads.draft) c.in-Ok-put_block.ensures.done)
 
 pub returns-in-Err-clause-redrafts : goal.returns-in-Err-clause-redrafts
 returns-in-Err-clause-redrafts g c =
-    let reads = c.block.ensures.reads in
-    record { reads = reads.log; drafted = reads.drafted }
+    uncounted_reads c.block.ensures.reads
 
 pub returns-clause-redrafts : goal.returns-clause-redrafts
 returns-clause-redrafts g c =
-    let reads = c.block.ensures.reads in
-    record { reads = reads.log; drafted = reads.drafted }
+    record { reads = c.block.ensures.reads.log; drafted = c.block.ensures.reads.drafted }

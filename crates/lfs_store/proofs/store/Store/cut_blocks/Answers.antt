@@ -9,18 +9,16 @@ use Rattle.lfs_store.proofs.store.Store.cut_blocks.Goals as goal
 
 pub returns-then-len-eq0-clause-done : goal.returns-then-len-eq0-clause-done
 returns-then-len-eq0-clause-done g c =
-    cuts_even g.D.SectorDevice.state (search rules) c.lose_blocks.ensures.draft
+    cuts_even (search rules) c.lose_blocks.ensures.draft
 
 pub returns-clause-failed : goal.returns-clause-failed
 returns-clause-failed g c =
-    subst (λ (log : LogState _). IfErr c.cut_last.result (λ (fault : StoreFault). (fault ≡ NoMemory → ⊥)
-    → IsReadFault g.D.SectorDevice.state log c.cut_last.new.self.log)) c.lose_blocks.ensures.keeps.log c.cut_last.ensures.failed
+    rw (← c.lose_blocks.ensures.keeps.log) c.cut_last.ensures.failed
 
 pub returns-then-len-eq0-clause-redrafts : goal.returns-then-len-eq0-clause-redrafts
 returns-then-len-eq0-clause-redrafts g c =
-    drafts_uncounted g.D.SectorDevice.state c.lose_blocks.ensures.keeps
+    drafts_uncounted c.lose_blocks.ensures.keeps
 
 pub returns-clause-redrafts : goal.returns-clause-redrafts
 returns-clause-redrafts g c =
-    uncounted_then g.D.SectorDevice.state (g.met.D.SectorDevice.lawful c.args.self.now.log.device)
-    (drafts_uncounted g.D.SectorDevice.state c.lose_blocks.ensures.keeps) c.cut_last.ensures.redrafts
+    uncounted_then (g.met.D.SectorDevice.lawful _) (drafts_uncounted c.lose_blocks.ensures.keeps) c.cut_last.ensures.redrafts

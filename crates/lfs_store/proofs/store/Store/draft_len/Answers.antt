@@ -7,21 +7,19 @@ use Rattle.lfs_store.proofs.store.Store.draft_len.Goals as goal
 pub returns-then-header-len-clause-done : goal.returns-then-header-len-clause-done
 returns-then-header-len-clause-done g c =
     let state = g.D.SectorDevice.state in
-    ok_then c.resize.result _ _
-    (sets_longer state c.args.self.now c.resize.new.self c.args.number.value c.args.header c.args.len c.requires.empty (search rules)
-    (drafts_uncounted state c.resize.ensures.keeps).reads) c.resize.ensures.done
+    ok_then _ _ _ (sets_longer _ _ _ _ _ c.requires.empty (search rules)
+    (drafts_uncounted {state = state} c.resize.ensures.keeps).reads) c.resize.ensures.done
 
 pub returns-clause-done : goal.returns-clause-done
 returns-clause-done g c =
-    ok_then c.resize-2.result _ _
-    (sets_shorter g.D.SectorDevice.state c.args.self.now c.resize-2.new.self c.args.number.value c.args.header c.args.len c.requires.empty
+    ok_then _ _ _ (sets_shorter _ _ _ _ _ c.requires.empty
     c.cut_blocks.new.self c.resize-2.ensures.keeps.log (search rules) c.cut_blocks.ensures.redrafts.reads c.in_ok-cut_blocks.ensures.done)
     c.resize-2.ensures.done
 
 pub returns-then-header-len-clause-redrafts : goal.returns-then-header-len-clause-redrafts
 returns-then-header-len-clause-redrafts g c =
-    drafts_uncounted g.D.SectorDevice.state c.resize.ensures.keeps
+    drafts_uncounted c.resize.ensures.keeps
 
 pub returns-clause-redrafts : goal.returns-clause-redrafts
 returns-clause-redrafts g c =
-    uncounted_drafts g.D.SectorDevice.state c.cut_blocks.ensures.redrafts c.resize-2.ensures.keeps
+    uncounted_drafts c.cut_blocks.ensures.redrafts c.resize-2.ensures.keeps

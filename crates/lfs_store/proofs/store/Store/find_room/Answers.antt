@@ -5,42 +5,38 @@ use Rattle.lfs_store.specs.Outcomes.{RoomMade}
 use Rattle.lfs_cleaner.proofs.RoomBounds.{halts_first}
 use Rattle.lfs_store.proofs.Acceptings.{readies_none}
 use Rattle.lfs_store.proofs.EarlyRoom.{readies_then}
-use Rattle.lfs_store.proofs.Endings.{made_committed, made_none, made_ready, made_then, same_exit}
+use Rattle.lfs_store.proofs.Endings.{exit_is, made_committed, made_none, made_ready, made_then}
 use Rattle.lfs_store.proofs.store.Store.find_room.Goals as goal
 
 pub returns-then-has_room-clause-makes : goal.returns-then-has_room-clause-makes
 returns-then-has_room-clause-makes g c =
-    made_none g.D.SectorDevice.state (g.met.D.SectorDevice.lawful c.args.self.now.log.device) c.requires
+    made_none (g.met.D.SectorDevice.lawful _) c.requires
 
 pub returns-then-has_room-clause-ready : goal.returns-then-has_room-clause-ready
 returns-then-has_room-clause-ready g c =
-    readies_none g.D.SectorDevice.state (g.met.D.SectorDevice.lawful c.args.self.now.log.device) c.requires
+    readies_none (g.met.D.SectorDevice.lawful _) c.requires
 
 pub returns-in_err-write_early-clause-makes : goal.returns-in_err-write_early-clause-makes
 returns-in_err-write_early-clause-makes g c =
-    same_exit c.from_residual.result c.in_err-write_early.field-0.0
-    (λ (r : Result Unit LogFault). RoomMade g.D.SectorDevice.state c.args.self.now c.write_early.new.self r) c.from_residual.ensures
-    (record {
+    rw (exit_is c.from_residual.ensures) (record {
       keeps = c.write_early.ensures.keeps;
       done = tt;
       full = λ e. absurd (c.in_err-write_early.ensures.full e);
       device = λ e. absurd (c.in_err-write_early.ensures.other e);
-      halted = λ e ne. halts_first g.D.SectorDevice.state {a = c.args.self.now.log} {b = c.write_early.new.self.log}
-          (c.in_err-write_early.ensures.halted e);
+      halted = λ e ne. halts_first _ {a = c.args.self.now.log} {b = c.write_early.new.self.log} (c.in_err-write_early.ensures.halted e);
     })
 
 pub returns-then-has_room-2-clause-makes : goal.returns-then-has_room-2-clause-makes
 returns-then-has_room-2-clause-makes g c =
-    made_ready g.D.SectorDevice.state c.write_early.ensures.keeps c.in_ok-write_early.ensures.done
+    made_ready c.write_early.ensures.keeps c.in_ok-write_early.ensures.done
 
 pub returns-clause-makes : goal.returns-clause-makes
 returns-clause-makes g c =
-    made_then g.D.SectorDevice.state c.write_early.ensures.keeps c.in_ok-write_early.ensures.done
-    (made_committed g.D.SectorDevice.state c.commit.result
-    (g.met.D.SectorDevice.lawful c.write_early.new.self.log.device) c.in_ok-write_early.ensures.early.running c.commit.ensures)
+    made_then c.write_early.ensures.keeps c.in_ok-write_early.ensures.done
+    (made_committed _ (g.met.D.SectorDevice.lawful _) c.in_ok-write_early.ensures.early.running c.commit.ensures)
 
 pub returns-clause-ready : goal.returns-clause-ready
 returns-clause-ready g c =
     ok_then c.commit.result _ _
     (λ ready.
-    readies_then g.D.SectorDevice.state c.in_ok-write_early.ensures.done ready) c.commit.ensures.ready
+    readies_then _ c.in_ok-write_early.ensures.done ready) c.commit.ensures.ready

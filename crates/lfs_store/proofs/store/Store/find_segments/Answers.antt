@@ -10,11 +10,10 @@ returns-in-Ok-clause-makes g c =
     let room = c.in-Ok.ensures.cleans.room in
     record {
       keeps = room.keeps;
-      done = where_ok c.check_segments.result _ room.done;
+      done = where_ok _ _ room.done;
       full = λ e. record {
         makes = room.done;
-        never = cannot_lack g.D.SectorDevice.state
-            (g.met.D.SectorDevice.lawful c.clean.new.self.log.device) room.done c.in-Ok.ensures.enough (c.check_segments.ensures.lacks e);
+        never = cannot_lack (g.met.D.SectorDevice.lawful _) room.done c.in-Ok.ensures.enough (c.check_segments.ensures.lacks e);
       };
       device = λ e. absurd (c.check_segments.ensures.device e);
       halted = λ e. absurd (c.check_segments.ensures.halted e);
@@ -25,7 +24,7 @@ returns-in-Err-Full-clause-makes g c =
     let room = c.in-Err-Full.ensures.cleans.room in
     record {
       keeps = room.keeps;
-      done = where_ok c.check_segments-in-Err-Full.result _ (room.full (search rules)).makes;
+      done = where_ok _ _ (room.full (search rules)).makes;
       full = λ e. room.full (search rules);
       device = λ e. absurd (c.check_segments-in-Err-Full.ensures.device e);
       halted = λ e. absurd (c.check_segments-in-Err-Full.ensures.halted e);
@@ -34,11 +33,9 @@ returns-in-Err-Full-clause-makes g c =
 pub returns-in-Err-Device-clause-makes : goal.returns-in-Err-Device-clause-makes
 returns-in-Err-Device-clause-makes g c =
     let is : c.in-Err-Device.field-0 ≡ Device = search rules in
-    subst (λ (fault : LogFault). RoomMade g.D.SectorDevice.state c.args.self.now c.clean.new.self (Err fault)) is
-    c.in-Err-Device.ensures.cleans.room
+    rw (← is) c.in-Err-Device.ensures.cleans.room
 
 pub returns-in-Err-Halted-clause-makes : goal.returns-in-Err-Halted-clause-makes
 returns-in-Err-Halted-clause-makes g c =
     let is : c.in-Err-Halted.field-0 ≡ Halted = search rules in
-    subst (λ (fault : LogFault). RoomMade g.D.SectorDevice.state c.args.self.now c.clean.new.self (Err fault)) is
-    c.in-Err-Halted.ensures.cleans.room
+    rw (← is) c.in-Err-Halted.ensures.cleans.room

@@ -4,12 +4,8 @@ use Rattle.lfs_store.proofs.store.Store.make.Goals as goal
 
 pub returns-clause-done : goal.returns-clause-done
 returns-clause-done g c =
-    makes g.D.SectorDevice.state c.args.self.now c.put_header.new.self c.recounted-self.result c.args.number.value
-    (first_header c.args.kind c.args.form c.args.size) c.args.number.some c.requires.most
-    (rw c.first_links.ensures at c.in-Ok.ensures.done)
+    makes _ _ _ _ _ _ c.args.number.some c.requires.most (rw c.first_links.ensures at c.in-Ok.ensures.done)
 
 pub returns-clause-counted : goal.returns-clause-counted
 returns-clause-counted g c =
-    counts_made g.D.SectorDevice.state c.args.self.now c.put_header.new.self c.recounted-self.result c.args.number.value
-    (first_header c.args.kind c.args.form c.args.size) c.args.number.some c.args.number.few
-    (rw c.first_links.ensures at c.in-Ok.ensures.done) c.recounted-self.ensures
+    counts_made _ _ _ _ _ c.args.number.some c.args.number.few (rw c.first_links.ensures at c.in-Ok.ensures.done) c.recounted-self.ensures

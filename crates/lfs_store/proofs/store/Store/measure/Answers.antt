@@ -4,7 +4,7 @@ use Rattle.lfs_cleaner.specs.log.LogState.{IsReadFault}
 use Rattle.lfs_cleaner.specs.log.memory.files.declared.header.Header.{Header}
 use Rattle.lfs_files.specs.declared.fault.LogFault.{LogFault}
 use Rattle.lfs_store.specs.declared.totals.Measure.{Measure}
-use Rattle.lfs_store.proofs.Endings.{same_exit}
+use Rattle.lfs_store.proofs.Endings.{exit_is}
 use Rattle.lfs_store.specs.declared.draft.Draft.{Draft}
 use Rattle.lfs_store.specs.Measuring.{CountsStored, CountsPointers}
 use Rattle.lfs_store.specs.Reading.{ReadsHeader}
@@ -14,31 +14,24 @@ use Rattle.lfs_store.proofs.store.Store.measure.Goals as goal
 
 pub returns-in-Ok-None-clause-answer : goal.returns-in-Ok-None-clause-answer
 returns-in-Ok-None-clause-answer g c =
-    absent g.D.SectorDevice.state c.args.self.now.draft.changes c.args.number.value c.args.self.now.log c.header.new.self.log c.args.from
-    c.args.to
+    absent _ c.args.self.now.draft.changes _ _ c.header.new.self.log _ _
     (subst (λ (o : Option Header). ReadsHeader g.D.SectorDevice.state c.args.self.now.log c.header.new.self.log
     c.args.self.now.draft.changes c.args.number.value o) c.in-Ok-None.field-0-is c.in-Ok-None.ensures.answer)
 
 pub returns-in_err-data_blocks-clause-failed : goal.returns-in_err-data_blocks-clause-failed
 returns-in_err-data_blocks-clause-failed g c =
-    same_exit c.from_residual.result c.in_err-data_blocks.field-0.0
-    (λ (r : Result Measure LogFault). OnErr r (IsReadFault g.D.SectorDevice.state c.args.self.now.log c.count_stored.new.log))
-    c.from_residual.ensures (fault_more g.D.SectorDevice.state c.count_stored.new.log
+    rw (exit_is c.from_residual.ensures) (fault_more _ c.count_stored.new.log
     c.header.ensures.reads.log c.in_err-data_blocks.ensures.reads.failed)
 
 pub returns-in_err-pointers-clause-failed : goal.returns-in_err-pointers-clause-failed
 returns-in_err-pointers-clause-failed g c =
-    same_exit c.from_residual-in_err-pointers.result c.in_err-pointers.field-0.0
-    (λ (r : Result Measure LogFault). OnErr r (IsReadFault g.D.SectorDevice.state c.args.self.now.log c.count_pointers.new.log))
-    c.from_residual-in_err-pointers.ensures (fault_more g.D.SectorDevice.state c.count_pointers.new.log (reads_more g.D.SectorDevice.state
-    (g.met.D.SectorDevice.lawful c.args.self.now.log.device) c.header.ensures.reads.log c.count_stored.ensures.reads.reads)
-    c.in_err-pointers.ensures.reads.failed)
+    rw (exit_is c.from_residual-in_err-pointers.ensures) (fault_more _ c.count_pointers.new.log (reads_more _
+    (g.met.D.SectorDevice.lawful _) c.header.ensures.reads.log c.count_stored.ensures.reads.reads) c.in_err-pointers.ensures.reads.failed)
 
 pub returns-clause-answer : goal.returns-clause-answer
 returns-clause-answer g c =
     let state = g.D.SectorDevice.state in
-    let up = c.div_ceil.ensures in
-    let covers : c.in-Ok-Some.header.size ≤ 512 * c.div_ceil.result = omega (arith, up) in
+    let covers : c.in-Ok-Some.header.size ≤ 512 * c.div_ceil.result = omega arith in
     let answer = subst (λ (o : Option Header). ReadsHeader state c.args.self.now.log c.header.new.self.log c.args.self.now.draft.changes
     c.args.number.value o) c.in-Ok-Some.field-0-is c.in-Ok-Some.ensures.answer in
     let told =
@@ -46,15 +39,11 @@ returns-clause-answer g c =
     c.min.result c.min-end.result c.in_ok-data_blocks.data_blocks) c.header.ensures.reads.draft c.in_ok-data_blocks.ensures.answer in
     let counted =
     subst (λ (end : ℕ). CountsStored state c.header.new.self.log c.count_stored.new.log c.args.self.now.draft.changes
-    c.args.number.value (min c.args.from end) end c.in_ok-data_blocks.data_blocks) c.min-end.ensures
-    (subst (λ (start : ℕ).
-    CountsStored state c.header.new.self.log c.count_stored.new.log c.args.self.now.draft.changes c.args.number.value
-    start c.min-end.result c.in_ok-data_blocks.data_blocks) c.min.ensures told) in
+    c.args.number.value (min c.args.from end) end c.in_ok-data_blocks.data_blocks) c.min-end.ensures (rw (← c.min.ensures) told) in
     let below = subst (λ (d : Draft).
     CountsPointers state c.count_stored.new.log c.count_pointers.new.log d.changes c.args.number.value
     c.in-Ok-Some.header.size c.args.from c.args.to c.in_ok-pointers.pointers)
     c.header.ensures.reads.draft c.in_ok-pointers.ensures.answer in
-    measured state c.args.self.now.draft.changes c.args.number.value c.in-Ok-Some.header c.div_ceil.result c.args.from c.args.to
-    c.in_ok-data_blocks.data_blocks c.in_ok-pointers.pointers c.header.ensures.reads.log c.count_stored.ensures.reads.reads
+    measured _ c.args.self.now.draft.changes _ _ _ _ _ _ _ c.header.ensures.reads.log c.count_stored.ensures.reads.reads
     c.count_pointers.ensures.reads.reads covers
     c.requires.order answer counted below

@@ -6,5 +6,4 @@ returns-clause-stores g c = c.in-Ok-open.ensures.opened.holds
 
 pub returns-in-Err-clause-cause : goal.returns-in-Err-clause-cause
 returns-in-Err-clause-cause g c other =
-    log_refused (g.D.SectorDevice.state c.args.device) (g.D.SectorDevice.state c.in-Err.fault.1) c.in-Err.fault.0
-    (c.in-Err.ensures.cause other)
+    log_refused (g.D.SectorDevice.state _) (g.D.SectorDevice.state _) _ (c.in-Err.ensures.cause other)

@@ -9,37 +9,32 @@ use Rattle.lfs_store.specs.Accepting.{HasClean}
 use Rattle.lfs_store.specs.StoreState.{asked_by}
 use Rattle.lfs_store.specs.Outcomes.{RoomMade}
 use Rattle.lfs_store.proofs.EarlyRoom.{told_cleaned}
-use Rattle.lfs_store.proofs.Endings.{made_then, same_exit}
+use Rattle.lfs_store.proofs.Endings.{exit_is, made_then}
 use Rattle.lfs_store.proofs.store.Store.prepare_change.Goals as goal
 
 pub returns-in_err-find_room-clause-makes : goal.returns-in_err-find_room-clause-makes
 returns-in_err-find_room-clause-makes g c =
-    same_exit c.from_residual.result c.in_err-find_room.field-0.0
-    (λ (r : Result Unit LogFault). RoomMade g.D.SectorDevice.state c.args.self.now c.find_room.new.self r) c.from_residual.ensures
-    c.in_err-find_room.ensures.makes
+    rw (exit_is c.from_residual.ensures) c.in_err-find_room.ensures.makes
 
 pub returns-clause-makes : goal.returns-clause-makes
 returns-clause-makes g c =
-    made_then g.D.SectorDevice.state c.find_room.ensures.makes.keeps c.in_ok-find_room.ensures.ready c.find_segments.ensures.makes
+    made_then c.find_room.ensures.makes.keeps c.in_ok-find_room.ensures.ready c.find_segments.ensures.makes
 
 pub returns-clause-room : goal.returns-clause-room
 returns-clause-room g c =
     ok_then c.find_segments.result _ _ (λ done e.
     let none = done.unsaved e in
-    let fewer = none.1.fewer in
     let room : c.find_room.new.self.log.waiting + asked_by c.find_segments.new.self.draft ≤ MOST_UNSAVED =
     subst (λ (d : Draft). c.find_room.new.self.log.waiting + asked_by d ≤ MOST_UNSAVED) (sym c.find_segments.ensures.makes.keeps.draft)
     (c.in_ok-find_room.ensures.room none.0) in
-    omega (arith, fewer, room))
-    c.find_segments.ensures.makes.done
+    omega arith) c.find_segments.ensures.makes.done
 
 pub returns-clause-quiet : goal.returns-clause-quiet
 returns-clause-quiet g c fits clean =
     let same = c.find_room.ensures.quiet fits in
     let enough : c.find_room.new.self.log.segments / 8 + 8 ≤ c.find_room.new.self.log.clean =
     subst (λ (h : LogState g.row.D.Denot). HasClean h) (sym same) clean in
-    let lack = c.if-may_commit.ensures.no (search rules) in
-    absurd (omega (arith, enough, lack))
+    absurd (omega (arith, c.if-may_commit.ensures.no (search rules)))
 
 pub returns-clause-told : goal.returns-clause-told
 returns-clause-told g c =

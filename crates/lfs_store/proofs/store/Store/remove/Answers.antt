@@ -8,32 +8,29 @@ use Rattle.lfs_store.proofs.store.Store.remove.Goals as goal
 
 pub returns-in_err-before-clause-redrafts : goal.returns-in_err-before-clause-redrafts
 returns-in_err-before-clause-redrafts g c =
-    reads_redrafts g.D.SectorDevice.state c.measure.ensures.reads
+    reads_redrafts c.measure.ensures.reads
 
 pub returns-clause-redrafts : goal.returns-clause-redrafts
 returns-clause-redrafts g c =
-    counted_redrafts g.D.SectorDevice.state (g.met.D.SectorDevice.lawful c.args.self.now.log.device) c.measure.ensures.reads
-    (drafts_uncounted g.D.SectorDevice.state c.lose_file.ensures.keeps) c.recount.ensures.counts
+    counted_redrafts (g.met.D.SectorDevice.lawful _) c.measure.ensures.reads
+    (drafts_uncounted c.lose_file.ensures.keeps) c.recount.ensures.counts
 
 pub returns-in_err-before-clause-failed : goal.returns-in_err-before-clause-failed
 returns-in_err-before-clause-failed g c =
-    on_err c.from_residual.result _ (seen_fault g.D.SectorDevice.state c.args.self.now c.measure.new.self c.in_err-before.ensures.failed)
+    on_err _ _ (seen_fault _ c.args.self.now c.measure.new.self c.in_err-before.ensures.failed)
 
 pub returns-clause-failed : goal.returns-clause-failed
 returns-clause-failed g c =
-    let state = g.D.SectorDevice.state in
-    err_then c.recount.result _ _ (counted_fault state c.recount.new.self
-    (g.met.D.SectorDevice.lawful c.args.self.now.log.device) c.measure.ensures.reads (drafts_uncounted state c.lose_file.ensures.keeps))
-    c.recount.ensures.failed
+    err_then _ _ _ (counted_fault c.recount.new.self
+    (g.met.D.SectorDevice.lawful _) c.measure.ensures.reads (drafts_uncounted c.lose_file.ensures.keeps)) c.recount.ensures.failed
 
 pub returns-clause-done : goal.returns-clause-done
 returns-clause-done g c =
-    where_ok c.recount.result _ (removes_between c.measure.ensures.reads c.recount.ensures.counts c.lose_file.ensures.done)
+    where_ok _ _ (removes_between c.measure.ensures.reads c.recount.ensures.counts c.lose_file.ensures.done)
 
 pub returns-clause-counted : goal.returns-clause-counted
 returns-clause-counted g c =
-    let state = g.D.SectorDevice.state in
-    ok_then c.recount.result _ _
+    ok_then _ _ _
     (λ again. counts_between c.measure.ensures.reads c.recount.ensures.counts c.args.number.some
-    c.args.number.few (omega arith) (omega arith) c.in_ok-before.ensures.answer (drafts_uncounted state c.lose_file.ensures.keeps) again
-    (λ m m' keeps has. removed_file m (c.lose_file.ensures.done.has m m' has))) c.recount.ensures.done
+    c.args.number.few (omega arith) (omega arith) c.in_ok-before.ensures.answer (drafts_uncounted c.lose_file.ensures.keeps) again
+    (λ m m' keeps has. removed_file _ (c.lose_file.ensures.done.has m m' has))) c.recount.ensures.done

@@ -1,42 +1,38 @@
 use Rattle.std.proofs.Common.{◌/◌, arith}
 use Rattle.lfs_store.proofs.Between.{counts_between, sets_between, sized_file}
-use Rattle.lfs_store.proofs.Endings.{fails_so}
+use Rattle.lfs_store.proofs.Endings.{exit_is}
 use Rattle.lfs_store.proofs.Keepings.{counted_fault, counted_redrafts, measured_fault, measured_redrafts, reads_redrafts}
 use Rattle.lfs_store.proofs.StoreSeen.{seen_fault}
 use Rattle.lfs_store.proofs.store.Store.set_len.Goals as goal
 
 pub returns-in-Err-clause-redrafts : goal.returns-in-Err-clause-redrafts
 returns-in-Err-clause-redrafts g c =
-    reads_redrafts g.D.SectorDevice.state c.measure.ensures.reads
+    reads_redrafts c.measure.ensures.reads
 
 pub returns-in_err-draft_len-clause-redrafts : goal.returns-in_err-draft_len-clause-redrafts
 returns-in_err-draft_len-clause-redrafts g c =
-    measured_redrafts g.D.SectorDevice.state
-    (g.met.D.SectorDevice.lawful c.args.self.now.log.device) c.measure.ensures.reads c.draft_len.ensures.redrafts
+    measured_redrafts (g.met.D.SectorDevice.lawful _) c.measure.ensures.reads c.draft_len.ensures.redrafts
 
 pub returns-in-Err-clause-failed : goal.returns-in-Err-clause-failed
 returns-in-Err-clause-failed g c other =
-    seen_fault g.D.SectorDevice.state c.args.self.now c.measure.new.self c.in-Err.ensures.failed
+    seen_fault _ c.args.self.now c.measure.new.self c.in-Err.ensures.failed
 
 pub returns-in_err-draft_len-clause-failed : goal.returns-in_err-draft_len-clause-failed
 returns-in_err-draft_len-clause-failed g c =
-    fails_so c.from_residual.result c.in_err-draft_len.field-0.0 c.from_residual.ensures
-    (λ other. measured_fault g.D.SectorDevice.state c.draft_len.new.self c.measure.ensures.reads (c.in_err-draft_len.ensures.failed other))
+    rw (exit_is c.from_residual.ensures)
+    (λ other. measured_fault c.draft_len.new.self c.measure.ensures.reads (c.in_err-draft_len.ensures.failed other))
 
 pub returns-in-Err-recount-clause-redrafts : goal.returns-in-Err-recount-clause-redrafts
 returns-in-Err-recount-clause-redrafts g c =
-    counted_redrafts g.D.SectorDevice.state
-    (g.met.D.SectorDevice.lawful c.args.self.now.log.device) c.measure.ensures.reads c.draft_len.ensures.redrafts c.recount.ensures.counts
+    counted_redrafts (g.met.D.SectorDevice.lawful _) c.measure.ensures.reads c.draft_len.ensures.redrafts c.recount.ensures.counts
 
 pub returns-in-Ok-recount-clause-redrafts : goal.returns-in-Ok-recount-clause-redrafts
 returns-in-Ok-recount-clause-redrafts g c =
-    counted_redrafts g.D.SectorDevice.state
-    (g.met.D.SectorDevice.lawful c.args.self.now.log.device) c.measure.ensures.reads c.draft_len.ensures.redrafts c.recount.ensures.counts
+    counted_redrafts (g.met.D.SectorDevice.lawful _) c.measure.ensures.reads c.draft_len.ensures.redrafts c.recount.ensures.counts
 
 pub returns-in-Err-recount-clause-failed : goal.returns-in-Err-recount-clause-failed
 returns-in-Err-recount-clause-failed g c other =
-    counted_fault g.D.SectorDevice.state c.recount.new.self
-    (g.met.D.SectorDevice.lawful c.args.self.now.log.device) c.measure.ensures.reads c.draft_len.ensures.redrafts
+    counted_fault c.recount.new.self (g.met.D.SectorDevice.lawful _) c.measure.ensures.reads c.draft_len.ensures.redrafts
     c.in-Err-recount.ensures.failed
 
 pub returns-in-Ok-recount-clause-done : goal.returns-in-Ok-recount-clause-done
@@ -45,8 +41,7 @@ returns-in-Ok-recount-clause-done g c =
 
 pub returns-in-Ok-recount-clause-counted : goal.returns-in-Ok-recount-clause-counted
 returns-in-Ok-recount-clause-counted g c =
-    let low = c.requires.most in
     counts_between c.measure.ensures.reads c.recount.ensures.counts
-    c.args.number.some c.args.number.few (omega (arith, low)) (omega arith) c.in-Ok.ensures.answer
+    c.args.number.some c.args.number.few (omega arith) (omega arith) c.in-Ok.ensures.answer
     c.draft_len.ensures.redrafts c.in-Ok-recount.ensures.done
-    (λ m m' keeps has. sized_file m (c.in_ok-draft_len.ensures.done.file m m' keeps has))
+    (λ m m' keeps has. sized_file _ (c.in_ok-draft_len.ensures.done.file m m' keeps has))

@@ -6,41 +6,34 @@ use Rattle.lfs_store.proofs.store.Store.stage_draft.Goals as goal
 
 pub returns-then-is_halted-clause-accepts : goal.returns-then-is_halted-clause-accepts
 returns-then-is_halted-clause-accepts g c =
-    accepted_halted g.D.SectorDevice.state (sym c.is_halted.ensures ∙ c.if-is_halted.true)
+    accepted_halted (cc)
 
 pub returns-in-Err-clause-accepts : goal.returns-in-Err-clause-accepts
 returns-in-Err-clause-accepts g c =
-    accepted_unready g.D.SectorDevice.state (sym c.is_halted.ensures ∙ c.if-is_halted.false)
-    c.prepare_change.ensures.quiet c.prepare_change.ensures.told c.prepare_change.ensures.one_commit
+    accepted_unready (cc) c.prepare_change.ensures.quiet c.prepare_change.ensures.told c.prepare_change.ensures.one_commit
     c.in-Err.ensures.makes c.in-Err.ensures.lacks
 
 pub returns-in-Ok-staged-clause-accepts : goal.returns-in-Ok-staged-clause-accepts
 returns-in-Ok-staged-clause-accepts g c =
-    accepted_staged g.D.SectorDevice.state (sym c.is_halted.ensures ∙ c.if-is_halted.false)
-    c.prepare_change.ensures.quiet c.prepare_change.ensures.told c.prepare_change.ensures.one_commit
-    (g.met.D.SectorDevice.lawful c.prepare_change.new.self.log.device) c.in-Ok.ensures.makes c.in-Ok.ensures.enough
-    c.in-Ok-staged.ensures.done c.in-Ok-staged.ensures.counted
+    accepted_staged (cc) c.prepare_change.ensures.quiet c.prepare_change.ensures.told c.prepare_change.ensures.one_commit
+    (g.met.D.SectorDevice.lawful _) c.in-Ok.ensures.makes c.in-Ok.ensures.enough c.in-Ok-staged.ensures.done c.in-Ok-staged.ensures.counted
 
 pub returns-in-Err-Full-clause-accepts : goal.returns-in-Err-Full-clause-accepts
 returns-in-Err-Full-clause-accepts g c =
-    accepted_refused g.D.SectorDevice.state (sym c.is_halted.ensures ∙ c.if-is_halted.false)
-    c.prepare_change.ensures.quiet c.prepare_change.ensures.told c.prepare_change.ensures.one_commit
-    (g.met.D.SectorDevice.lawful c.prepare_change.new.self.log.device) c.in-Ok.ensures.makes c.in-Ok.ensures.enough
-    (where_err c.stage-staged.result _ c.in-Err-Full.is c.stage-staged.ensures.refused)
-    (where_err c.stage-staged.result _ c.in-Err-Full.is c.stage-staged.ensures.kept)
+    accepted_refused (cc) c.prepare_change.ensures.quiet c.prepare_change.ensures.told c.prepare_change.ensures.one_commit
+    (g.met.D.SectorDevice.lawful _) c.in-Ok.ensures.makes c.in-Ok.ensures.enough
+    (where_err _ _ c.in-Err-Full.is c.stage-staged.ensures.refused) (where_err _ _ c.in-Err-Full.is c.stage-staged.ensures.kept)
     (λ e. absurd (cc)) (λ e. absurd (cc))
-    (λ e rest. asks_much g.D.SectorDevice.state c.prepare_change.new.self.draft
+    (λ e rest. asks_much c.prepare_change.new.self.draft
     c.in-Ok.ensures.makes.done rest c.in-Ok.ensures.room (c.stage-staged.ensures.full (search rules)))
     (λ e. absurd (cc))
 
 pub returns-in-Err-Device-clause-accepts : goal.returns-in-Err-Device-clause-accepts
 returns-in-Err-Device-clause-accepts g c =
     let device : c.stage-staged.result ≡ Err Device = search rules in
-    accepted_refused g.D.SectorDevice.state (sym c.is_halted.ensures ∙ c.if-is_halted.false)
-    c.prepare_change.ensures.quiet c.prepare_change.ensures.told c.prepare_change.ensures.one_commit
-    (g.met.D.SectorDevice.lawful c.prepare_change.new.self.log.device) c.in-Ok.ensures.makes c.in-Ok.ensures.enough
-    (where_err c.stage-staged.result _ device c.stage-staged.ensures.refused)
-    (where_err c.stage-staged.result _ device c.stage-staged.ensures.kept)
+    accepted_refused (cc) c.prepare_change.ensures.quiet c.prepare_change.ensures.told c.prepare_change.ensures.one_commit
+    (g.met.D.SectorDevice.lawful _) c.in-Ok.ensures.makes c.in-Ok.ensures.enough (where_err _ _ device c.stage-staged.ensures.refused)
+    (where_err _ _ device c.stage-staged.ensures.kept)
     (λ e. absurd (cc)) (λ e. absurd (cc)) (λ e. absurd (cc))
     (λ e. c.stage-staged.ensures.failed device)
 

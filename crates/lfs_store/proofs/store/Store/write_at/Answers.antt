@@ -2,44 +2,39 @@ use Rattle.std.proofs.Common.{◌≤◌, ◌/◌, sym, subst, arith}
 use Rattle.lfs_store.specs.declared.draft.Draft.{Draft}
 use Rattle.lfs_cleaner.specs.log.memory.Batch.{IsNoChange, room_for}
 use Rattle.lfs_store.proofs.Between.{asked_between, counts_between, writes_between, written_file}
-use Rattle.lfs_store.proofs.Endings.{fails_so}
+use Rattle.lfs_store.proofs.Endings.{exit_is}
 use Rattle.lfs_store.proofs.Keepings.{counted_fault, counted_redrafts, measured_fault, measured_redrafts, reads_redrafts}
 use Rattle.lfs_store.proofs.StoreSeen.{seen_fault}
 use Rattle.lfs_store.proofs.store.Store.write_at.Goals as goal
 
 pub returns-in-Err-clause-redrafts : goal.returns-in-Err-clause-redrafts
 returns-in-Err-clause-redrafts g c =
-    reads_redrafts g.D.SectorDevice.state c.measure.ensures.reads
+    reads_redrafts c.measure.ensures.reads
 
 pub returns-in_err-draft_write-clause-redrafts : goal.returns-in_err-draft_write-clause-redrafts
 returns-in_err-draft_write-clause-redrafts g c =
-    measured_redrafts g.D.SectorDevice.state
-    (g.met.D.SectorDevice.lawful c.args.self.now.log.device) c.measure.ensures.reads c.draft_write.ensures.redrafts
+    measured_redrafts (g.met.D.SectorDevice.lawful _) c.measure.ensures.reads c.draft_write.ensures.redrafts
 
 pub returns-in-Err-clause-failed : goal.returns-in-Err-clause-failed
 returns-in-Err-clause-failed g c other =
-    seen_fault g.D.SectorDevice.state c.args.self.now c.measure.new.self c.in-Err.ensures.failed
+    seen_fault _ c.args.self.now c.measure.new.self c.in-Err.ensures.failed
 
 pub returns-in_err-draft_write-clause-failed : goal.returns-in_err-draft_write-clause-failed
 returns-in_err-draft_write-clause-failed g c =
-    fails_so c.from_residual.result c.in_err-draft_write.field-0.0 c.from_residual.ensures
-    (λ other. measured_fault g.D.SectorDevice.state c.draft_write.new.self c.measure.ensures.reads
-    (c.in_err-draft_write.ensures.failed other))
+    rw (exit_is c.from_residual.ensures)
+    (λ other. measured_fault c.draft_write.new.self c.measure.ensures.reads (c.in_err-draft_write.ensures.failed other))
 
 pub returns-in-Err-recount-clause-redrafts : goal.returns-in-Err-recount-clause-redrafts
 returns-in-Err-recount-clause-redrafts g c =
-    counted_redrafts g.D.SectorDevice.state
-    (g.met.D.SectorDevice.lawful c.args.self.now.log.device) c.measure.ensures.reads c.draft_write.ensures.redrafts c.recount.ensures.counts
+    counted_redrafts (g.met.D.SectorDevice.lawful _) c.measure.ensures.reads c.draft_write.ensures.redrafts c.recount.ensures.counts
 
 pub returns-in-Ok-recount-clause-redrafts : goal.returns-in-Ok-recount-clause-redrafts
 returns-in-Ok-recount-clause-redrafts g c =
-    counted_redrafts g.D.SectorDevice.state
-    (g.met.D.SectorDevice.lawful c.args.self.now.log.device) c.measure.ensures.reads c.draft_write.ensures.redrafts c.recount.ensures.counts
+    counted_redrafts (g.met.D.SectorDevice.lawful _) c.measure.ensures.reads c.draft_write.ensures.redrafts c.recount.ensures.counts
 
 pub returns-in-Err-recount-clause-failed : goal.returns-in-Err-recount-clause-failed
 returns-in-Err-recount-clause-failed g c other =
-    counted_fault g.D.SectorDevice.state c.recount.new.self
-    (g.met.D.SectorDevice.lawful c.args.self.now.log.device) c.measure.ensures.reads c.draft_write.ensures.redrafts
+    counted_fault c.recount.new.self (g.met.D.SectorDevice.lawful _) c.measure.ensures.reads c.draft_write.ensures.redrafts
     c.in-Err-recount.ensures.failed
 
 pub returns-in-Ok-recount-clause-done : goal.returns-in-Ok-recount-clause-done
@@ -48,19 +43,16 @@ returns-in-Ok-recount-clause-done g c =
 
 pub returns-in-Ok-recount-clause-counted : goal.returns-in-Ok-recount-clause-counted
 returns-in-Ok-recount-clause-counted g c =
-    let long = c.requires.bytes in
-    let low = c.requires.end in
     let end = c.div_ceil-to.ensures in
     counts_between c.measure.ensures.reads c.recount.ensures.counts
-    c.args.number.some c.args.number.few (omega (arith, end, long)) (omega (arith, end, low)) c.in-Ok.ensures.answer
+    c.args.number.some c.args.number.few (omega arith) (omega arith) c.in-Ok.ensures.answer
     c.draft_write.ensures.redrafts c.in-Ok-recount.ensures.done
-    (λ m m' keeps has. written_file m end (c.in_ok-draft_write.ensures.done.file m m' keeps has))
+    (λ m m' keeps has. written_file _ end (c.in_ok-draft_write.ensures.done.file m m' keeps has))
 
 pub returns-in-Ok-recount-clause-room : goal.returns-in-Ok-recount-clause-room
 returns-in-Ok-recount-clause-room g c none few =
-    subst (λ (d : Draft). room_for d.changes ≤ 144) (sym c.recount.ensures.counts.draft)
-    (c.in_ok-draft_write.ensures.room (subst (λ (d : Draft). IsNoChange d.changes) (sym c.measure.ensures.reads.draft) none) few)
+    rw c.recount.ensures.counts.draft (c.in_ok-draft_write.ensures.room (rw c.measure.ensures.reads.draft none) few)
 
 pub returns-in-Ok-recount-clause-asked : goal.returns-in-Ok-recount-clause-asked
 returns-in-Ok-recount-clause-asked g c =
-    asked_between c.measure.ensures.reads c.recount.ensures.counts 274 c.in_ok-draft_write.ensures.asked
+    asked_between c.measure.ensures.reads c.recount.ensures.counts c.in_ok-draft_write.ensures.asked

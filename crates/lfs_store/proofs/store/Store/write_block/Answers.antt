@@ -4,7 +4,7 @@ use Rattle.lfs_store.proofs.store.Store.write_block.Goals as goal
 
 pub returns-clause-done : goal.returns-clause-done
 returns-clause-done g c =
-    block_written g.D.SectorDevice.state c.overlay.array_long c.in-Ok.ensures.done c.overlay.ensures c.in-Ok-put_block.ensures.done
+    block_written c.overlay.array_long c.in-Ok.ensures.done c.overlay.ensures c.in-Ok-put_block.ensures.done
 
 pub returns-in-Err-clause-redrafts : goal.returns-in-Err-clause-redrafts
 returns-in-Err-clause-redrafts g c =

@@ -7,11 +7,11 @@ use Rattle.lfs_store.proofs.store.Store.write_early.Goals as goal
 
 pub returns-then-is_saved-clause-done : goal.returns-then-is_saved-clause-done
 returns-then-is_saved-clause-done g c =
-    readies_none g.D.SectorDevice.state (g.met.D.SectorDevice.lawful c.args.self.now.log.device) c.requires
+    readies_none (g.met.D.SectorDevice.lawful _) c.requires
 
 pub returns-then-is_saved-clause-early : goal.returns-then-is_saved-clause-early
 returns-then-is_saved-clause-early g c =
-    early_none g.D.SectorDevice.state (g.met.D.SectorDevice.lawful c.args.self.now.log.device) c.requires
+    early_none _ (g.met.D.SectorDevice.lawful _) c.requires
 
 pub returns-then-is_saved-clause-keeps : goal.returns-then-is_saved-clause-keeps
 returns-then-is_saved-clause-keeps g c = keeps_none
@@ -19,7 +19,7 @@ returns-then-is_saved-clause-keeps g c = keeps_none
 pub returns-clause-done : goal.returns-clause-done
 returns-clause-done g c =
     ok_then c.write_early.result _ _
-    (λ early. readies_early g.D.SectorDevice.state early c.write_early.ensures.totals) c.write_early.ensures.done
+    (λ early. readies_early _ early c.write_early.ensures.totals) c.write_early.ensures.done
 
 pub returns-clause-same : goal.returns-clause-same
 returns-clause-same g c = ok_then c.write_early.result _ _ (λ early. early.saved) c.write_early.ensures.done
