@@ -11,12 +11,12 @@ module _ {S D : Type 0} where
       → Writes s s' d head at slot → GrowsDirectory s s' 1 2
   slot_grows {head} long writes = record {
     headers = writes.headers;
-    blocks = let more = writes.blocks in let most = (slot_some head.form).1 in omega (arith, more, long, most);
+    blocks = omega (arith, (slot_some head.form).1);
   }
 
   -- a draft that is only read before
   pub grows_behind : {s a s' : FilesState S D} (h k : ℕ) → Reads s a → GrowsDirectory a s' h k → GrowsDirectory s s' h k
   grows_behind h k reads grows = record {
-    headers = let same = reads.headers in let more = grows.headers in omega (arith, same, more);
-    blocks = let same = reads.blocks in let more = grows.blocks in omega (arith, same, more);
+    headers = omega arith;
+    blocks = omega arith;
   }

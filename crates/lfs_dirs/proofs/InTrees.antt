@@ -15,19 +15,14 @@ use Rattle.lfs_dirs.specs.Widening.{wide}
 use Rattle.lfs_dirs.proofs.SlotsKept.{empty_directory}
 
 pub directory_node : DirectoryNode
-directory_node m d head is = node_of_header m d is.number.0 is.number.1 ∙ ap (node_of m d) is.header
-    ∙ ap (λ (k : Kind). Some (node_by m k d (as_header head))) is.kind
+directory_node m d head is = cc (node_of_header m d is.number.0 is.number.1)
 
 -- the directory that a change of its names makes of the tree's
 module _ (m m' : LogMap) (d : ℕ) {head head' : Header} (is : ChangesDirectory m m' d head head') (change : Names → Names) where
   changed_tree : names_at m' d head' ≡ change (names_at m d head) → tree_in m'
       ≡ with_node (tree_in m) d (Dir (form_of (node (tree_in m) d)) (change (names_of (unwrap_or (node (tree_in m) d) (File [])))))
   changed_tree names =
-      tree_with m m' d is.only (directory_node m' d head' is.after)
-      ∙ ap (λ (f : ℕ). with_node (tree_in m) d (Dir f (names_at m' d head'))) is.form
-      ∙ ap (λ (ns : Names). with_node (tree_in m) d (Dir head.form ns)) names
-      ∙ sym (ap (λ (o : Option Node). with_node (tree_in m) d (Dir (form_of o) (change (names_of (unwrap_or o (File []))))))
-      (directory_node m d head is.before))
+      cc (tree_with m m' d is.only (directory_node m' d head' is.after), directory_node m d head is.before)
 
 pub name_in_tree : NameInTree
 name_in_tree m m' d head head' name n is names = changed_tree m m' d is (put byte_cmp name n) names
@@ -37,10 +32,8 @@ name_off_tree m m' d head head' name is names = changed_tree m m' d is (without 
 
 pub directory_widened : DirectoryWidened
 directory_widened m m' d head only before after names =
-    tree_with m m' d only (directory_node m' d (wide head) after) ∙ ap (λ (ns : Names). with_node (tree_in m) d (Dir 1 ns)) names
-    ∙ sym (ap (λ (o : Option Node). with_node (tree_in m) d (Dir 1 (names_of (unwrap_or o (File []))))) (directory_node m d head before))
+    cc (tree_with m m' d only (directory_node m' d (wide head) after), directory_node m d head before)
 
 pub directory_made : DirectoryMade
 directory_made m m' d head only is empty =
-    tree_with m m' d only (directory_node m' d head is)
-    ∙ ap (λ (ns : Names). with_node (tree_in m) d (Dir head.form ns)) (empty_directory m' d head empty).1
+    cc (tree_with m m' d only (directory_node m' d head is), (empty_directory m' d head empty).1)

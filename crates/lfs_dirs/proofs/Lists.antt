@@ -16,18 +16,19 @@ use Rattle.lfs_dirs.specs.Directory.{first_slots, per_block, slot_count, slots_a
 use Rattle.lfs_dirs.specs.Finding.{HasNoSlot, IsDirectoryFault, IsBlockFault}
 use Rattle.lfs_dirs.specs.Listing.{Inspects, IsGatheredOf, LacksBlockSlot, LacksSlot, Lists, ListsBlock, PutsSlots, gathered, pairs}
 use Rattle.lfs_dirs.proofs.Scans.{next_slot, no_slots}
-use Rattle.lfs_dirs.proofs.Searches.{block_and_rest, each_is_slot}
+use Rattle.lfs_dirs.proofs.Searches.{block_and_rest, each_is_slot, first_slots_are}
 use Rattle.lfs_dirs.proofs.SlotPlaces.{slots_many, slots_of_block}
+use Rattle.lfs_dirs.proofs.Widths.{block_before}
 
 -- ---- faults
 -- a fault is the same one whatever an answer would be
 pub other_result : {T U E : Type 0} (e x : E) → IsErrOf {T = T} (Err e) x → IsErrOf {T = U} (Err e) x
-other_result e x is = let same : e ≡ x = cc in ap Err same
+other_result e x is = ap Err cc
 
 -- ---- slots of a block
 pub puts_none : (form : ℕ) (block : List ℕ) (count : ℕ) (es : List Entry) → PutsSlots form (slots_in form block count (count - count)) es es
 puts_none form block count es behind is =
-    subst (λ (a : List (List ℕ)). IsGatheredOf form (a ++ behind) es) (sym (no_slots form block count count (omega arith))) is
+    rw (no_slots form block count count (omega arith)) is
 
 -- a slot before those that are there
 pub puts_more : (form : ℕ) (block : List ℕ) (count place next : ℕ) {slot : List ℕ} (old mid new : List Entry) → 0 < place → place ≤ count
@@ -35,38 +36,24 @@ pub puts_more : (form : ℕ) (block : List ℕ) (count place next : ℕ) {slot :
     → PutsSlots form (slots_in form block place (count - place)) old mid → gathered new ≡ with_slot (slot_in form slot) (gathered mid)
     → slot_in form slot ≢ None → PutsSlots form (slots_in form block next (count - next)) old new
 puts_more form block count place next {slot} old mid new some le before own was more formed behind is =
-    let here : next + 1 ≡ place = omega (arith, some, before) in
     let split : slots_in form block next (count - next) ≡ slot ∷ slots_in form block place (count - place) =
-    next_slot form block next count (omega (arith, le, some, before))
-    ∙ ap (λ (k : ℕ). part (slot_len form * next) (slot_len form) block ∷ slots_in form block k (count - k)) here
+    next_slot form block next count (omega arith)
+    ∙ ap (λ (k : ℕ). part (slot_len form * next) (slot_len form) block ∷ slots_in form block k (count - k)) (omega arith)
     ∙ ap (λ (s : List ℕ). s ∷ slots_in form block place (count - place)) (sym own)
     in
     let tail = was behind is in
     let all : IsGatheredOf form (slot ∷ (slots_in form block place (count - place) ++ behind)) new =
-    record { names = more ∙ ap (with_slot (slot_in form slot)) tail.names; formed = (formed, tail.formed) } in
-    subst (λ (a : List (List ℕ)). IsGatheredOf form (a ++ behind) new) (sym split) all
+    record { names = cc; formed = (formed, tail.formed) } in
+    rw split all
 
-module _ {S D : Type 0} (s s' : FilesState S D) (form d index count : ℕ) (few : count ≤ per_block form) (block : List ℕ)
+module _ {S D : Type 0} (s s' : FilesState S D) {form d index count : ℕ} (few : count ≤ per_block form) {block : List ℕ}
     (told : TellsBlock s s' d index block) where
   pub block_listed : (old new : List Entry) → PutsSlots form (first_slots form block count) old new
       → ListsBlock s s' form d index count old new
-  block_listed old new puts m m' keeps has head same room =
-      by (subst (λ (f : ℕ). count ≤ per_block f) (sym same) few)
-      (subst (λ (f : ℕ). per_block f * index + count ≤ slot_count head) (sym same) room)
-      (subst (λ (f : ℕ). PutsSlots f (first_slots f block count) old new) (sym same) puts)
-    where
-      by : count ≤ per_block head.form → per_block head.form * index + count ≤ slot_count head
-          → PutsSlots head.form (first_slots head.form block count) old new
-          → PutsSlots form (take count (drop (per_block form * index) (slots_at m' d head))) old new
-      by few room puts = subst (λ (f : ℕ). PutsSlots f (take count (drop (per_block f * index) (slots_at m' d head))) old new) same
-          (subst (λ (a : List (List ℕ)). PutsSlots head.form a old new)
-          (sym (slots_of_block m' d head index count block (told m m' keeps has) few room)) puts)
+  block_listed old new puts m m' keeps has head same room = rw (first_slots_are m' d head (told m m' keeps has) few room same) puts
 
   pub block_malformed : HasNoSlot form block count → LacksBlockSlot s s' form d index count
-  block_malformed bad m m' keeps has head same room formed = each_is_slot m' d head (told m m' keeps has)
-      (subst (λ (f : ℕ). count ≤ per_block f) (sym same) few)
-      (subst (λ (f : ℕ). per_block f * index + count ≤ slot_count head) (sym same) room) formed
-      (subst (λ (f : ℕ). HasNoSlot f block count) (sym same) bad)
+  block_malformed bad m m' keeps has head same room formed = each_is_slot m' d head (told m m' keeps has) few room same formed bad
 
 -- the names alone
 pub only_names : {S D : Type 0} (s s' : FilesState S D) (d : ℕ) (head : Header) (es : List Entry) → Inspects s s' d head es
@@ -84,9 +71,8 @@ module _ {S D : Type 0} (d : ℕ) (head : Header) where
       → ListedFrom s s index es
   list_begins s index {es} none past = record {
     reads = reads_none s;
-    names = λ m m' keeps has. let many = slots_many m' d head in
-        subst (λ (a : List (List ℕ)). IsGatheredOf head.form a es) (sym (drop_all (per_block head.form * index) (slots_at m' d head)
-        (omega (arith, many, past)))) (record { names = ap gathered none; formed = tt });
+    names = λ m m' keeps has. rw (drop_all (per_block head.form * index) (slots_at m' d head)
+        (omega (arith, slots_many m' d head))) (record { names = cc; formed = tt });
   }
 
   pub list_ends : {s a : FilesState S D} {index : ℕ} {es : List Entry} (ordered : List Entry) → index ≡ 0 → ListedFrom s a index es
@@ -94,31 +80,35 @@ module _ {S D : Type 0} (d : ℕ) (head : Header) where
   list_ends {index} {es} ordered all was is m m' keeps has =
       let first : per_block head.form * index ≡ 0 = ap (λ (i : ℕ). per_block head.form * i) all ∙ omega arith in
       let from : IsGatheredOf head.form (slots_at m' d head) es =
-      subst (λ (n : ℕ). IsGatheredOf head.form (drop n (slots_at m' d head)) es) first (was.names m m' keeps has) in
-      record { names = is ∙ from.names; formed = from.formed }
+      rw first at (was.names m m' keeps has) in
+      record { names = cc; formed = from.formed }
 
-  module _ {s a : FilesState S D} (b : FilesState S D) {index : ℕ} (next : ℕ) {count : ℕ} {old : List Entry}
-      (is : count ≡ min (slot_count head - per_block head.form
-      * next) (per_block head.form)) (low : per_block head.form * next < slot_count head) (was : ListedFrom s a index old) where
-    pub list_goes_on : (new : List Entry) → IsLawful s.device → 0 < index → next ≡ index - 1 → Reads a b
-        → ListsBlock a b head.form d next count old new → ListedFrom s b next new
-    list_goes_on new lawful some before reads lists = record {
+  -- the block before this index is taken: `slots` are there in all, `whole` in a block, and `count` in this one
+  module _ {s a : FilesState S D} (b : FilesState S D) {index count slots whole : ℕ} {old : List Entry} (many : slots ≡ slot_count head)
+      (each : whole ≡ per_block head.form) (is_least : count ≡ min (slots - whole * (index - 1)) whole) (some : 0 < index)
+      (within : per_block head.form * index < slot_count head + per_block head.form) (was : ListedFrom s a index old) where
+    low : per_block head.form * (index - 1) < slot_count head
+    low = omega (arith, block_before head.form index some)
+
+    is : count ≡ min (slot_count head - per_block head.form * (index - 1)) (per_block head.form)
+    is = omega (arith, ap (λ (w : ℕ). w * (index - 1)) each)
+
+    pub list_goes_on : (new : List Entry) → IsLawful s.device → Reads a b
+        → ListsBlock a b head.form d (index - 1) count old new → ListedFrom s b (index - 1) new
+    list_goes_on new lawful reads lists = record {
       reads = reads_more lawful was.reads reads;
       names = λ m m' keeps has.
-          let slots = slots_at m' d head in
-          let here : index ≡ next + 1 = omega (arith, some, before) in
-          let more = lists m m' keeps (was.reads.has m m' has) head refl (omega (arith, is, low)) (drop (per_block head.form * index) slots)
-          (was.names m m' (reads.looks.carries.kept_before keeps) has) in
-          subst (λ (a : List (List ℕ)). IsGatheredOf head.form a new)
-          (ap (λ (j : ℕ). take count (drop (per_block head.form * next) slots) ++ drop (per_block head.form * j) slots) here
-          ∙ sym (block_and_rest head.form slots next (slots_many m' d head) is)) more;
+          let listed = slots_at m' d head in
+          let here : index ≡ index - 1 + 1 = omega arith in
+          let more = lists m m' keeps (was.reads.has m m' has) head refl (omega (arith, is, low))
+          (drop (per_block head.form * index) listed) (was.names m m' (reads.looks.carries.kept_before keeps) has) in
+          rw (← ap (λ (j : ℕ). take count (drop (per_block head.form * (index - 1)) listed) ++ drop (per_block head.form * j) listed) here
+          ∙ sym (block_and_rest head.form listed (index - 1) (slots_many m' d head) is)) more;
     }
 
-    pub list_fails : IsBlockFault a b head.form d next count → IsDirectoryFault s b d head
+    pub list_fails : IsBlockFault a b head.form d (index - 1) count → IsDirectoryFault s b d head
     list_fails failed m m' keeps has dir =
-        let rose = failed m m' keeps (was.reads.has m m' has) head refl (omega (arith, is, low)) dir in
-        let before = was.reads.looks.carries.failures in
-        omega (arith, rose, before)
+        omega (arith, failed m m' keeps (was.reads.has m m' has) head refl (omega (arith, is, low)) dir)
 
-    pub slot_lacks : LacksBlockSlot a b head.form d next count → LacksSlot s b d head
+    pub slot_lacks : LacksBlockSlot a b head.form d (index - 1) count → LacksSlot s b d head
     slot_lacks lacks m m' keeps has = lacks m m' keeps (was.reads.has m m' has) head refl (omega (arith, is, low))

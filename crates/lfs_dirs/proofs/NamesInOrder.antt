@@ -24,7 +24,7 @@ use Rattle.lfs_dirs.proofs.SlotNames.{tied, ties, apart}
 
 -- ---- an entry more
 pub gathered_push : (es : List Entry) (e : Entry) → gathered (es ++ e ∷ []) ≡ put byte_cmp e.name.items e.number.value (gathered es)
-gathered_push es e = ap (λ (l : List Entry). first_of_each (pairs l)) (reverse-append es (e ∷ []))
+gathered_push es e = cc (reverse-append es (e ∷ []))
 
 -- ---- the order of entries
 abbrev pub by_name : Entry → Entry → Ordering
@@ -52,7 +52,7 @@ both false b p q = p
 below_pairs : (x : Entry) (es : List Entry) → AllByRecursion (λ y. by_name x y ≡ Less) es → T (below_all byte_cmp x.name.items (pairs es))
 below_pairs x [] all = tt
 below_pairs x (y ∷ es) all = both (comes_before x y) (below_all byte_cmp x.name.items (pairs es))
-    (subst (λ (r : Ordering). T (is_lt r)) (sym all.0) tt) (below_pairs x es all.1)
+    (rw all.0 tt) (below_pairs x es all.1)
 
 sorted_pairs : (es : List Entry) → IsStrictlySortedBy by_name es → T (is_sorted byte_cmp (pairs es))
 unfolding IsStrictlySortedBy
@@ -74,11 +74,12 @@ find_dedup_from q k (x ∷ es) =
     (pairs (cond b (dedup_from same_name k es) (k ∷ dedup_from same_name x es))) ≡ find byte_cmp q (pairs (k ∷ x ∷ es))) [
       | true ↦ λ e.
           let name : k.name.items ≡ x.name.items = sym ((bytes_eq-Decides x.name.items k.name.items).0 e) in
-          find_dedup_from q k es
-          ∙ shadowed (eq_by_cmp byte_cmp q k.name.items) (Some k.number.value) (Some x.number.value) (find byte_cmp q (pairs es))
-          ∙ ap (λ (n : List ℕ). cond (eq_by_cmp byte_cmp q k.name.items) (Some k.number.value)
-          (cond (eq_by_cmp byte_cmp q n) (Some x.number.value) (find byte_cmp q (pairs es)))) name
-      | false ↦ λ e. ap (λ (o : Option ℕ). cond (eq_by_cmp byte_cmp q k.name.items) (Some k.number.value) o) (find_dedup_from q x es)
+          cc (
+            find_dedup_from q k es,
+            shadowed (eq_by_cmp byte_cmp q k.name.items) (Some k.number.value) (Some x.number.value)
+                (find byte_cmp q (pairs es)),
+          )
+      | false ↦ λ e. cc (find_dedup_from q x es)
     ] refl
 
 find_dedup : (q : List ℕ) (es : List Entry) → find byte_cmp q (pairs (dedup same_name es)) ≡ find byte_cmp q (pairs es)
@@ -89,8 +90,7 @@ find_dedup q (k ∷ es) = find_dedup_from q k es
 find_first_of_each : (q : List ℕ) (ps : List (List ℕ × ℕ)) → find byte_cmp q (first_of_each ps) ≡ find byte_cmp q ps
 find_first_of_each q [] = refl
 find_first_of_each q (p ∷ ps) =
-    find-put byte_cmp nat_list_cmp_total q p.0 p.1 (first_of_each ps)
-    ∙ ap (λ (o : Option ℕ). cond (eq_by_cmp byte_cmp q p.0) (Some p.1) o) (find_first_of_each q ps)
+    cc (find-put byte_cmp nat_list_cmp_total q p.0 p.1 (first_of_each ps), find_first_of_each q ps)
 
 sorted_first_of_each : (ps : List (List ℕ × ℕ)) → T (is_sorted byte_cmp (first_of_each ps))
 sorted_first_of_each [] = tt
@@ -103,7 +103,7 @@ turned Equal = refl
 turned Greater = refl
 
 tie : (x e : Entry) → are_tied comes_before x e ≡ eq_by_cmp by_name x e
-tie x e = ap (λ (s : Ordering). not (is_lt (by_name x e)) && not (is_lt s)) (name_order.antisymm e x) ∙ turned (by_name x e)
+tie x e = cc (name_order.antisymm e x, turned (by_name x e))
 
 abbrev number_of_first : List Entry → Option ℕ
 number_of_first [] = None
@@ -155,21 +155,17 @@ same_finds xs ys moved stable q = elim (is_some (find byte_cmp q (pairs xs)))
     as (λ b. is_some (find byte_cmp q (pairs xs)) ≡ b → find byte_cmp q (pairs ys) ≡ find byte_cmp q (pairs xs)) [
       | true ↦ λ some.
           let found = entry_found q xs some in
-          subst (λ (n : List ℕ). find byte_cmp n (pairs ys) ≡ find byte_cmp n (pairs xs)) (sym found.1)
-          (find_filtered found.0 ys ∙ ap number_of_first (stable found.0) ∙ sym (find_filtered found.0 xs))
+          rw found.1 (cc (find_filtered found.0 ys, stable found.0, find_filtered found.0 xs))
       | false ↦ λ none.
           neither_found (find byte_cmp q (pairs ys)) (find byte_cmp q (pairs xs))
-          (some_found q ys ∙ sym (list_any-IsPermutation (λ (e : Entry). eq_by_cmp byte_cmp q e.name.items) xs ys moved)
-          ∙ sym (some_found q xs)
-          ∙ none) none
+          (cc (some_found q ys, list_any-IsPermutation (λ (e : Entry). eq_by_cmp byte_cmp q e.name.items) xs ys moved, some_found q xs))
+          none
     ] refl
 
 -- ---- entries that are sorted, and of each name the first
 pub ordered : (xs ys : List Entry) {zs : List Entry} → IsPermutation xs ys → IsStableBy comes_before xs ys → IsSortedBy comes_before ys
     → zs ≡ dedup same_name ys → pairs zs ≡ first_of_each (pairs xs)
 ordered xs ys moved stable sorted is =
-    ap pairs is
-    ∙ same_entries byte_cmp nat_list_cmp_total (slice_cmp-IsAntisymmetric nat_cmp-IsAntisymmetric) (pairs (dedup same_name ys))
-    (first_of_each (pairs xs))
-    (sorted_pairs (dedup same_name ys) (IsStrictlySortedBy-dedup name_order same_is_tied ys sorted)) (sorted_first_of_each (pairs xs))
-    (λ q. find_dedup q ys ∙ same_finds xs ys moved stable q ∙ sym (find_first_of_each q (pairs xs)))
+    cc (same_entries byte_cmp nat_list_cmp_total (slice_cmp-IsAntisymmetric nat_cmp-IsAntisymmetric) (pairs (dedup same_name ys))
+    (first_of_each (pairs xs)) (sorted_pairs (dedup same_name ys) (IsStrictlySortedBy-dedup name_order same_is_tied ys sorted))
+    (sorted_first_of_each (pairs xs)) (λ q. find_dedup q ys ∙ same_finds xs ys moved stable q ∙ sym (find_first_of_each q (pairs xs))))

@@ -20,12 +20,11 @@ module _ (form : ℕ) where
 
   pub next_slot : (block : List ℕ) (at count : ℕ) → at < count → slots_in form block at (count - at)
       ≡ part (slot_len form * at) (slot_len form) block ∷ slots_in form block (at + 1) (count - (at + 1))
-  next_slot block at count low = let more : count - at ≡ suc (count - (at + 1)) = omega (arith, low) in
-      ap (slots_in form block at) more ∙ next_slots block at (count - (at + 1))
+  next_slot block at count low = ap (slots_in form block at) (omega arith) ∙ next_slots block at (count - (at + 1))
 
   pub no_slots : (block : List ℕ) (at count : ℕ) → count ≤ at → slots_in form block at (count - at) ≡ []
   unfolding slots_in
-  no_slots block at count past = let none : count - at ≡ 0 = omega (arith, past) in ap (slots_in form block at) none
+  no_slots block at count past = let none : count - at ≡ 0 = omega arith in cc
 
   -- ---- the search
   abbrev slot_giving : ℕ → List ℕ → Option SlotValue
@@ -42,12 +41,11 @@ module _ (form : ℕ) where
         → IsSlotOf form (first_slots form block count) name record { place = at; number = n }
     scan_hit at n {s} low was is same number = record {
       gives =
-          sym was ∙ ap (λ (a : List (List ℕ)). find byte_cmp name (map_of form a)) (next_slot block at count low) ∙ found_first s
-          (map_of form (slots_in form block (at + 1) (count - (at + 1)))) is same ∙ ap Some (sym number);
-      inside = let many = block_slots_many form block 0 count in omega (arith, many, low);
+          cc (next_slot block at count low, found_first s (map_of form (slots_in form block (at + 1) (count - (at + 1)))) is same);
+      inside = omega (arith, block_slots_many form block 0 count);
       slot =
-          let here : 0 + at ≡ at = omega arith in
-          ap (slot_in form) (block_slot form block 0 count at low ∙ ap (λ (j : ℕ). part (slot_len form * j) (slot_len form) block) here)
+          ap (slot_in form) (block_slot form block 0 count at low
+          ∙ ap (λ (j : ℕ). part (slot_len form * j) (slot_len form) block) (omega arith))
           ∙ is
           ∙ ap₂ slot_giving (sym number) (sym same);
     }
@@ -55,9 +53,11 @@ module _ (form : ℕ) where
     pub scan_miss : (at : ℕ) → at < count → ScannedTo at
         → ((s : SlotValue) → slot_in form (part (slot_len form * at) (slot_len form) block) ≡ Some s → name ≢ s.name) → ScannedTo (at + 1)
     scan_miss at low was other =
-        sym (found_past name (slot_in form (part (slot_len form * at) (slot_len form) block))
-        (map_of form (slots_in form block (at + 1) (count - (at + 1)))) other)
-        ∙ ap (λ (a : List (List ℕ)). find byte_cmp name (map_of form a)) (sym (next_slot block at count low)) ∙ was
+        cc (
+          found_past name (slot_in form (part (slot_len form * at) (slot_len form) block))
+              (map_of form (slots_in form block (at + 1) (count - (at + 1)))) other,
+          next_slot block at count low,
+        )
 
     pub scan_end : (at : ℕ) → count ≤ at → ScannedTo at → find byte_cmp name (map_of form (first_slots form block count)) ≡ None
-    scan_end at past was = sym was ∙ ap (λ (a : List (List ℕ)). find byte_cmp name (map_of form a)) (no_slots block at count past)
+    scan_end at past was = cc (no_slots block at count past)

@@ -26,17 +26,16 @@ use Rattle.lfs_dirs.proofs.SlotPlaces.{slot_of_block, slots_many, slots_of_block
 
 -- ---- lists
 all_at : {X : Type 0} (P : X → Type 0) (xs : List X) (j : ℕ) (d : X) → AllByRecursion P xs → j < length xs → P (get_or xs j d)
-all_at P [] j d all low = absurd (omega (arith, low))
+all_at P [] j d all low = absurd (omega arith)
 all_at P (x ∷ xs) zero d all low = all.0
-all_at P (x ∷ xs) (suc j) d all low = all_at P xs j d all.1 (omega (arith, low))
+all_at P (x ∷ xs) (suc j) d all low = all_at P xs j d all.1 (omega arith)
 
 -- the slots from a block on are those of the block, of which the last may have fewer than the others, and those behind
 pub block_and_rest : (form : ℕ) (a : List (List ℕ)) (index : ℕ) {count all : ℕ} → length a ≡ all
     → count ≡ min (all - per_block form * index) (per_block form)
     → drop (per_block form * index) a ≡ take count (drop (per_block form * index) a) ++ drop (per_block form * (index + 1)) a
 block_and_rest form a index {count} {all} long is =
-    sym (take-append-drop count (drop (per_block form * index) a))
-    ∙ ap (λ (b : List (List ℕ)). take count (drop (per_block form * index) a) ++ b) (drop-drop count (per_block form * index) a ∙ rest)
+    cc (take-append-drop count (drop (per_block form * index) a), drop-drop count (per_block form * index) a, rest)
   where
     next : per_block form * (index + 1) ≡ per_block form * index + per_block form
     next = next_block form index
@@ -44,61 +43,44 @@ block_and_rest form a index {count} {all} long is =
     rest : drop (per_block form * index + count) a ≡ drop (per_block form * (index + 1)) a
     rest = ⊎_elim
         (λ (less : all < per_block form * index + per_block form). drop_all (per_block form * index + count) a
-        (omega (arith, less, is, long)) ∙ sym (drop_all (per_block form * (index + 1)) a (omega (arith, less, long, next))))
-        (λ (full : per_block form * index + per_block form ≤ all). let e : per_block form * index + count ≡ per_block form * (index + 1) =
-        omega (arith, full, is, next) in ap (λ (n : ℕ). drop n a) e)
+        (omega arith) ∙ sym (drop_all (per_block form * (index + 1)) a (omega (arith, next))))
+        (λ (full : per_block form * index + per_block form ≤ all). ap (λ (n : ℕ). drop n a) (omega (arith, next)))
         (cases_lt all (per_block form * index + per_block form))
 
 -- ---- one block
 -- where an object's slots are, each slot of its block is one
-pub each_is_slot : (m : LogMap) (d : ℕ) (head : Header) {i count : ℕ} {block : List ℕ} → HoldsBlock m d i block
-    → count ≤ per_block head.form → per_block head.form * i + count ≤ slot_count head → AreSlots head.form (slots_at m d head)
-    → HasNoSlot head.form block count → ⊥
-each_is_slot m d head {i} {block} is few room formed bad =
-    let inside = bad.inside in
-    let many = slots_many m d head in
-    let low : per_block head.form * i + bad.place < slot_count head = omega (arith, inside, room) in
-    all_at (λ b. slot_in head.form b ≢ None) (slots_at m d head) (per_block head.form * i + bad.place) [] formed (omega (arith, low, many))
-    (ap (slot_in head.form) (slot_of_block m d head bad.place is (omega (arith, inside, few)) low) ∙ bad.none)
+-- the same where the form is known by another name
+module _ (m : LogMap) (d : ℕ) (head : Header) {form index count : ℕ} {block : List ℕ} (is : HoldsBlock m d index block)
+    (few : count ≤ per_block form) (room : per_block form * index + count ≤ slot_count head) (same : head.form ≡ form) where
+  pub first_slots_are : take count (drop (per_block form * index) (slots_at m d head)) ≡ first_slots form block count
+  first_slots_are = rw (← same) (slots_of_block m d head index count block is (rw same few) (rw (← same) at room))
 
-module _ {S D : Type 0} (s s' : FilesState S D) (form d index count : ℕ) (few : count ≤ per_block form) (block : List ℕ)
+  pub each_is_slot : AreSlots head.form (slots_at m d head) → HasNoSlot form block count → ⊥
+  each_is_slot formed bad =
+      let inside = rw (← same) at room in
+      let low : bad.place < per_block head.form = rw same (omega (arith, few, bad.inside)) in
+      all_at (λ b. slot_in head.form b ≢ None) (slots_at m d head) (per_block head.form * index + bad.place) [] formed
+      (omega (arith, slots_many m d head, bad.inside))
+      (cc (slot_of_block m d head bad.place is low (omega (arith, bad.inside)), bad.none))
+
+module _ {S D : Type 0} (s s' : FilesState S D) {form d index count : ℕ} (few : count ≤ per_block form) {block : List ℕ}
     (told : TellsBlock s s' d index block) where
   pub block_found : (name : List ℕ) (found : Option Found) → FindsIn form (first_slots form block count) name found
       → FindsInBlock s s' form d index count name found
-  block_found name found is m m' keeps has head same room =
-      by (subst (λ (f : ℕ). count ≤ per_block f) (sym same) few)
-      (subst (λ (f : ℕ). per_block f * index + count ≤ slot_count head) (sym same) room)
-      (subst (λ (f : ℕ). FindsIn f (first_slots f block count) name found) (sym same) is)
-    where
-      by : count ≤ per_block head.form → per_block head.form * index + count ≤ slot_count head
-          → FindsIn head.form (first_slots head.form block count) name found
-          → FindsIn form (take count (drop (per_block form * index) (slots_at m' d head))) name found
-      by few room is = subst (λ (f : ℕ). FindsIn f (take count (drop (per_block f * index) (slots_at m' d head))) name found) same
-          (subst (λ (a : List (List ℕ)). FindsIn head.form a name found)
-          (sym (slots_of_block m' d head index count block (told m m' keeps has) few room)) is)
+  block_found name found is m m' keeps has head same room = rw (first_slots_are m' d head (told m m' keeps has) few room same) is
 
   pub block_broken : HasNoSlot form block count → IsBlockFault s s' form d index count
-  block_broken bad m m' keeps has head same room dir = absurd (each_is_slot m' d head (told m m' keeps has)
-      (subst (λ (f : ℕ). count ≤ per_block f) (sym same) few)
-      (subst (λ (f : ℕ). per_block f * index + count ≤ slot_count head) (sym same) room) dir.formed
-      (subst (λ (f : ℕ). HasNoSlot f block count) (sym same) bad))
+  block_broken bad m m' keeps has head same room dir = absurd (each_is_slot m' d head (told m m' keeps has) few room same dir.formed bad)
 
-pub block_failed : {S D : Type 0} (s s' : FilesState S D) (form d index count : ℕ) → IsFault s s' → IsBlockFault s s' form d index count
-block_failed s s' form d index count failed m m' keeps has head same room dir = failed m m' keeps has
-
--- ---- the block of an index
-module _ {S D : Type 0} (s s' : FilesState S D) (d : ℕ) (head : Header) (index count : ℕ) (is : count ≡ count_in_nth head index)
-    (low : per_block head.form * index < slot_count head) where
-  room : per_block head.form * index + count ≤ slot_count head
-  room = omega (arith, is, low)
+pub block_failed : {S D : Type 0} (s s' : FilesState S D) {form d : ℕ} (index count : ℕ) → IsFault s s'
+    → IsBlockFault s s' form d index count
+block_failed s s' index count failed m m' keeps has head same room dir = failed m m' keeps has
 
 -- ---- a search behind another
 module _ {S D : Type 0} (s a b : FilesState S D) (d : ℕ) (head : Header) (reads : Reads s a) where
   pub faults_behind : IsDirectoryFault a b d head → IsDirectoryFault s b d head
   faults_behind failed m m' keeps has dir =
-      let rose = failed m m' keeps (reads.has m m' has) dir in
-      let before = reads.looks.carries.failures in
-      omega (arith, rose, before)
+      omega (arith, failed m m' keeps (reads.has m m' has) dir, reads.looks.carries.failures)
 
 -- where no two slots have one name, the slot of a block is that of the directory
 pub names_near : {S D : Type 0} (s s' : FilesState S D) (d : ℕ) (head : Header) (index : ℕ) (name : List ℕ) (found : Found)
@@ -123,10 +105,7 @@ module _ {S D : Type 0} (d : ℕ) (head : Header) (name : List ℕ) where
   pub search_ends : {s a : FilesState S D} {index : ℕ} → slot_count head ≤ per_block head.form * index → SearchedTo s a index
       → FindsSlot s a d head name None
   search_ends {s} {index} past was m m' keeps has =
-      let slots = slots_at m' d head in
-      let many = slots_many m' d head in
-      sym (was.behind m m' keeps has) ∙ ap (λ (s : List (List ℕ)). find byte_cmp name (map_of head.form s))
-      (drop_all (per_block head.form * index) slots (omega (arith, many, past)))
+      cc (was.behind m m' keeps has, drop_all (per_block head.form * index) (slots_at m' d head) (omega (arith, slots_many m' d head)))
 
   -- ---- a block more
   module _ {s a : FilesState S D} (b : FilesState S D) {index : ℕ} (was : SearchedTo s a index) where
@@ -135,11 +114,13 @@ module _ {S D : Type 0} (d : ℕ) (head : Header) (name : List ℕ) where
       reads = reads_more lawful was.reads reads;
       behind = λ m m' keeps has.
           let slots = slots_at m' d head in
-          sym (ap (λ (s : List (List ℕ)). find byte_cmp name (map_of head.form s))
-          (block_and_rest head.form slots index {count = count_in_nth head index} (slots_many m' d head) refl)
-          ∙ gives_none head.form (slots_in_nth m' d head index) (drop (per_block head.form * (index + 1)) slots) name
-          (none m m' keeps (was.reads.has m m' has)))
-          ∙ was.behind m m' (reads.looks.carries.kept_before keeps) has;
+          cc (
+            block_and_rest head.form slots index {count = count_in_nth head index} (slots_many m' d head) refl,
+            gives_none head.form
+                (slots_in_nth m' d head index) (drop (per_block head.form * (index + 1)) slots) name
+                (none m m' keeps (was.reads.has m m' has)),
+            was.behind m m' (reads.looks.carries.kept_before keeps) has,
+          );
     }
 
     pub search_hits : (found : Found) → Reads a b → FindsInNth a b d head index name (Some found) → FindsSlot s b d head name (Some found)
@@ -148,11 +129,13 @@ module _ {S D : Type 0} (d : ℕ) (head : Header) (name : List ℕ) where
         let slot = hit m m' keeps (was.reads.has m m' has) in
         record {
           gives =
-              sym (was.behind m m' (reads.looks.carries.kept_before keeps) has)
-              ∙ ap (λ (s : List (List ℕ)). find byte_cmp name (map_of head.form s))
-              (block_and_rest head.form slots index {count = count_in_nth head index} (slots_many m' d head) refl)
-              ∙ gives_some head.form (slots_in_nth m' d head index) (drop (per_block head.form * (index + 1)) slots) name found.number.value
-              slot.gives;
+              cc (
+                was.behind m m' (reads.looks.carries.kept_before keeps) has,
+                block_and_rest head.form slots index
+                    {count = count_in_nth head index} (slots_many m' d head) refl,
+                gives_some head.form (slots_in_nth m' d head index)
+                    (drop (per_block head.form * (index + 1)) slots) name found.number.value slot.gives,
+              );
           inside = slot.inside;
           slot = slot.slot;
         }

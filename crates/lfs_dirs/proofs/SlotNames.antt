@@ -19,15 +19,15 @@ use Rattle.lfs_dirs.specs.Directory.{FirstGives, SlotAppended}
 
 -- ---- names that are the same bytes
 equal_order : (r : Ordering) → is_eq r ≡ true → r ≡ Equal
-equal_order Less e = absurd (cc)
+equal_order Less e = cc
 equal_order Equal e = refl
-equal_order Greater e = absurd (cc)
+equal_order Greater e = cc
 
 pub tied : (x y : List ℕ) → eq_by_cmp byte_cmp x y ≡ true → x ≡ y
 tied x y e = slice_cmp-IsAntisymmetric nat_cmp-IsAntisymmetric x y (equal_order (byte_cmp x y) e)
 
 pub ties : {x y : List ℕ} → x ≡ y → eq_by_cmp byte_cmp x y ≡ true
-ties {x} e = subst (λ (z : List ℕ). eq_by_cmp byte_cmp x z ≡ true) e (ap is_eq (tied_itself nat_list_cmp_total x))
+ties {x} e = rw (← e) (ap is_eq (tied_itself nat_list_cmp_total x))
 
 pub apart : (x y : List ℕ) → x ≢ y → eq_by_cmp byte_cmp x y ≡ false
 apart x y ne = elim (eq_by_cmp byte_cmp x y) as (λ b. eq_by_cmp byte_cmp x y ≡ b → b ≡ false)
@@ -41,14 +41,12 @@ found_with name s m = find-put byte_cmp nat_list_cmp_total name s.name s.number 
 pub found_first : {name : List ℕ} (s : SlotValue) {o : Option SlotValue} (m : Names) → o ≡ Some s → name ≡ s.name
     → find byte_cmp name (with_slot o m) ≡ Some s.number
 found_first {name} s m is same =
-    ap (λ (x : Option SlotValue). find byte_cmp name (with_slot x m)) is ∙ found_with name s m
-    ∙ ap (λ b. cond b (Some s.number) (find byte_cmp name m)) (ties same)
+    cc (found_with name s m, ties same)
 
 pub found_behind : (name : List ℕ) (s : SlotValue) {o : Option SlotValue} (m : Names) → o ≡ Some s → name ≢ s.name
     → find byte_cmp name (with_slot o m) ≡ find byte_cmp name m
 found_behind name s m is other =
-    ap (λ (x : Option SlotValue). find byte_cmp name (with_slot x m)) is ∙ found_with name s m
-    ∙ ap (λ b. cond b (Some s.number) (find byte_cmp name m)) (apart name s.name other)
+    cc (found_with name s m, apart name s.name other)
 
 -- bytes that spell no slot give no name
 pub found_past : (name : List ℕ) (o : Option SlotValue) (m : Names) → ((s : SlotValue) → o ≡ Some s → name ≢ s.name)
@@ -73,14 +71,14 @@ first_none None m m' w name go is = go is
 first_none (Some s) m m' w name go is =
     found_with name s m' ∙ (elim (eq_by_cmp byte_cmp name s.name) as (λ b. cond b (Some s.number) (find byte_cmp name m) ≡ None
     → cond b (Some s.number) (find byte_cmp name m') ≡ find byte_cmp name w) [
-      | true ↦ λ e. absurd (cc)
+      | true ↦ λ e. cc
       | false ↦ λ e. go e
     ] (sym (found_with name s m) ∙ is))
 
 module _ (form : ℕ) where
   pub gives_some : (a b : List (List ℕ)) (name : List ℕ) (n : ℕ) → find byte_cmp name (map_of form a) ≡ Some n
       → find byte_cmp name (map_of form (a ++ b)) ≡ Some n
-  gives_some [] b name n is = absurd (cc)
+  gives_some [] b name n is = cc
   gives_some (x ∷ a) b name n is = first_some (slot_in form x) (map_of form a) (map_of form (a ++ b)) name n (gives_some a b name n) is
 
   pub gives_none : (a b : List (List ℕ)) (name : List ℕ) → find byte_cmp name (map_of form a) ≡ None
@@ -111,7 +109,7 @@ module _ (form : ℕ) where
 
     alone : (name : List ℕ)
         → find byte_cmp name (map_of form (slot_bytes form s ∷ [])) ≡ cond (eq_by_cmp byte_cmp name s.name) (Some s.number) None
-    alone name = ap (λ (x : Option SlotValue). find byte_cmp name (with_slot x [])) spelt ∙ found_with name s []
+    alone name = cc (spelt, found_with name s [])
 
     behind : (a : List (List ℕ)) → find byte_cmp s.name (map_of form a) ≡ None → (name : List ℕ)
         → find byte_cmp name (map_of form (a ++ slot_bytes form s ∷ [])) ≡ find byte_cmp name (put byte_cmp s.name s.number (map_of form a))
@@ -119,13 +117,9 @@ module _ (form : ℕ) where
         elim (find byte_cmp name (map_of form a))
         as (λ (o : Option ℕ). find byte_cmp name (map_of form a) ≡ o → find byte_cmp name (map_of form (a ++ slot_bytes form s ∷ []))
         ≡ cond (eq_by_cmp byte_cmp name s.name) (Some s.number) (find byte_cmp name (map_of form a))) [
-          | None ↦ λ none. gives_none a (slot_bytes form s ∷ []) name none ∙ alone name
-              ∙ ap (cond (eq_by_cmp byte_cmp name s.name) (Some s.number)) (sym none)
+          | None ↦ λ none. cc (gives_none a (slot_bytes form s ∷ []) name none, alone name)
           | Some n ↦ λ some.
-              gives_some a (slot_bytes form s ∷ []) name n some ∙ sym some
-              ∙ sym (ap (λ b. cond b (Some s.number) (find byte_cmp name (map_of form a)))
-              (apart name s.name
-              (λ e. let bad : Some n ≡ None = sym some ∙ ap (λ (x : List ℕ). find byte_cmp x (map_of form a)) e ∙ new in absurd (cc))))
+              cc (gives_some a (slot_bytes form s ∷ []) name n some, apart name s.name (λ e. cc))
         ] refl ∙ sym (found_with name s (map_of form a))
 
     pub appended : (a : List (List ℕ)) → find byte_cmp s.name (map_of form a) ≡ None
@@ -140,12 +134,11 @@ module _ (form : ℕ) where
     appended_apart a new same =
         let one = ap length (appended a new) ∙ length-put byte_cmp nat_list_cmp_total s.name s.number (map_of form a) (sorted_names a)
         ∙ ap (λ (o : Option ℕ). cond (is_some o) (length (map_of form a)) (length (map_of form a) + 1)) new in
-        let long = length-append a (slot_bytes form s ∷ []) in
-        omega (arith, one, long, same)
+        omega (arith, length-append a (slot_bytes form s ∷ []))
 
     pub appended_formed : (a : List (List ℕ)) → AllByRecursion (λ b. slot_in form b ≢ None) a
         → AllByRecursion (λ b. slot_in form b ≢ None) (a ++ slot_bytes form s ∷ [])
-    appended_formed [] formed = (λ none. let bad : Some s ≡ None = sym spelt ∙ none in absurd (cc), tt)
+    appended_formed [] formed = (λ none. cc spelt, tt)
     appended_formed (x ∷ a) formed = (formed.0, appended_formed a formed.1)
 
 pub slot_appended : SlotAppended

@@ -26,35 +26,32 @@ module _ (m m' : LogMap) (d : ℕ) (head : Header) {slot : List ℕ} (dir : IsDi
   old_slot : (j : ℕ) → j < slot_count head → get_or (slots_at m' d (grown head)) j [] ≡ get_or (slots_at m d head) j []
   old_slot j low =
       slot_is m' d (grown head) j {s = get_or (slots_at m d head) j []}
-      (let more = count_more head.form head.size in omega (arith, low, more))
+      (omega (arith, count_more head.form head.size))
       (slot_long m d head j low)
       (λ b inside. slot_byte m d head j b low inside
       ∙ sym (writes.bytes.before (slot_len head.form * j + b) (byte_within head.form j b head.size low inside)))
 
   new_slot : get_or (slots_at m' d (grown head)) (slot_count head) [] ≡ slot
   new_slot =
-      let whole = dir.whole in
-      slot_is m' d (grown head) (slot_count head) (let more = count_more head.form head.size in omega (arith, more)) long
+      slot_is m' d (grown head) (slot_count head) (omega (arith, count_more head.form head.size)) long
       (λ b inside.
       let place : head.size + b ≡ slot_len head.form * (slot_count head) + b =
-      (let w = whole_size head.form head.size whole in omega (arith, w)) in
-      sym (writes.bytes.inside b (omega (arith, inside, long))) ∙ ap (λ (p : ℕ). byte_in m' d p) place)
+      (omega (arith, whole_size head.form head.size dir.whole)) in
+      cc (writes.bytes.inside b (omega arith)))
 
   pub slots_grown : slots_at m' d (grown head) ≡ slots_at m d head ++ slot ∷ []
   slots_grown =
       let many = slots_many m d head in
       let more = slots_many m' d (grown head) in
       let one = count_more head.form head.size in
-      let pushed = length_push (slots_at m d head) slot in
-      let same : length (slots_at m' d (grown head)) ≡ length (slots_at m d head ++ slot ∷ []) = omega (arith, many, more, pushed, one) in
-      ext_get_or [] (slots_at m' d (grown head)) (slots_at m d head ++ slot ∷ []) same
+      ext_get_or [] (slots_at m' d (grown head)) (slots_at m d head ++ slot ∷ [])
+      (omega (arith, length_push (slots_at m d head) slot))
       (λ j inside. ⊎_elim
       (λ (low : j < slot_count head). old_slot j low
-      ∙ sym (get_or_append_left (slots_at m d head) (slot ∷ []) [] j (omega (arith, low, many))))
+      ∙ sym (get_or_append_left (slots_at m d head) (slot ∷ []) [] j (omega arith)))
       (λ (high : slot_count head ≤ j).
-      let last : slot_count head ≡ j = omega (arith, high, inside, more, one) in
-      ap (λ (i : ℕ). get_or (slots_at m' d (grown head)) i []) (sym last) ∙ new_slot
-      ∙ sym (get_or_push (slots_at m d head) slot [] j (many ∙ last)))
+      let last : slot_count head ≡ j = omega arith in
+      cc (new_slot, get_or_push (slots_at m d head) slot [] j (many ∙ last)))
       (cases_lt j (slot_count head)))
 
 pub slot_written : SlotWritten
@@ -68,12 +65,10 @@ pub adds_name : (m m' : LogMap) (d : ℕ) (head : Header) (n : ℕ) (name : List
 adds_name m m' d head n name fits long dir new writes = record {
   directory = record {
     whole = whole_more head.form head.size dir.whole;
-    formed = subst (λ (a : List (List ℕ)). AllByRecursion (λ b. slot_in head.form b ≢ None) a) (sym grows)
-        (appended_formed head.form s fits (slots_at m d head) dir.formed);
-    apart = subst (λ (a : List (List ℕ)). length (map_of head.form a) ≡ length a) (sym grows)
-        (appended_apart head.form s fits (slots_at m d head) new dir.apart);
+    formed = rw grows (appended_formed head.form s fits (slots_at m d head) dir.formed);
+    apart = rw grows (appended_apart head.form s fits (slots_at m d head) new dir.apart);
   };
-  names = ap (map_of head.form) grows ∙ appended head.form s fits (slots_at m d head) new;
+  names = cc (grows, appended head.form s fits (slots_at m d head) new);
 }
   where
     s : SlotValue
@@ -94,9 +89,9 @@ module _ {S D : Type 0} (s s' : FilesState S D) {d : ℕ} {head : Header} (n : �
     writes = writes;
     has = λ m m' keeps has.
         let f = writes.file m m' keeps has in
-        let file = subst (λ (z : ℕ). WritesFile m' f.map d head (resized head z) head.size (slot_for head.form n name)) size f.file in
+        let file = rw size at f.file in
         record { map = f.map; has = f.has; file = file; more = λ dir new. adds_name m' f.map d head n name fits long dir new file.bytes };
   }
     where
       size : max head.size (head.size + length (slot_for head.form n name)) ≡ head.size + slot_len head.form
-      size = omega (arith, long)
+      size = omega arith

@@ -26,14 +26,13 @@ module _ (form : ℕ) where
 
   -- ---- no two have one name
   few_with : (o : Option SlotValue) (m : Names) (n : ℕ) (order : T (is_sorted byte_cmp m)) → length m ≤ n → length (with_slot o m) ≤ suc n
-  few_with None m n order le = omega (arith, le)
+  few_with None m n order le = omega arith
   few_with (Some s) m n order le =
-      let long = length-put byte_cmp nat_list_cmp_total s.name s.number m order in
       elim (is_some (find byte_cmp s.name m)) as (λ b. length (put byte_cmp s.name s.number m) ≡ cond b (length m) (length m + 1)
       → length (put byte_cmp s.name s.number m) ≤ suc n) [
-        | true ↦ λ e. omega (arith, e, le)
-        | false ↦ λ e. omega (arith, e, le)
-      ] long
+        | true ↦ λ e. omega arith
+        | false ↦ λ e. omega arith
+      ] (length-put byte_cmp nat_list_cmp_total s.name s.number m order)
 
   few_names : (a : List (List ℕ)) → length (map_of form a) ≤ length a
   few_names [] = omega arith
@@ -48,16 +47,16 @@ module _ (form : ℕ) where
 
   not_some : (o : Option ℕ) → is_some o ≡ false → o ≡ None
   not_some None e = refl
-  not_some (Some n) e = absurd (cc)
+  not_some (Some n) e = cc
 
   first_with : (x : List ℕ) (a : List (List ℕ)) (o : Option SlotValue) → slot_in form x ≡ o → length (map_of form a) ≤ length a
       → length (with_slot o (map_of form a)) ≡ suc (length a) → IsFirst x a
-  first_with x a None is few long = absurd (omega (arith, few, long))
+  first_with x a None is few long = absurd (omega arith)
   first_with x a (Some s) is few long =
       elim (is_some (gives s.name a)) as (λ b. is_some (gives s.name a) ≡ b → length (put byte_cmp s.name s.number (map_of form a))
       ≡ cond b (length (map_of form a)) (length (map_of form a) + 1) → IsFirst x a) [
-        | true ↦ λ t e. absurd (omega (arith, e, few, long))
-        | false ↦ λ t e. record { value = s; slot = is; new = not_some (gives s.name a) t; rest = omega (arith, e, long) }
+        | true ↦ λ t e. absurd (omega arith)
+        | false ↦ λ t e. record { value = s; slot = is; new = not_some (gives s.name a) t; rest = omega arith }
       ] refl (length-put byte_cmp nat_list_cmp_total s.name s.number (map_of form a) (sorted_names form a))
 
   is_first : (x : List ℕ) (a : List (List ℕ)) → AreApart (x ∷ a) → IsFirst x a
@@ -71,7 +70,7 @@ module _ (form : ℕ) where
   none_left : (a b : List (List ℕ)) (name : List ℕ) → gives name (a ++ b) ≡ None → gives name a ≡ None
   none_left a b name none = elim (gives name a) as (λ (o : Option ℕ). gives name a ≡ o → o ≡ None) [
     | None ↦ λ e. refl
-    | Some n ↦ λ e. let bad : Some n ≡ None = sym (gives_some form a b name n e) ∙ none in absurd (cc)
+    | Some n ↦ λ e. cc (gives_some form a b name n e)
   ] refl
 
   none_right : (a b : List (List ℕ)) (name : List ℕ) → gives name (a ++ b) ≡ None → gives name b ≡ None
@@ -82,14 +81,14 @@ module _ (form : ℕ) where
 
   -- a name that slots give isn't given by those behind them
   given_once : (a b : List (List ℕ)) (name : List ℕ) {n : ℕ} → AreApart (a ++ b) → gives name a ≡ Some n → gives name b ≡ None
-  given_once [] b name distinct some = absurd (cc)
+  given_once [] b name distinct some = cc
   given_once (x ∷ a) b name {n} distinct some =
       let f = is_first x (a ++ b) distinct in
       elim (eq_by_cmp byte_cmp name f.value.name) as (λ t. eq_by_cmp byte_cmp name f.value.name ≡ t → gives name b ≡ None) [
-        | true ↦ λ e. none_right a b name (ap (λ (q : List ℕ). gives q (a ++ b)) (tied name f.value.name e) ∙ f.new)
+        | true ↦ λ e. none_right a b name (cc (tied name f.value.name e))
         | false ↦ λ e.
             let other : name ≢ f.value.name =
-            λ same. (let yes = ties same in let no : true ≡ false = sym yes ∙ e in absurd (cc)) in
+            λ same. cc (ties same) in
             given_once a b name f.rest (sym (found_behind name f.value (map_of form a) f.slot other) ∙ some)
       ] refl
 
@@ -101,15 +100,14 @@ module _ (form : ℕ) where
     none_before : gives s.name a ≡ None
     none_before = elim (gives s.name a) as (λ (o : Option ℕ). gives s.name a ≡ o → o ≡ None) [
       | None ↦ λ e. refl
-      | Some n ↦ λ e. let bad : Some s.number ≡ None = sym (found_here x s b is) ∙ given_once a (x ∷ b) s.name distinct e in absurd (cc)
+      | Some n ↦ λ e. cc (found_here x s b is, given_once a (x ∷ b) s.name distinct e)
     ] refl
 
     none_behind : gives s.name b ≡ None
     none_behind =
         let f = is_first x b (apart_right a (x ∷ b) distinct) in
-        let same : Some s ≡ Some f.value = sym is ∙ f.slot in
         let name : s.name ≡ f.value.name = cc in
-        ap (λ (q : List ℕ). gives q b) name ∙ f.new
+        cc
 
     pub there : gives s.name (a ++ x ∷ b) ≡ Some s.number
     there = gives_none form a (x ∷ b) s.name none_before ∙ found_here x s b is
@@ -125,15 +123,15 @@ module _ (form : ℕ) where
           as (λ e. eq_by_cmp byte_cmp name s.name ≡ e → gives name (a ++ y ∷ b) ≡ cond e (Some t.number) (gives name (a ++ x ∷ b))) [
             | true ↦ λ e.
                 let here : name ≡ s.name = tied name s.name e in
-                gives_none form a (y ∷ b) name (ap (λ (q : List ℕ). gives q a) here ∙ none_before)
-                ∙ found_first t (map_of form b) own (here ∙ sym same)
+                gives_none form a (y ∷ b) name (cc none_before)
+                ∙ found_first t (map_of form b) own (cc)
             | false ↦ λ e.
                 let other : name ≢ s.name =
-                λ here. (let yes = ties here in let no : true ≡ false = sym yes ∙ e in absurd (cc)) in
+                λ here. cc (ties here) in
                 let skipped : gives name (y ∷ b) ≡ gives name (x ∷ b) =
                 found_behind name t (map_of form b) own (λ h. other (h ∙ same)) ∙ sym (other_behind name other) in
                 elim (gives name a) as (λ (o : Option ℕ). gives name a ≡ o → gives name (a ++ y ∷ b) ≡ gives name (a ++ x ∷ b)) [
-                  | None ↦ λ none. gives_none form a (y ∷ b) name none ∙ skipped ∙ sym (gives_none form a (x ∷ b) name none)
+                  | None ↦ λ none. cc (gives_none form a (y ∷ b) name none, gives_none form a (x ∷ b) name none)
                   | Some n ↦ λ some. gives_some form a (y ∷ b) name n some ∙ sym (gives_some form a (x ∷ b) name n some)
                 ] refl
           ] refl
@@ -149,9 +147,7 @@ module _ (form : ℕ) where
           let one = ap length replaced
           ∙ length-put byte_cmp nat_list_cmp_total s.name t.number (map_of form (a ++ x ∷ b)) (sorted_names form (a ++ x ∷ b))
           ∙ ap (λ (o : Option ℕ). cond (is_some o) (length (map_of form (a ++ x ∷ b))) (length (map_of form (a ++ x ∷ b)) + 1)) there in
-          let long = length-append a (x ∷ b) in
-          let long' = length-append a (y ∷ b) in
-          omega (arith, one, long, long', distinct)
+          omega (arith, length-append a (x ∷ b), length-append a (y ∷ b))
 
     -- ---- one less
     taken_from : (c : List (List ℕ))
@@ -165,11 +161,13 @@ module _ (form : ℕ) where
     taken_few : (c : List (List ℕ)) → map_of form c ≡ without byte_cmp s.name (map_of form (a ++ x ∷ b))
         → length c + 1 ≡ length (a ++ x ∷ b) → AreApart c
     taken_few c is less =
-        let one = length_without byte_cmp nat_list_cmp_total s.name (map_of form (a ++ x ∷ b)) (sorted_names form (a ++ x ∷ b)) in
         let some : ◌≡◌ {A = ℕ} (cond (is_some (gives s.name (a ++ x ∷ b))) 1 0) 1 =
-        ap (λ (o : Option ℕ). cond {A = ℕ} (is_some o) 1 0) there in
-        let same = ap length is in
-        omega (arith, one, some, same, less, distinct)
+        cc there in
+        omega (
+          arith,
+          length_without byte_cmp nat_list_cmp_total s.name (map_of form (a ++ x ∷ b)) (sorted_names form (a ++ x ∷ b)),
+          ap length is,
+        )
 
     -- what is there after it goes, where the slots without it give what the others gave
     taken_gives : (c : List (List ℕ)) → gives s.name c ≡ None
@@ -178,9 +176,9 @@ module _ (form : ℕ) where
         → gives name c ≡ cond (eq_by_cmp byte_cmp name s.name) None (gives name (a ++ x ∷ b))
     taken_gives c gone none some name = elim (eq_by_cmp byte_cmp name s.name)
         as (λ e. eq_by_cmp byte_cmp name s.name ≡ e → gives name c ≡ cond e None (gives name (a ++ x ∷ b))) [
-          | true ↦ λ e. ap (λ (q : List ℕ). gives q c) (tied name s.name e) ∙ gone
+          | true ↦ λ e. cc (tied name s.name e)
           | false ↦ λ e.
-              let other : name ≢ s.name = λ here. (let yes = ties here in let no : true ≡ false = sym yes ∙ e in absurd (cc)) in
+              let other : name ≢ s.name = λ here. cc (ties here) in
               elim (gives name a) as (λ (o : Option ℕ). gives name a ≡ o → gives name c ≡ gives name (a ++ x ∷ b)) [
                 | None ↦ λ before. none name before other ∙ sym (gives_none form a (x ∷ b) name before ∙ other_behind name other)
                 | Some n ↦ λ before. some name n before ∙ sym (gives_some form a (x ∷ b) name n before)
@@ -191,10 +189,9 @@ module _ (form : ℕ) where
   pub last_taken : (a : List (List ℕ)) (x : List ℕ) (s : SlotValue) → slot_in form x ≡ Some s → AreApart (a ++ x ∷ [])
       → (map_of form a ≡ without byte_cmp s.name (map_of form (a ++ x ∷ []))) × AreApart a
   last_taken a x s is distinct =
-      let less : length a + 1 ≡ length (a ++ x ∷ []) = let l = length-append a (x ∷ []) in omega (arith, l) in
       let names = taken_from a [] x is distinct a
       (taken_gives a [] x is distinct a (none_before a [] x is distinct) (λ name none ne. none) (λ name n some. some)) in
-      (names, taken_few a [] x is distinct a names less)
+      (names, taken_few a [] x is distinct a names (omega (arith, length-append a (x ∷ []))))
 
   -- a slot goes, and the last one comes into its place
   module _ (a b : List (List ℕ)) (x y : List ℕ) (s : SlotValue) (is : slot_in form x ≡ Some s)
@@ -209,12 +206,12 @@ module _ (form : ℕ) where
           | Some n ↦ λ some.
               let none : gives name b ≡ None = elim (gives name b) as (λ (o : Option ℕ). gives name b ≡ o → o ≡ None) [
                 | None ↦ λ e. refl
-                | Some k ↦ λ e. let bad : Some n ≡ None = sym some ∙ given_once b (y ∷ []) name behind_apart e in absurd (cc)
+                | Some k ↦ λ e. cc (given_once b (y ∷ []) name behind_apart e)
               ] refl in
-              gives_some form (y ∷ []) b name n some ∙ sym (gives_none form b (y ∷ []) name none ∙ some)
+              cc (gives_some form (y ∷ []) b name n some, gives_none form b (y ∷ []) name none)
           | None ↦ λ none. gives_none form (y ∷ []) b name none
               ∙ elim (gives name b) as (λ (o : Option ℕ). gives name b ≡ o → gives name b ≡ gives name (b ++ y ∷ [])) [
-                | None ↦ λ e. e ∙ sym (gives_none form b (y ∷ []) name e ∙ none)
+                | None ↦ λ e. cc (gives_none form b (y ∷ []) name e)
                 | Some k ↦ λ e. e ∙ sym (gives_some form b (y ∷ []) name k e)
               ] refl
         ] refl
@@ -223,7 +220,7 @@ module _ (form : ℕ) where
     moved =
         let c = b ++ y ∷ [] in
         let less : length (a ++ y ∷ b) + 1 ≡ length (a ++ x ∷ c) =
-        let l = length-append a (x ∷ c) in let k = length-append a (y ∷ b) in let j = length-append b (y ∷ []) in omega (arith, l, k, j) in
+        let j = length-append b (y ∷ []) in omega (arith, length-append a (x ∷ c), length-append a (y ∷ b)) in
         let names = taken_from a c x is distinct (a ++ y ∷ b) (taken_gives a c x is distinct (a ++ y ∷ b)
         (none_both a (y ∷ b) s.name (none_before a c x is distinct) (swapped s.name ∙ none_behind a c x is distinct))
         (λ name none ne. gives_none form a (y ∷ b) name none ∙ swapped name)

@@ -23,24 +23,24 @@ module _ (form : ℕ) where
       → (find byte_cmp name (map_of form a) ≡ Some n → (place : ℕ) × IsSlotAt form a place n name)
       → find byte_cmp name (with_slot o (map_of form a)) ≡ Some n → (place : ℕ) × IsSlotAt form (x ∷ a) place n name
   slot_at_first x a n None is go found = let later = go found in
-      (suc later.0, record { inside = let i = later.1.inside in omega (arith, i); slot = later.1.slot })
+      (suc later.0, record { inside = omega arith; slot = later.1.slot })
   slot_at_first x a {name} n (Some s) is go found =
       elim (eq_by_cmp byte_cmp name s.name)
       as (λ e. eq_by_cmp byte_cmp name s.name ≡ e → (place : ℕ) × IsSlotAt form (x ∷ a) place n name) [
         | true ↦ λ e.
             let same : name ≡ s.name = tied name s.name e in
-            let here : Some s.number ≡ Some n = sym (found_first s {o = Some s} (map_of form a) refl same) ∙ found in
+            let here : Some s.number ≡ Some n = cc (found_first s {o = Some s} (map_of form a) refl same) in
             let number : s.number ≡ n = cc in
             (0, record { inside = omega arith; slot = is ∙ ap₂ slot_given number (sym same) })
         | false ↦ λ e.
-            let other : name ≢ s.name = λ same. (let yes = ties same in let no : true ≡ false = sym yes ∙ e in absurd (cc)) in
-            let later = go (sym (found_behind name s {o = Some s} (map_of form a) refl other) ∙ found) in
-            (suc later.0, record { inside = let i = later.1.inside in omega (arith, i); slot = later.1.slot })
+            let other : name ≢ s.name = λ same. cc (ties same) in
+            let later = go (cc (found_behind name s {o = Some s} (map_of form a) refl other)) in
+            (suc later.0, record { inside = omega arith; slot = later.1.slot })
       ] refl
 
   slot_of : (a : List (List ℕ)) (name : List ℕ) (n : ℕ) → find byte_cmp name (map_of form a) ≡ Some n
       → (place : ℕ) × IsSlotAt form a place n name
-  slot_of [] name n found = absurd (cc)
+  slot_of [] name n found = cc
   slot_of (x ∷ a) name n found = slot_at_first x a n (slot_in form x) refl (slot_of a name n) found
 
 pub slot_gives : SlotGives
@@ -48,6 +48,5 @@ slot_gives form a name n = (
   slot_of form a name n,
   λ distinct place is.
       let parts = parts_at a place is.inside in
-      ap (λ (b : List (List ℕ)). find byte_cmp name (map_of form b)) parts
-      ∙ there form (take place a) (drop (place + 1) a) (get_or a place []) is.slot (subst (AreApart form) parts distinct),
+      cc (there form (take place a) (drop (place + 1) a) (get_or a place []) is.slot (rw (← parts) distinct)),
 )

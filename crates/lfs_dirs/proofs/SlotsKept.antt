@@ -26,26 +26,25 @@ slots_are m d head = refl
 
 pub slots_stay : SlotsStay
 slots_stay m m' d head head' blocks form size =
-    slots_are m' d head'
-    ∙ ap (λ (f : ℕ). cut_up f head'.size (object m' d (as_header head'))) form
-    ∙ ap₂ (cut_up head.form) size (same_objects m' m d d (as_header head') (as_header head) size
-    (λ p low. ap (λ (b : List ℕ). slice_index b (p % 512)) (blocks (p / 512))))
-    ∙ sym (slots_are m d head)
+    cc (
+      slots_are m' d head',
+      same_objects m' m d d (as_header head') (as_header head) size
+          (λ p low. ap (λ (b : List ℕ). slice_index b (p % 512)) (blocks (p / 512))),
+      slots_are m d head,
+    )
 
 is_directory : (m m' : LogMap) (d : ℕ) (head head' : Header) → slots_at m' d head' ≡ slots_at m d head → head'.form ≡ head.form
     → head'.size ≡ head.size → IsDirectory m d (as_header head) → IsDirectory m' d (as_header head')
 is_directory m m' d head head' same form size dir = record {
-  whole = subst (λ (f : ℕ). head'.size % slot_len f ≡ 0) (sym form) (subst (λ (n : ℕ). n % slot_len head.form ≡ 0) (sym size) dir.whole);
-  formed = subst (λ (f : ℕ). AllByRecursion (λ b. slot_in f b ≢ None) (slots_at m' d head')) (sym form)
-      (subst (λ (a : List (List ℕ)). AllByRecursion (λ b. slot_in head.form b ≢ None) a) (sym same) dir.formed);
-  apart = subst (λ (f : ℕ). length (map_of f (slots_at m' d head')) ≡ length (slots_at m' d head')) (sym form)
-      (subst (λ (a : List (List ℕ)). length (map_of head.form a) ≡ length a) (sym same) dir.apart);
+  whole = rw (form, size) dir.whole;
+  formed = rw (same, form) dir.formed;
+  apart = rw (same, form) dir.apart;
 }
 
 pub directory_stays : DirectoryStays
 directory_stays m m' d head head' blocks form size dir =
     let same = slots_stay m m' d head head' blocks form size in
-    (is_directory m m' d head head' same form size dir, ap (λ (f : ℕ). map_of f (slots_at m' d head')) form ∙ ap (map_of head.form) same)
+    (is_directory m m' d head head' same form size dir, cc)
 
 no_rest : (form : ℕ) → 0 % slot_len form ≡ 0
 no_rest zero = refl
@@ -57,12 +56,11 @@ no_count (suc form) = refl
 
 pub empty_directory : EmptyDirectory
 empty_directory m d head size =
-    let count : slot_count head ≡ 0 = ap (λ (n : ℕ). n / slot_len head.form) size ∙ no_count head.form in
-    let none : slots_at m d head ≡ [] = nil_from_length (slots_at m d head) (slots_many m d head ∙ count) in (
+    let none : slots_at m d head ≡ [] = nil_from_length (slots_at m d head) (slots_many m d head ∙ (cc (no_count head.form))) in (
       record {
-        whole = ap (λ (n : ℕ). n % slot_len head.form) size ∙ no_rest head.form;
-        formed = subst (λ (a : List (List ℕ)). AllByRecursion (λ b. slot_in head.form b ≢ None) a) (sym none) tt;
-        apart = subst (λ (a : List (List ℕ)). length (map_of head.form a) ≡ length a) (sym none) refl;
+        whole = cc (no_rest head.form);
+        formed = rw none tt;
+        apart = rw none refl;
       },
-      ap (map_of head.form) none,
+      cc,
     )

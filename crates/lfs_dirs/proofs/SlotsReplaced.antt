@@ -28,10 +28,10 @@ use Rattle.lfs_dirs.proofs.SlotsApart.{AreApart, AreFormed, replaced, replaced_a
 -- ---- lists
 -- the list about one of its elements
 pub parts_at : (a : List (List ℕ)) (j : ℕ) → j < length a → a ≡ take j a ++ get_or a j [] ∷ drop (j + 1) a
-parts_at a j inside = sym (take-append-drop j a) ∙ ap (λ (b : List (List ℕ)). take j a ++ b) (drop_more a j [] inside)
+parts_at a j inside = cc (take-append-drop j a, drop_more a j [] inside)
 
 pub parts_set : (a : List (List ℕ)) (j : ℕ) (y : List ℕ) → j < length a → set a j y ≡ take j a ++ y ∷ drop (j + 1) a
-parts_set a j y inside = let next : suc j ≡ j + 1 = omega arith in set_split a j y inside ∙ ap (λ (k : ℕ). take j a ++ y ∷ drop k a) next
+parts_set a j y inside = let next : suc j ≡ j + 1 = omega arith in cc (set_split a j y inside)
 
 -- ---- the slots
 module _ (m m' : LogMap) (d : ℕ) (head : Header) (place : ℕ) {slot : List ℕ} (inside : place < slot_count head) (long : length slot
@@ -41,24 +41,24 @@ module _ (m m' : LogMap) (d : ℕ) (head : Header) (place : ℕ) {slot : List �
   apart_bytes j b other low = ⊎_elim
       (λ (before : j < place). writes.bytes.before (slot_len head.form * j + b) (before_slot head.form j place b before low))
       (λ (le : place ≤ j). writes.bytes.behind (slot_len head.form * j + b)
-      (let apart = behind_slot head.form j place (omega (arith, le, other)) in omega (arith, apart, long)))
+      (omega (arith, behind_slot head.form j place (omega (arith, le, other)))))
       (cases_lt j place)
 
   pub slots_set : slots_at m' d head ≡ set (slots_at m d head) place slot
   slots_set =
       let many = slots_many m d head in
       let many' = slots_many m' d head in
-      let kept = length-set (slots_at m d head) place slot in
-      ext_get_or [] (slots_at m' d head) (set (slots_at m d head) place slot) (omega (arith, many, many', kept))
+      ext_get_or [] (slots_at m' d head) (set (slots_at m d head) place slot)
+      (omega (arith, length-set (slots_at m d head) place slot))
       (λ j low.
-      let within : j < slot_count head = omega (arith, low, many') in
+      let within : j < slot_count head = omega arith in
       ⊎_elim
       (λ (here : j ≡ place).
-      slot_is m' d head j {s = slot} within long
-      (λ b small. sym (writes.bytes.inside b (omega (arith, small, long)))
-      ∙ ap (λ (k : ℕ). byte_in m' d (slot_len head.form * k + b)) (sym here))
-      ∙ sym (ap (λ (k : ℕ). get_or (set (slots_at m d head) place slot) k []) here
-      ∙ get_or-set_same (slots_at m d head) place slot [] (omega (arith, inside, many))))
+      cc (
+        slot_is m' d head j {s = slot} within long
+            (λ b small. sym (writes.bytes.inside b (omega arith)) ∙ ap (λ (k : ℕ). byte_in m' d (slot_len head.form * k + b)) (sym here)),
+        get_or-set_same (slots_at m d head) place slot [] (omega arith),
+      ))
       (λ (other : j ≢ place).
       slot_is m' d head j {s = get_or (slots_at m d head) j []} within (slot_long m d head j within)
       (λ b small. slot_byte m d head j b within small ∙ sym (apart_bytes j b other small))
@@ -86,32 +86,34 @@ module _ (m m' : LogMap) (d : ℕ) (head : Header) (n : ℕ) (name : List ℕ) (
   was = parts_at old found.place is.inside
 
   now : slots_at m' d head ≡ before ++ slot_for head.form n name ∷ behind
-  now = let inside = is.inside in let many = slots_many m d head in
-      slots_set m m' d head found.place (omega (arith, inside, many)) long writes
+  now = slots_set m m' d head found.place (omega (arith, slots_many m d head)) long writes
       ∙ parts_set old found.place (slot_for head.form n name) is.inside
 
   spelt : slot_in head.form (slot_for head.form n name) ≡ Some record { number = n; name = name }
   spelt = slot_some head.form (slot_for head.form n name) fits refl
 
   is_slot : slot_in head.form (slot_for head.form n name) ≢ None
-  is_slot none = let bad : Some (slot_value n name) ≡ None = sym spelt ∙ none in absurd (cc)
+  is_slot none = cc spelt
 
   were_apart : AreApart head.form (before ++ get_or old found.place [] ∷ behind)
-  were_apart = subst (AreApart head.form) was dir.apart
+  were_apart = rw (← was) dir.apart
 
   pub repoints_name : RepointsName m m' d head n name
   repoints_name = record {
-    there = λ none. let bad : Some found.number.value ≡ None = sym is.gives ∙ none in absurd (cc);
+    there = λ none. cc;
     directory = record {
       whole = dir.whole;
-      formed = subst (AreFormed head.form) (sym now) (replaced_formed head.form before behind (get_or old found.place [])
-          (slot_for head.form n name) is_slot (subst (AreFormed head.form) was dir.formed));
-      apart = subst (AreApart head.form) (sym now) (replaced_apart head.form before behind (get_or old found.place [])
-      is.slot were_apart (slot_for head.form n name) spelt refl);
+      formed = rw now (replaced_formed head.form before behind (get_or old found.place [])
+          (slot_for head.form n name) is_slot (rw (← was) dir.formed));
+      apart = rw now (replaced_apart head.form before behind (get_or old found.place [])
+          is.slot were_apart (slot_for head.form n name) spelt refl);
     };
     names =
-        ap (map_of head.form) now ∙ replaced head.form before behind (get_or old found.place []) is.slot
-        were_apart (slot_for head.form n name) spelt refl ∙ ap (λ (a : List (List ℕ)). put byte_cmp name n (map_of head.form a)) (sym was);
+        cc (
+          now,
+          replaced head.form before behind (get_or old found.place []) is.slot were_apart (slot_for head.form n name) spelt refl,
+          was,
+        );
   }
 
 -- ---- the draft
@@ -125,8 +127,7 @@ module _ {S D : Type 0} {s a s' : FilesState S D} {d : ℕ} {head : Header} {n :
     writes = writes_behind s a d reads writes;
     has = λ m m' keeps has.
         let f = writes.file m m' keeps (reads.has m m' has) in
-        let file = subst (λ (z : ℕ).
-        WritesFile m' f.map d head (resized head z) (slot_len head.form * found.place) (slot_for head.form n name)) size f.file in
+        let file = rw size at f.file in
         record {
           map = f.map;
           has = f.has;
@@ -137,17 +138,15 @@ module _ {S D : Type 0} {s a s' : FilesState S D} {d : ℕ} {head : Header} {n :
   }
     where
       size : max head.size (slot_len head.form * found.place + length (slot_for head.form n name)) ≡ head.size
-      size = let within = slot_within head.form found.place head.size inside in omega (arith, long, within)
+      size = omega (arith, slot_within head.form found.place head.size inside)
 
 -- what fails after the search
 pub fails_behind : {S D : Type 0} {s a : FilesState S D} (s' : FilesState S D) (d : ℕ) (head : Header) → Reads s a → IsFault a s'
     → IsDirectoryFault s s' d head
 fails_behind s' d head reads failed m m' keeps has dir =
-    let rose = failed m m' keeps (reads.has m m' has) in
-    let before = reads.looks.carries.failures in
-    omega (arith, rose, before)
+    omega (arith, failed m m' keeps (reads.has m m' has))
 
 -- the totals of what is written behind the search are those behind none
 pub counts_searched : {S D : Type 0} {s a : FilesState S D} (s' : FilesState S D) → Reads s a → Counts a s' → Counts s s'
 counts_searched s' reads counts m x y keeps has has' map map' are =
-    counts m x y keeps (reads.has m x has) has' map map' (subst (λ (t : Counted). AreCounted x t) (sym reads.drafted) are)
+    counts m x y keeps (reads.has m x has) has' map map' (rw reads.drafted are)

@@ -27,12 +27,12 @@ pub cut_kept : {m l : LogMap} {d : ℕ} {head : Header} → head.size ≤ 1024 *
     → CutsSlot m l d head → IsLogMap l
 cut_kept {m} {l} {d} {head} few there long cut =
     let was =
-    object_fits m d (as_header head) there.map long there.there (let most = (slot_some head.form).1 in omega (arith, few, most)) in
+    object_fits m d (as_header head) there.map long there.there (omega (arith, (slot_some head.form).1)) in
     object_kept m l d (as_header (shrunk head)) there.map cut.only cut.header record {
       number = was.number;
       root = was.root;
-      form = subst (λ (v : ℕ). IsForm v head.kind head.form) (sym cut.only.version) was.form;
-      size = let most = (slot_some head.form).1 in omega (arith, few, most);
+      form = rw cut.only.version was.form;
+      size = omega (arith, (slot_some head.form).1);
       whole = cut.whole was.whole;
       ends = cut.ends;
     }
@@ -50,8 +50,8 @@ module _ {S D : Type 0} where
       → Shrinks s s' d head (head.size - slot_len head.form) → DropsSlot s s' d head place
   drops_last {d} {head} place last shrinks = record {
     lost = shrinks.lost;
-    headers = let few = shrinks.headers in omega (arith, few);
-    blocks = let few = shrinks.blocks in omega (arith, few);
+    headers = omega arith;
+    blocks = omega arith;
     fits = λ m m' keeps has fit takes. shrinks.fits m m' has fit
         record { there = takes.there; apart = takes.apart; within = λ none. absurd (takes.staged none); header = takes.header };
     has = λ m m' keeps has.
@@ -59,9 +59,9 @@ module _ {S D : Type 0} where
         record {
           map = f.map;
           has = f.has;
-          file = λ there. file_cut d (one_slot head.form place head.size (omega (arith, last))) (f.file there);
-          slots = λ there. slots_dropped m' f.map d head place last ((f.file there).shorter (let one = one_slot head.form place head.size
-              (omega (arith, last)) in let least = (slot_some head.form).0 in omega (arith, one, least)));
+          file = λ there. file_cut d (one_slot head.form place head.size (omega arith)) (f.file there);
+          slots = λ there. slots_dropped m' f.map d head place last
+              ((f.file there).shorter (omega (arith, one_slot head.form place head.size (omega arith), (slot_some head.form).0)));
         };
   }
 
@@ -78,27 +78,27 @@ module _ {S D : Type 0} where
     sized m m' keeps has = shrinks.has m m' (last.looks.carries.kept_before keeps) (reads.has m m' has)
 
     size : max (head.size - slot_len head.form) (slot_len head.form * place + length slot) ≡ head.size - slot_len head.form
-    size = let within = slot_within head.form (place + 1) head.size inside in let next = slot_next head.form place in
-        omega (arith, long, within, next)
+    size = omega (arith, slot_within head.form (place + 1) head.size inside, slot_next head.form place)
 
     read : (m m' : LogMap) → s'.device.keeps_model → s.has m m' → get_or (slots_at m' d head) (length (slots_at m' d head) - 1) [] ≡ slot
     read m m' keeps has =
-        ap (λ (n : ℕ). get_or (slots_at m' d head) (n - 1) []) (slots_many m' d head)
-        ∙ found m m' (more.looks.carries.kept_before (last.looks.carries.kept_before keeps)) has (omega (arith, inside))
+        cc (slots_many m' d head, found m m' (more.looks.carries.kept_before (last.looks.carries.kept_before keeps)) has (omega arith))
 
     dropped : (m m' : LogMap) → s'.device.keeps_model → s.has m m' → HasDropped s' m m' d head place
     dropped m m' keeps has =
         let cut = sized m m' keeps has in
         let f = writes.file m cut.map keeps cut.has in
-        let file = subst (λ (z : ℕ). WritesFile cut.map f.map d (shrunk head) (resized (shrunk head) z) (slot_len head.form * place) slot)
-        size f.file in
+        let file = rw size at f.file in
         record {
           map = f.map;
           has = f.has;
           file = λ there. file_moved m' d head place inside long (cut.file there) file;
           slots = λ there. slots_moved m' f.map d head place slot inside long (read m m' keeps has)
-              ((cut.file there).shorter (let one = one_slot head.form place head.size (omega (arith, inside)) in
-              let least = (slot_some head.form).0 in omega (arith, one, least))) file.bytes;
+              ((cut.file there).shorter (omega (
+                arith,
+                one_slot head.form place head.size (omega arith),
+                (slot_some head.form).0,
+              ))) file.bytes;
         }
 
     apart_then : IsApart s.lost d → IsApart b.lost d
@@ -120,38 +120,38 @@ module _ {S D : Type 0} where
           there = cut.header;
           apart = apart_then takes.apart;
           within = λ none. absurd (takes.staged none);
-          header = subst (λ (z : ℕ). FitsHeader head.kind head.form head.links z) (sym size) takes.header;
+          header = rw size takes.header;
         }
 
-    pub drops_other : DropsSlot s s' d head place
+    drops_other : DropsSlot s s' d head place
     drops_other = record {
       lost = λ x. writes.lost x ∙ shrinks.lost x ∙ reads.lost x;
-      headers = let few = shrinks.headers in let one = writes.headers in let same = reads.headers in omega (arith, few, one, same);
-      blocks = let few = shrinks.blocks in let one = writes.blocks in let same = reads.blocks in
-          let whole = subst (λ (n : ℕ). (slot_len head.form * place + n) / 512 + min 1 ((slot_len head.form * place + n) % 512)
-          ≤ slot_len head.form * place / 512 + 1) (sym long) (one_block head.form place) in omega (arith, few, one, same, whole);
+      headers = omega arith;
+      blocks = let whole = subst (λ (n : ℕ). (slot_len head.form * place + n) / 512 + min 1 ((slot_len head.form * place + n) % 512)
+          ≤ slot_len head.form * place / 512 + 1) (sym long) (one_block head.form place) in
+          omega arith;
       fits = fitting;
       has = dropped;
     }
 
-    pub counts_other : head.size ≤ 1024 * slot_len head.form → Counts a b → Counts b s' → CountsDropped s s' d head
+    counts_other : head.size ≤ 1024 * slot_len head.form → Counts a b → Counts b s' → CountsDropped s s' d head
     counts_other few first next m x y keeps has has' there whole map are =
-        let before = last.looks.carries.kept_before keeps in
         let cut = sized m x keeps has in
-        let kept = cut_kept few there whole (file_cut d (one_slot head.form place head.size (omega (arith, inside))) (cut.file there)) in
+        let kept = cut_kept few there whole (file_cut d (one_slot head.form place head.size (omega arith)) (cut.file there)) in
         next m cut.map y keeps cut.has has' kept map
-        (first m x cut.map before (reads.has m x has) cut.has there.map kept
-        (subst (λ (t : Counted). AreCounted x t) (sym reads.drafted) are))
+        (first m x cut.map (last.looks.carries.kept_before keeps) (reads.has m x has) cut.has there.map kept
+        (rw (← reads.drafted) at are))
+
+    pub drops_and_counts : head.size ≤ 1024 * slot_len head.form → Counts a b → Counts b s'
+        → DropsSlot s s' d head place × CountsDropped s s' d head
+    drops_and_counts few first next = (drops_other, counts_other few first next)
 
   -- what fails where the slot is written
   pub fails_last : {s a b s' : FilesState S D} {d : ℕ} {head : Header} {len : ℕ} → Reads s a → Redrafts a b → Redrafts b s'
       → Shrinks a b d head len → IsFault b s' → IsFault s s'
   fails_last reads more last shrinks failed m m' keeps has =
       let cut = shrinks.has m m' (last.looks.carries.kept_before keeps) (reads.has m m' has) in
-      let rose = failed m cut.map keeps cut.has in
-      let one = reads.looks.carries.failures in
-      let two = more.looks.carries.failures in
-      omega (arith, rose, one, two)
+      omega (arith, failed m cut.map keeps cut.has)
 
   -- ---- the slot of a name goes
   pub drops_behind : (s a : FilesState S D) {s' : FilesState S D} (d : ℕ) {head : Header} {place : ℕ} → Reads s a
@@ -159,8 +159,8 @@ module _ {S D : Type 0} where
       → DropsSlot s s' d head place
   drops_behind s a d reads drops = record {
     lost = λ x. drops.lost x ∙ reads.lost x;
-    headers = let more = drops.headers in let same = reads.headers in omega (arith, more, same);
-    blocks = let more = drops.blocks in let same = reads.blocks in omega (arith, more, same);
+    headers = omega arith;
+    blocks = omega arith;
     fits = λ m m' keeps has fit takes. drops.fits m m' keeps (reads.has m m' has) (reads.fits m fit)
         record { staged = takes.staged; there = takes.there; header = takes.header; apart = still_apart reads takes.apart };
     has = λ m m' keeps has. drops.has m m' keeps (reads.has m m' has);
@@ -169,7 +169,7 @@ module _ {S D : Type 0} where
   pub counts_behind : {s a : FilesState S D} (s' : FilesState S D) (d : ℕ) (head : Header) → Reads s a → CountsDropped a s' d head
       → CountsDropped s s' d head
   counts_behind s' d head reads counts m x y keeps has has' there long map are =
-      counts m x y keeps (reads.has m x has) has' there long map (subst (λ (t : Counted). AreCounted x t) (sym reads.drafted) are)
+      counts m x y keeps (reads.has m x has) has' there long map (rw (← reads.drafted) at are)
 
   pub takes : {s a s' : FilesState S D} {d : ℕ} {head : Header} {name : List ℕ} (found : Found) → Reads s a → Redrafts a s'
       → FindsName s a d head name found

@@ -23,7 +23,7 @@ use Rattle.lfs_dirs.specs.Finding.{IsBlockFault, IsDirectoryFault}
 use Rattle.lfs_dirs.specs.Listing.{AreSlots}
 use Rattle.lfs_dirs.specs.Widening.{AppendsWide, TellsWide, WidensBlock, WidensNames, wide, wide_bytes, wide_slot, wide_slot_of}
 use Rattle.lfs_dirs.proofs.Scans.{next_slot, no_slots}
-use Rattle.lfs_dirs.proofs.Searches.{block_and_rest}
+use Rattle.lfs_dirs.proofs.Searches.{block_and_rest, first_slots_are}
 use Rattle.lfs_dirs.proofs.SlotPlaces.{slot_is, slots_many, slots_of_block}
 use Rattle.lfs_dirs.proofs.Widths.{next_block}
 
@@ -33,7 +33,7 @@ longer : (form : ℕ) {name : List ℕ} → IsName (name_len form) name → IsNa
 longer form {name} is = record { long = is.long; short = at_most form is.short; bytes = is.bytes; dot = is.dot; dotdot = is.dotdot }
   where
     at_most : (form : ℕ) → length name ≤ name_len form → length name ≤ name_len 1
-    at_most zero short = omega (arith, short)
+    at_most zero short = omega arith
     at_most (suc form) short = short
 
 pub fits_wide : {form : ℕ} (s : SlotValue) → FitsSlot form s → FitsSlot 1 s
@@ -65,35 +65,29 @@ module _ (form : ℕ) where
 
   wide_names : (a : List (List ℕ)) → AreSlots form a → map_of 1 (wide_slots a) ≡ map_of form a
   wide_names [] formed = refl
-  wide_names (x ∷ a) formed = ap₂ with_slot (says x formed.0) (wide_names a formed.1)
+  wide_names (x ∷ a) formed = cc (says x formed.0, wide_names a formed.1)
 
   bytes_many : (a : List (List ℕ)) → AreSlots form a → length (wide_bytes form a) ≡ slot_len 1 * length a
   bytes_many [] formed = refl
   bytes_many (x ∷ a) formed =
-      let all = length-append (wide_slot form x) (wide_bytes form a) in
-      let one = wide_long x formed.0 in
       let rest = bytes_many a formed.1 in
-      omega (arith, all, one, rest)
+      omega (arith, length-append (wide_slot form x) (wide_bytes form a), wide_long x formed.0)
 
   -- a byte of one of them
   wide_byte : (a : List (List ℕ)) (j b : ℕ) → AreSlots form a → j < length a → b < slot_len 1
       → get_or (wide_bytes form a) (slot_len 1 * j + b) 0 ≡ get_or (wide_slot form (get_or a j [])) b 0
-  wide_byte [] j b formed low inside = absurd (omega (arith, low))
-  wide_byte (x ∷ a) zero b formed low inside = let one = wide_long x formed.0 in
-      let place : slot_len 1 * 0 + b ≡ b = omega arith in
-      ap (λ (p : ℕ). get_or (wide_slot form x ++ wide_bytes form a) p 0) place
-      ∙ get_or_append_left (wide_slot form x) (wide_bytes form a) 0 b (omega (arith, one, inside))
+  wide_byte [] j b formed low inside = absurd (omega arith)
+  wide_byte (x ∷ a) zero b formed low inside = let place : slot_len 1 * 0 + b ≡ b = omega arith in
+      cc (get_or_append_left (wide_slot form x) (wide_bytes form a) 0 b (omega (arith, wide_long x formed.0)))
   wide_byte (x ∷ a) (suc j) b formed low inside =
-      let one = wide_long x formed.0 in
-      let place : slot_len 1 * suc j + b ≡ length (wide_slot form x) + (slot_len 1 * j + b) = omega (arith, one) in
-      ap (λ (p : ℕ). get_or (wide_slot form x ++ wide_bytes form a) p 0) place
+      ap (λ (p : ℕ). get_or (wide_slot form x ++ wide_bytes form a) p 0) (omega (arith, wide_long x formed.0))
       ∙ get_or-append-add (wide_slot form x) (wide_bytes form a) (slot_len 1 * j + b) 0
-      ∙ wide_byte a j b formed.1 (omega (arith, low)) inside
+      ∙ wide_byte a j b formed.1 (omega arith) inside
 
 -- ---- the directory
 pub few_slots : (form size : ℕ) → size ≤ 1024 * slot_len form → size / slot_len form ≤ 1024
-few_slots zero size few = omega (arith, few)
-few_slots (suc form) size few = omega (arith, few)
+few_slots zero size few = omega arith
+few_slots (suc form) size few = omega arith
 
 count_wide : (n : ℕ) → slot_len 1 * n / slot_len 1 ≡ n
 count_wide n = omega arith
@@ -110,41 +104,37 @@ module _ (m m' : LogMap) (d : ℕ) (head : Header) {bytes : List ℕ} (is : Appe
   slots_wide =
       let many = slots_many m d head in
       let many' = slots_many m' d (wide head) in
-      let count = count_wide (slot_count head) in
-      let mapped = length-map (slots_at m d head) (wide_slot head.form) in
       let formed = is.formed in
-      let all : length bytes ≡ slot_len 1 * slot_count head = ap length is.bytes ∙ bytes_many head.form (slots_at m d head) formed
-      ∙ ap (λ (n : ℕ). slot_len 1 * n) many in
-      ext_get_or [] (slots_at m' d (wide head)) (map (wide_slot head.form) (slots_at m d head)) (omega (arith, many, many', count, mapped))
+      let all : length bytes ≡ slot_len 1 * slot_count head = cc (bytes_many head.form (slots_at m d head) formed) in
+      ext_get_or [] (slots_at m' d (wide head)) (map (wide_slot head.form) (slots_at m d head))
+      (omega (arith, length-map (slots_at m d head) (wide_slot head.form)))
       (λ j low.
-      let within : j < slot_count head = omega (arith, low, many', count) in
-      let here : j < length (slots_at m d head) = omega (arith, within, many) in
-      slot_is m' d (wide head) j (omega (arith, within, count)) (ap length (get_slot (slots_at m d head) head.form j here)
+      let within : j < slot_count head = omega arith in
+      let here : j < length (slots_at m d head) = omega arith in
+      slot_is m' d (wide head) j (omega arith) (ap length (get_slot (slots_at m d head) head.form j here)
       ∙ wide_long head.form (get_or (slots_at m d head) j []) (at_slot (slots_at m d head) j formed here))
       (λ b small.
-      ap (λ (s : List ℕ). get_or s b 0) (get_slot (slots_at m d head) head.form j here)
-      ∙ sym (wide_byte head.form (slots_at m d head) j b formed here small)
-      ∙ sym (ap (λ (w : List ℕ). get_or w (slot_len 1 * j + b) 0) is.bytes)
-      ∙ sym (each (slot_len 1 * j + b) (omega (arith, all, within, small)))))
+      cc (
+        get_slot (slots_at m d head) head.form j here,
+        wide_byte head.form (slots_at m d head) j b formed here small,
+        each
+            (slot_len 1 * j + b) (omega (arith, all)),
+      )))
     where
       at_slot : (a : List (List ℕ)) (j : ℕ) → AreSlots head.form a → j < length a → slot_in head.form (get_or a j []) ≢ None
-      at_slot [] j formed low = absurd (omega (arith, low))
+      at_slot [] j formed low = absurd (omega arith)
       at_slot (x ∷ a) zero formed low = formed.0
-      at_slot (x ∷ a) (suc j) formed low = at_slot a j formed.1 (omega (arith, low))
+      at_slot (x ∷ a) (suc j) formed low = at_slot a j formed.1 (omega arith)
 
   pub names_wide : IsDirectory m d (as_header head) → WidensNames m m' d head
   names_wide dir = record {
     directory = record {
       whole = whole_wide (slot_count head);
-      formed = subst (AreSlots 1) (sym slots_wide) (wide_formed head.form (slots_at m d head) is.formed);
+      formed = rw slots_wide (wide_formed head.form (slots_at m d head) is.formed);
       apart =
-          ap (λ (a : List (List ℕ)). length (map_of 1 a)) slots_wide
-          ∙ ap length (wide_names head.form (slots_at m d head) is.formed)
-          ∙ dir.apart
-          ∙ sym (length-map (slots_at m d head) (wide_slot head.form))
-          ∙ sym (ap length slots_wide);
+          cc (slots_wide, wide_names head.form (slots_at m d head) is.formed, length-map (slots_at m d head) (wide_slot head.form));
     };
-    names = ap (map_of 1) slots_wide ∙ wide_names head.form (slots_at m d head) is.formed;
+    names = cc (slots_wide, wide_names head.form (slots_at m d head) is.formed);
   }
 
 -- ---- slots of a block
@@ -158,8 +148,8 @@ module _ (form : ℕ) (block : List ℕ) (count : ℕ) where
   wide_begins old =
       let all : count - 0 ≡ count = omega arith in
       record {
-        bytes = ap (λ (k : ℕ). old ++ wide_bytes form (slots_in form block 0 k)) all;
-        formed = λ is. subst (λ (k : ℕ). AreSlots form (slots_in form block 0 k)) all is;
+        bytes = cc all;
+        formed = λ is. rw (← all) is;
       }
 
   pub wide_goes_on : {old now : List ℕ} (next : List ℕ) {slot : List ℕ} {place : ℕ} → place < count
@@ -167,15 +157,11 @@ module _ (form : ℕ) (block : List ℕ) (count : ℕ) where
       → WideTo old place now → next ≡ now ++ wide_slot form slot → slot_in form slot ≢ None → WideTo old (place + 1) next
   wide_goes_on {now} next {slot} {place} low own was more formed =
       let rest : List (List ℕ) = slots_in form block (place + 1) (count - (place + 1)) in
-      let split : slots_in form block place (count - place) ≡ slot ∷ rest = next_slot form block place count low
-      ∙ ap (λ (s : List ℕ). s ∷ rest) (sym own) in
+      let split : slots_in form block place (count - place) ≡ slot ∷ rest = cc (next_slot form block place count low) in
       record {
         bytes =
-            ap (λ (w : List ℕ). w ++ wide_bytes form rest) more
-            ∙ append_assoc now (wide_slot form slot) (wide_bytes form rest)
-            ∙ sym (ap (λ (a : List (List ℕ)). now ++ wide_bytes form a) split)
-            ∙ was.bytes;
-        formed = λ behind. was.formed (subst (AreSlots form) (sym split) (formed, behind));
+            cc (append_assoc now (wide_slot form slot) (wide_bytes form rest));
+        formed = λ behind. was.formed (rw split (formed, behind));
       }
 
   pub wide_ends : {old now : List ℕ} {place : ℕ} → count ≤ place → WideTo old place now
@@ -183,25 +169,15 @@ module _ (form : ℕ) (block : List ℕ) (count : ℕ) where
   wide_ends {now} {place} past was =
       let none = no_slots form block place count past in
       record {
-        bytes = sym (append-nil now) ∙ sym (ap (λ (a : List (List ℕ)). now ++ wide_bytes form a) none) ∙ was.bytes;
-        formed = was.formed (subst (AreSlots form) (sym none) tt);
+        bytes = cc (append-nil now);
+        formed = was.formed (rw none tt);
       }
 
-module _ {S D : Type 0} (s s' : FilesState S D) {form : ℕ} (d index count : ℕ) (few : count ≤ per_block form) (block : List ℕ)
+module _ {S D : Type 0} (s s' : FilesState S D) {form d index count : ℕ} (few : count ≤ per_block form) {block : List ℕ}
     (told : TellsBlock s s' d index block) where
   pub block_widened : {old new : List ℕ} → AppendsWide form (first_slots form block count) old new
       → WidensBlock s s' form d index count old new
-  block_widened {old} {new} is m m' keeps has head same room =
-      by (subst (λ (f : ℕ). count ≤ per_block f) (sym same) few)
-      (subst (λ (f : ℕ). per_block f * index + count ≤ slot_count head) (sym same) room)
-      (subst (λ (f : ℕ). AppendsWide f (first_slots f block count) old new) (sym same) is)
-    where
-      by : count ≤ per_block head.form → per_block head.form * index + count ≤ slot_count head
-          → AppendsWide head.form (first_slots head.form block count) old new
-          → AppendsWide form (take count (drop (per_block form * index) (slots_at m' d head))) old new
-      by few room is = subst (λ (f : ℕ). AppendsWide f (take count (drop (per_block f * index) (slots_at m' d head))) old new) same
-          (subst (λ (a : List (List ℕ)). AppendsWide head.form a old new)
-          (sym (slots_of_block m' d head index count block (told m m' keeps has) few room)) is)
+  block_widened is m m' keeps has head same room = rw (first_slots_are m' d head (told m m' keeps has) few room same) is
 
 -- ---- the blocks before one of this index
 module _ {S D : Type 0} (d : ℕ) (head : Header) where
@@ -219,9 +195,8 @@ module _ {S D : Type 0} (d : ℕ) (head : Header) where
       record {
         reads = reads_none s;
         long = ap length none ∙ sym (ap (λ (k : ℕ). slot_len 1 * min (slot_count head) k) first ∙ omega arith);
-        all = λ m m' keeps has. ap (λ (w : List ℕ). w ++ wide_bytes head.form (drop (per_block head.form * 0) (slots_at m' d head))) none
-            ∙ ap (λ (k : ℕ). wide_bytes head.form (drop k (slots_at m' d head))) first;
-        formed = λ m m' keeps has is. subst (λ (k : ℕ). AreSlots head.form (drop k (slots_at m' d head))) first is;
+        all = λ m m' keeps has. cc;
+        formed = λ m m' keeps has is. rw first at is;
       }
 
   module _ {s a : FilesState S D} (b : FilesState S D) {index : ℕ} (count : ℕ) {old : List ℕ}
@@ -231,25 +206,26 @@ module _ {S D : Type 0} (d : ℕ) (head : Header) where
         → WidensBlock a b head.form d index count old new → WidenedTo s b (index + 1) new
     widening_goes_on lawful reads long more = record {
       reads = reads_more lawful was.reads reads;
-      long = (let before = was.long in let next = next_block head.form index in omega (arith, before, long, is, low, next));
+      long = (omega (arith, long, next_block head.form index));
       all = λ m m' keeps has.
           let slots = slots_at m' d head in
-          let here = more m m' keeps (was.reads.has m m' has) head refl (omega (arith, is, low)) in
-          let split = block_and_rest head.form slots index (slots_many m' d head) is in
           let some : List (List ℕ) = take count (drop (per_block head.form * index) slots) in
           let rest : List (List ℕ) = drop (per_block head.form * (index + 1)) slots in
-          ap (λ (w : List ℕ). w ++ wide_bytes head.form rest) here.bytes
-          ∙ append_assoc old (wide_bytes head.form some) (wide_bytes head.form rest)
-          ∙ ap (λ (w : List ℕ). old ++ w) (sym (flat_map-append (wide_slot head.form) some rest))
-          ∙ sym (ap (λ (x : List (List ℕ)). old ++ wide_bytes head.form x) split)
-          ∙ was.all m m' (reads.looks.carries.kept_before keeps) has;
+          cc (
+            (more m m' keeps (was.reads.has m m' has) head refl (omega arith)).bytes,
+            append_assoc old (wide_bytes head.form some)
+                (wide_bytes head.form rest),
+            flat_map-append (wide_slot head.form) some rest,
+            block_and_rest head.form slots index
+                (slots_many m' d head) is,
+            was.all m m' (reads.looks.carries.kept_before keeps) has,
+          );
       formed = λ m m' keeps has behind.
           let slots = slots_at m' d head in
-          let here = more m m' keeps (was.reads.has m m' has) head refl (omega (arith, is, low)) in
-          let split = block_and_rest head.form slots index (slots_many m' d head) is in
           was.formed m m' (reads.looks.carries.kept_before keeps) has
-          (subst (AreSlots head.form) (sym split) (both (take count (drop (per_block head.form * index) slots))
-          (drop (per_block head.form * (index + 1)) slots) here.formed behind));
+          (rw (block_and_rest head.form slots index (slots_many m' d head) is) (both (take count (drop (per_block head.form * index) slots))
+          (drop (per_block head.form * (index + 1)) slots)
+          (more m m' keeps (was.reads.has m m' has) head refl (omega arith)).formed behind));
     }
       where
         both : (x y : List (List ℕ)) → AreSlots head.form x → AreSlots head.form y → AreSlots head.form (x ++ y)
@@ -258,26 +234,21 @@ module _ {S D : Type 0} (d : ℕ) (head : Header) where
 
     pub widening_fails : IsBlockFault a b head.form d index count → IsDirectoryFault s b d head
     widening_fails failed m m' keeps has dir =
-        let rose = failed m m' keeps (was.reads.has m m' has) head refl (omega (arith, is, low)) dir in
-        let before = was.reads.looks.carries.failures in
-        omega (arith, rose, before)
+        omega (arith, failed m m' keeps (was.reads.has m m' has) head refl (omega (arith, is, low)) dir)
 
   pub widening_ends : {s a : FilesState S D} {index : ℕ} {bytes : List ℕ} → slot_count head ≤ per_block head.form * index
       → WidenedTo s a index bytes → TellsWide s a d head bytes
   widening_ends {index} {bytes} past was m m' keeps has =
-      let slots = slots_at m' d head in
-      let many = slots_many m' d head in
-      let none = drop_all (per_block head.form * index) slots (omega (arith, many, past)) in
+      let none = drop_all (per_block head.form * index) (slots_at m' d head) (omega (arith, slots_many m' d head)) in
       record {
-        bytes = sym (append-nil bytes) ∙ sym (ap (λ (x : List (List ℕ)). bytes ++ wide_bytes head.form x) none) ∙ was.all m m' keeps has;
-        formed = was.formed m m' keeps has (subst (AreSlots head.form) (sym none) tt);
+        bytes = cc (append-nil bytes, was.all m m' keeps has);
+        formed = was.formed m m' keeps has (rw none tt);
       }
 
   pub widening_long : {s a : FilesState S D} {index : ℕ} {bytes : List ℕ} → slot_count head ≤ per_block head.form * index
       → WidenedTo s a index bytes → length bytes ≡ slot_len 1 * slot_count head
-  widening_long past was = let long = was.long in omega (arith, long, past)
+  widening_long past was = omega arith
 
   pub widening_few : {s a : FilesState S D} {index : ℕ} {bytes : List ℕ} → head.size ≤ 1024 * slot_len head.form
       → slot_count head ≤ per_block head.form * index → WidenedTo s a index bytes → length bytes ≤ 1024 * slot_len 1
-  widening_few {s} {a} {index} {bytes} few past was = let long = widening_long past was in
-      let slots = few_slots head.form head.size few in omega (arith, long, slots)
+  widening_few {s} {a} {index} {bytes} few past was = omega (arith, widening_long past was, few_slots head.form head.size few)

@@ -12,7 +12,7 @@ use Rattle.lfs_path.proofs.Uppers.{up_is}
 
 chain_directory : (t : Tree) (chain : List ℕ) → is_dir (node t 1) ≡ true → IsChain t chain → is_dir (node t (here chain)) ≡ true
 chain_directory t [] root is = absurd is
-chain_directory t (d ∷ []) root is = ap (λ (n : ℕ). is_dir (node t n)) is ∙ root
+chain_directory t (d ∷ []) root is = cc
 chain_directory t (d ∷ above ∷ rest) root is = is.1
 
 pub in_directory : (m : LogMap) (chain : List ℕ) → InChain chain m → InDirectory (here chain) m
@@ -25,7 +25,7 @@ dot_leads same is = record { directories = is.directories; walks = λ follow ps 
 -- ---- dot-dot
 risen_chain : (t : Tree) (chain : List ℕ) → IsChain t chain → IsChain t (risen chain) × (here (risen chain) ≡ up t (here chain))
 risen_chain t [] is = absurd is
-risen_chain t (d ∷ []) is = (is, is ∙ sym (ap (up t) is))
+risen_chain t (d ∷ []) is = (is, cc)
 risen_chain t (d ∷ above ∷ rest) is = (is.2, sym is.0)
 
 pub dot_dot_leads : (m : LogMap) {piece : List ℕ} (chain : List ℕ) {chain' : List ℕ} → piece ≡ dot_dot → chain' ≡ risen chain
@@ -34,8 +34,8 @@ pub dot_dot_leads : (m : LogMap) {piece : List ℕ} (chain : List ℕ) {chain' :
 dot_dot_leads m chain same up_there is =
     let risen_is = risen_chain (tree_in m) chain is.directories in
     record {
-      directories = subst (IsChain (tree_in m)) (sym up_there) risen_is.0;
-      walks = λ follow ps s k e w. goes_up same (subst (λ (d : ℕ). Walk (tree_in m) follow d ps s k e) (ap here up_there ∙ risen_is.1) w);
+      directories = rw up_there risen_is.0;
+      walks = λ follow ps s k e w. goes_up same (rw (← ap here up_there ∙ risen_is.1) w);
     }
 
 -- ---- a directory's name
@@ -47,18 +47,17 @@ pub name_leads : (m : LogMap) (piece chain : List ℕ) {chain' : List ℕ} {n fo
     → Gives (tree_in m) (here chain) piece n (Dir form ns)
     → chain' ≡ n ∷ chain → InChain chain m → Leads piece chain chain' m
 name_leads m piece chain {n} gives down is = record {
-  directories = subst (IsChain (tree_in m)) (sym down) (down_chain (tree_in m) chain n above dir is.directories);
-  walks = λ follow ps s k e w. directory gives (subst (λ (d : ℕ). Walk (tree_in m) follow d ps s k e) (ap here down) w);
+  directories = rw down (down_chain (tree_in m) chain n above dir is.directories);
+  walks = λ follow ps s k e w. directory gives (rw (← ap here down) w);
 }
   where
     dir : is_dir (node (tree_in m) n) ≡ true
-    dir = ap is_dir gives.is_node
+    dir = cc
 
     not_root : n ≢ 1
     not_root same =
-        let counts = named_counts (tree_in m) (here chain) piece n gives.is_there in
-        let none : names (tree_in m) n ≡ 0 = ap (names (tree_in m)) same ∙ is.tree.unnamed in
-        omega (arith, counts, none)
+        let none : names (tree_in m) n ≡ 0 = cc in
+        omega (arith, named_counts (tree_in m) (here chain) piece n gives.is_there)
 
     above : up (tree_in m) n ≡ here chain
     above = up_is (tree_in m) (in_order m) n piece gives.is_there not_root (is.tree.one_name n not_root dir)

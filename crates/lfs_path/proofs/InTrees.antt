@@ -31,18 +31,17 @@ module _ (m : LogMap) where
 
   node_header : (n : ℕ) (x : Node) → node (tree_in m) n ≡ Some x → HasNode n x
   node_header n x is = ⊎_elim
-      (λ (low : n < 1). absurd (let zero_is : n ≡ 0 = omega arith in
-      let none : node (tree_in m) n ≡ None = ap (node (tree_in m)) zero_is ∙ no_node_0 m in cc))
+      (λ (low : n < 1). absurd (let none : node (tree_in m) n ≡ None = ap (node (tree_in m)) (omega arith) ∙ no_node_0 m in cc))
       (λ (some : 1 ≤ n). ⊎_elim
-      (λ (past : 4095 < n). absurd (let none : node (tree_in m) n ≡ None = no_node_past m n (omega arith) in cc))
+      (λ (past : 4095 < n). absurd (cc (no_node_past m n (omega arith))))
       (λ (few : n ≤ 4095). by (m.header n) refl (sym (node_in m n some few) ∙ is))
       (cases_lt 4095 n))
       (cases_lt n 1)
     where
       by : (o : Option entries.Header) → m.header n ≡ o → node_of m n (m.header n) ≡ Some x → HasNode n x
-      by None none at = let a : node_of m n (m.header n) ≡ None = ap (node_of m n) none in absurd (cc)
+      by None none at = cc
       by (Some h) there at =
-          record { head = h; is = there; same = Some-injective (sym (ap (node_of m n) there) ∙ at) }
+          record { head = h; is = there; same = Some-injective (cc there) }
 
   kind_is : (n : ℕ) (k : Kind) (h : entries.Header) → is_dir (Some (node_by m k n h)) ≡ true → k ≡ kind.Directory
   kind_is n kind.File h is = cc
@@ -62,36 +61,36 @@ module _ (m : LogMap) where
       by None is dir = cc
       by (Some x) is dir =
           let a = node_header d x is in
-          record { head = a.head; is = a.is; kind = kind_is d a.head.kind a.head (ap (λ (y : Node). is_dir (Some y)) a.same ∙ dir) }
+          record { head = a.head; is = a.is; kind = kind_is d a.head.kind a.head (cc) }
 
   module _ (d : ℕ) (within : InDirectory d m) where
     pub is_object : HasObject d m
-    is_object none = let a = directory_header d within.directory in let is = a.is in absurd (cc)
+    is_object none = let is = (directory_header d within.directory).is in cc
 
     module _ (head : Header) (is : HasHeader d head m) where
       directory_kind : head.kind ≡ kind.Directory
       directory_kind =
           let a = directory_header d within.directory in
           let same : a.head ≡ as_header head = Some-injective (sym a.is ∙ is) in
-          sym (ap (λ (h : entries.Header). h.kind) same) ∙ a.kind
+          cc same
 
       there : node (tree_in m) d ≡ Some (Dir head.form (names_at m d head))
       there =
           let number = (within.tree.headers d (as_header head) is).number in
-          node_in m d number.0 number.1 ∙ ap (node_of m d) is ∙ ap (λ (k : Kind). Some (node_by m k d (as_header head))) directory_kind
+          cc (node_in m d number.0 number.1, is, directory_kind)
 
       -- its names are as long as its form allows
       pub limit : name_limit (tree_in m) d ≡ name_len head.form
-      limit = ap (λ (o : Option Node). name_len (form_of o)) there
+      limit = cc there
 
       pub long_name : (name : List ℕ) → name_len head.form < length name → EndsAtPiece d name (tree_in m) (Refused refusals.NameTooLong)
-      long_name name long follow ps s k = let most = limit in too_long (omega (arith, most, long))
+      long_name name long follow ps s k = too_long (omega (arith, limit))
 
       pub entry_is : (name : List ℕ) {found : Option ℕ} → found ≡ find byte_cmp name (names_at m d head) → entry (tree_in m) d name ≡ found
-      entry_is name answer = ap (λ (o : Option Node). find byte_cmp name (names_of (unwrap_or o (File [])))) there ∙ sym answer
+      entry_is name answer = cc there
 
       pub names_are : names_in (tree_in m) d ≡ names_at m d head
-      names_are = ap (λ (o : Option Node). names_of (unwrap_or o (File []))) there
+      names_are = cc there
 
       pub is_formed : IsDirectory m d (as_header head)
       is_formed =
@@ -101,7 +100,7 @@ module _ (m : LogMap) where
       -- ---- a name in it
       module _ (name : List ℕ) (dots : (name ≢ dot) × (name ≢ dot_dot)) where
         looked_up : length name ≤ name_len head.form → IsLookedUp (tree_in m) d name
-        looked_up short = let most = limit in record { not_dot = dots.0; not_dot_dot = dots.1; short = omega (arith, most, short) }
+        looked_up short = record { not_dot = dots.0; not_dot_dot = dots.1; short = omega (arith, limit) }
 
         pub no_name : length name ≤ name_len head.form → None ≡ find byte_cmp name (names_at m d head)
             → EndsAtPiece d name (tree_in m) (Refused refusals.NoEntry)
@@ -116,10 +115,10 @@ module _ (m : LogMap) where
     where
       no_node : (n : ℕ) → m.header n ≡ None → node (tree_in m) n ≡ None
       no_node n none = ⊎_elim
-          (λ (low : n < 1). let zero_is : n ≡ 0 = omega arith in ap (node (tree_in m)) zero_is ∙ no_node_0 m)
+          (λ (low : n < 1). ap (node (tree_in m)) (omega arith) ∙ no_node_0 m)
           (λ (some : 1 ≤ n). ⊎_elim
           (λ (past : 4095 < n). no_node_past m n (omega arith))
-          (λ (few : n ≤ 4095). node_in m n some few ∙ ap (node_of m n) none)
+          (λ (few : n ≤ 4095). cc (node_in m n some few))
           (cases_lt 4095 n))
           (cases_lt n 1)
 
@@ -131,8 +130,7 @@ module _ (m : LogMap) where
         record {
           is_name = named.is_name;
           is_there = named.is_there;
-          is_node = node_in m n.value number.0 number.1 ∙ ap (node_of m n.value) is
-              ∙ ap (λ (k : Kind). Some (node_by m k n.value (as_header head))) same;
+          is_node = cc (node_in m n.value number.0 number.1, is, same);
         }
 
     pub gives_file : head.kind ≡ kind.File → IsSeen d name (seen.File n) m

@@ -6,7 +6,6 @@ use Rattle.lfs_path.specs.Laws.{LastSays}
 use Rattle.lfs_path.specs.Pieces.{is_dots}
 
 pub last_says : LastSays
-last_says path None none = ap is_none none
+last_says path None none = cc
 last_says path (Some l) is =
-    let named : name path ≡ l.name.now = ap (λ o. unwrap_or o []) is.0 in
-    (ap is_none is.0, named, ap is_dots named)
+    (cc, cc, cc)

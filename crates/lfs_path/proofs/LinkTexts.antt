@@ -18,24 +18,24 @@ use Rattle.lfs_path.specs.declared.seen.Link.{Link}
 module _ (m : LogMap) (n : ℕ) {index count : ℕ} (old new : List ℕ) (at : length old ≡ 512 * index) (few : count ≤ 512)
     (is : HasTaken m n index count old new) where
   cut_long : length (take count is.block) ≡ count
-  cut_long = let long = is.holds.long in let cut = length-take count is.block in omega (arith, long, cut, few)
+  cut_long = let cut = length-take count is.block in omega arith
 
   pub taken_long : length new ≡ 512 * index + count
-  taken_long = let both = ap length is.text ∙ length-append old (take count is.block) in let cut = cut_long in omega (arith, both, cut, at)
+  taken_long = let cut = cut_long in omega (arith, ap length is.text ∙ length-append old (take count is.block))
 
   pub taken_bytes : ((p : ℕ) → p < length old → byte_in m n p ≡ get_or old p 0) → (p : ℕ) → p < length new → byte_in m n p ≡ get_or new p 0
   taken_bytes each p low = ⊎_elim
-      (λ (before : p < length old). each p before
-      ∙ sym (ap (λ (b : List ℕ). get_or b p 0) is.text ∙ get_or_append_left old (take count is.block) 0 p before))
+      (λ (before : p < length old). cc (each p before, get_or_append_left old (take count is.block) 0 p before))
       (λ (behind : length old ≤ p).
-      let long = taken_long in
-      let j : p - length old < count = omega (arith, long, low, at, behind) in
-      let index_is : p / 512 ≡ index = omega (arith, at, behind, j, few) in
-      let place_is : p % 512 ≡ p - length old = omega (arith, at, behind, j, few) in
-      ap₂ (λ (i k : ℕ). get_or (m.block n i) k 0) index_is place_is
+      let j : p - length old < count = omega (arith, taken_long) in
+      let place_is : p % 512 ≡ p - length old = omega arith in
+      ap₂ (λ (i k : ℕ). get_or (m.block n i) k 0) (omega arith) place_is
       ∙ sym (is.holds.bytes (p - length old))
-      ∙ sym (ap (λ (b : List ℕ). get_or b p 0) is.text ∙ get_or-append_right old (take count is.block) (length old) p 0 refl behind
-      ∙ get_or-take count is.block (p - length old) 0 j))
+      ∙ sym (cc (
+        get_or-append_right old (take count is.block) (length old) p 0 refl behind,
+        get_or-take count is.block (p - length old) 0
+            j,
+      )))
       (cases_lt p (length old))
 
 -- ---- blocks up to one of this index
@@ -56,11 +56,10 @@ module _ {S D : Type 0} (n size : ℕ) where
       read = λ m m' keeps has.
           let before = was.read m m' (reads.looks.carries.kept_before keeps) has in
           let long = before.long in
-          let at : length old ≡ 512 * index = omega (arith, long, low) in
-          let few : count ≤ 512 = omega (arith, is) in
+          let at : length old ≡ 512 * index = omega (arith, long) in
+          let few : count ≤ 512 = omega arith in
           let taken = takes m m' keeps (was.reads.has m m' has) in
-          let longer = taken_long m' n old new at few taken in
-          record { long = omega (arith, longer, is, low); bytes = taken_bytes m' n old new at few taken before.bytes };
+          record { long = omega (arith, taken_long m' n old new at few taken); bytes = taken_bytes m' n old new at few taken before.bytes };
     }
 
 module _ {S D : Type 0} where
@@ -69,6 +68,6 @@ module _ {S D : Type 0} where
   read_ends l {text} past was m m' keeps has =
       let all = was.read m m' keeps has in
       let long = all.long in
-      object_is m' l.number.value (as_header l.header) text (omega (arith, long, past))
-      (λ p low. all.bytes p (omega (arith, long, low, past)))
+      object_is m' l.number.value (as_header l.header) text (omega (arith, long))
+      (λ p low. all.bytes p (omega (arith, long)))
   -- ---- the text that is left

@@ -15,7 +15,7 @@ use Rattle.lfs_path.proofs.Chains.{dot_dot_leads, dot_leads, in_directory, name_
 
 module _ {S D : Type 0} (s s' : FilesState S D) {d : ℕ} (piece chain : List ℕ) (at : d ≡ here chain) where
   within : {m : LogMap} → InChain chain m → InDirectory d m
-  within {m} is = subst (λ (n : ℕ). InDirectory n m) (sym at) (in_directory m chain is)
+  within {m} is = rw (← sym at) (in_directory m chain is)
 
   pub here_passes : Tells s s' (InDirectory d) (IsSeen d piece seen.Here) → Tells s s' (InChain chain) (Leads piece chain chain)
   here_passes sees m m' keeps has is = dot_leads (sees m m' keeps has (within is)) is

@@ -70,7 +70,7 @@ module _ (slash_end follow : Bool) (path : List ℕ) where
     pub link_goes_on : IsChain (tree_in m) chain' → links < 40 → {chain'' : List ℕ} (text' : List ℕ) → text' ≡ text_of m l ++ rest
         → chain'' ≡ started (text_of m l) chain' → GoesOn chain'' text' (links + 1) m
     link_goes_on directories room {chain''} text' left from = record {
-      directories = subst (IsChain (tree_in m)) (sym from) (started_chain (tree_in m) (text_of m l) chain' directories);
+      directories = rw from (started_chain (tree_in m) (text_of m l) chain' directories);
       walks = λ e w. at_link (followed meets.gives meets.goes room (turned e w));
     }
       where
@@ -78,21 +78,17 @@ module _ (slash_end follow : Bool) (path : List ℕ) where
         behind = is_rest rest meets.begins
 
         pieces_are : comps text' ≡ comps (text_of m l) ++ comps rest
-        pieces_are = ap comps left ∙ pieces_joined (text_of m l) rest behind
+        pieces_are = cc (pieces_joined (text_of m l) rest behind)
 
         slash_is : (slash_end || slash text') ≡ slash_with (text_of m l) (comps rest) (slash_end || slash rest)
-        slash_is = ap (λ (x : List ℕ). slash_end || slash x) left
-            ∙ slash_left slash_end (text_of m l) rest behind (slash_joined (text_of m l) rest behind meets.goes_on)
+        slash_is = cc (slash_left slash_end (text_of m l) rest behind (slash_joined (text_of m l) rest behind meets.goes_on))
 
         turned : (e : End) → WalksText slash_end follow (here chain'') text' (links + 1) (tree_in m) e
             → Walk (tree_in m) follow (start (text_of m l) (here chain')) (comps (text_of m l) ++ comps rest)
             (slash_with (text_of m l) (comps rest) (slash_end || slash rest)) (links + 1) e
         turned e w =
-            subst (λ (d : ℕ). Walk (tree_in m) follow d (comps (text_of m l) ++ comps rest) (slash_with (text_of m l) (comps rest)
-            (slash_end || slash rest)) (links + 1) e) (ap here from ∙ here_started (text_of m l) chain')
-            (subst (λ (ps : List (List ℕ)). Walk (tree_in m) follow (here chain'') ps
-            (slash_with (text_of m l) (comps rest) (slash_end || slash rest)) (links + 1) e) pieces_are
-            (subst (λ (b : Bool). Walk (tree_in m) follow (here chain'') (comps text') b (links + 1) e) slash_is w))
+            rw (← ap here from ∙ here_started (text_of m l) chain')
+            (rw (← pieces_are) (subst (λ (b : Bool). Walk (tree_in m) follow (here chain'') (comps text') b (links + 1) e) slash_is w))
 
 module _ {S D : Type 0} (slash_end follow : Bool) (path : List ℕ) where
   pub record ComesOn (s s' : FilesState S D) (chain text : List ℕ) (links : ℕ) : Type 0 where
@@ -114,19 +110,18 @@ module _ {S D : Type 0} (slash_end follow : Bool) (path : List ℕ) where
           → IsChain (tree_in m') chain' × MeetsLink slash_end follow (here chain) text (here chain') l r.now m'
       stops m m' keeps has is =
           let x = told m m' keeps (was.reads.has m m' has) is in
-          (x.directories, subst (λ (y : List ℕ). MeetsLink slash_end follow (here chain) y (here chain') l r.now m') value x.stop)
+          (x.directories, rw (← value) x.stop)
 
       pub walk_loops : 40 ≤ links → TellsRefusal s b HasTree (EndsPath slash_end follow path) Loop
       walk_loops full m m' keeps has tree =
-          let x = stops m m' keeps has (in_chain m m' keeps has tree) in
-          too_many slash_end follow path m' chain' l (goes_at m keeps has tree) x.1 full
+          too_many slash_end follow path m' chain' l (goes_at m keeps has tree) (stops m m' keeps has (in_chain m m' keeps has tree)).1 full
 
       module _ {c : FilesState S D} (again : Reads b c) where
         pub walk_goes_on : IsLawful s.device → links < 40 → {chain'' text' : List ℕ} → Follows b c l r.now chain' chain'' text'
             → ComesOn s c chain'' text' (links + 1)
         walk_goes_on lawful room {chain''} {text'} follows = record {
           reads = reads_more lawful (reads_more lawful was.reads reads) again;
-          few = omega (arith, room);
+          few = omega arith;
           goes = λ m m' keeps has tree.
               let before = again.looks.carries.kept_before keeps in
               let x = stops m m' before has (in_chain m m' before has tree) in

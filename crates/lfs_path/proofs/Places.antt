@@ -12,11 +12,10 @@ use Rattle.lfs_path.specs.Trees.{IsChain, here}
 
 root_ends : (t : Tree) (path : List ℕ) → text_refusal path ≡ None → comps path ≡ [] → EndsParent path t (At 1)
 root_ends t path text none =
-    subst (λ (o : Option Refusal). MatchOption o (Walk t true 1 (but_last (comps path)) true 0 (At 1)) (λ r. At 1 ≡ Refused r)) (sym text)
-    (subst (λ (ps : List (List ℕ)). Walk t true 1 (but_last ps) true 0 (At 1)) (sym none) no_piece)
+    rw text (rw none no_piece)
 
 pub root_place : (m : LogMap) {path chain : List ℕ} → text_refusal path ≡ None → comps path ≡ [] → chain ≡ 1 ∷ [] → IsParent path chain m
 root_place m {path} text none at = record {
-  directories = subst (IsChain (tree_in m)) (sym at) refl;
-  ends = subst (λ (c : List ℕ). EndsParent path (tree_in m) (At (here c))) (sym at) (root_ends (tree_in m) path text none);
+  directories = rw (← sym at) refl;
+  ends = rw (← sym at) (root_ends (tree_in m) path text none);
 }

@@ -22,9 +22,7 @@ module _ {S D : Type 0} where
   pub fails_then : {s a : FilesState S D} (b : FilesState S D) (P Q : LogMap → Type 0) → Reads s a
       → ((m m' : LogMap) → b.device.keeps_model → s.has m m' → P m' → Q m') → TellsFault a b Q → TellsFault s b P
   fails_then b P Q one so failed m m' keeps has p =
-      let rose = failed m m' keeps (one.has m m' has) (so m m' keeps has p) in
-      let before = one.looks.carries.failures in
-      omega (arith, rose, before)
+      omega (arith, failed m m' keeps (one.has m m' has) (so m m' keeps has p))
 
   pub long_refused : (s a : FilesState S D) (d : ℕ) (head : Header) → Tells s a (λ m. Unit {0}) (HasHeader d head) → (name : List ℕ)
       → name_len head.form < length name → TellsRefusal s a (InDirectory d) (EndsAtPiece d name) NameTooLong
@@ -51,9 +49,7 @@ module _ {S D : Type 0} where
 
     pub find_failed : IsDirectoryFault a b d head → TellsFault s b (InDirectory d)
     find_failed failed m m' keeps has within =
-        let rose = failed m m' keeps (one.has m m' has) (is_formed m' d within head (header_is m m' keeps has)) in
-        let before = one.looks.carries.failures in
-        omega (arith, rose, before)
+        omega (arith, failed m m' keeps (one.has m m' has) (is_formed m' d within head (header_is m m' keeps has)))
 
   -- ---- what it gives
   module _ {s a b : FilesState S D} (d : ℕ) (n : FileNumber) (name : List ℕ) (one : Reads s a) (two : Reads a b)

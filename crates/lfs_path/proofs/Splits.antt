@@ -23,7 +23,7 @@ but_last_snoc : (ps : List (List ℕ)) (p : List ℕ) → but_last (ps ++ p ∷ 
 but_last_snoc ps p =
     let long = length-append ps (p ∷ []) in
     let n : length (ps ++ p ∷ []) - 1 ≡ length ps = omega arith in
-    ap (λ (k : ℕ). take k (ps ++ p ∷ [])) n ∙ take-append-le (length ps) ps (p ∷ []) (omega arith) ∙ take_all (length ps) ps (omega arith)
+    cc (take-append-le (length ps) ps (p ∷ []) (omega arith), take_all (length ps) ps (omega arith))
 
 -- ---- texts
 some_true : (n : ℕ) → nat_lt 0 (suc n) ≡ true
@@ -51,15 +51,15 @@ no_piece (Some x) text none is = cc
 pub some_piece : {A : Type 0} (front back : A → List ℕ) (r : Option A) (text : List ℕ) → is_none r ≡ false
     → IfSome r (λ x. IsNextPiece text (front x) (back x)) → comps text ≡ [] → ⊥
 some_piece front back None text some next none = cc
-some_piece front back (Some x) text some next none = let is = next.pieces in cc
+some_piece front back (Some x) text some next none = cc
 
 module _ {path rest piece after : List ℕ} (was : SplitsAt path rest) (next : IsNextPiece rest piece after) where
   after_few : length after ≤ length path
-  after_few = let one = was.few in let two = next.shorter in omega (arith, one, two)
+  after_few = omega arith
 
   after_behind : after ≡ drop (length path - length after) path
   after_behind = suffix_back (length path - length rest) (length rest - length after) path
-      (next.behind ∙ ap (λ (x : List ℕ). drop (length rest - length after) x) was.behind)
+      (cc)
 
   pub splits_further : (comps after ≡ [] → ⊥) → SplitsAt path after
   splits_further some = record {
@@ -67,9 +67,8 @@ module _ {path rest piece after : List ℕ} (was : SplitsAt path rest) (next : I
     behind = after_behind;
     pieces =
         let n : ℕ = length path - length after in
-        ap comps (sym (take-append-drop n path) ∙ ap (λ (x : List ℕ). take n path ++ x) (sym after_behind))
-        ∙ pieces_joined (take n path) after (is_rest after next.begins);
-    slash_end = was.slash_end ∙ next.slash_end;
+        cc (take-append-drop n path, after_behind, pieces_joined (take n path) after (is_rest after next.begins));
+    slash_end = cc;
     none = λ none. absurd (some none);
   }
 
@@ -77,20 +76,19 @@ module _ {path rest piece after : List ℕ} (was : SplitsAt path rest) (next : I
   pub splits_last : comps after ≡ [] → {above : List ℕ} {l : Last} → above ≡ take (length path - length rest) path → l.name.now ≡ piece
       → l.slash ≡ nat_lt 0 (length after) → SplitsLast path above l
   splits_last none front name slashed = record {
-    pieces = ap comps front ∙ sym (ap but_last all ∙ but_last_snoc (comps (take (length path - length rest) path)) piece);
-    piece = ap last all ∙ last_snoc (comps (take (length path - length rest) path)) None piece ∙ ap Some (sym name);
-    slash_end = was.slash_end ∙ next.slash_end ∙ ends (comps after) none next.goes_on ∙ sym slashed;
+    pieces = cc (all, but_last_snoc (comps (take (length path - length rest) path)) piece);
+    piece = cc (all, last_snoc (comps (take (length path - length rest) path)) None piece);
+    slash_end = cc (ends (comps after) none next.goes_on);
   }
     where
       all : comps path ≡ comps (take (length path - length rest) path) ++ piece ∷ []
-      all = was.pieces ∙ ap (λ (ps : List (List ℕ)). comps (take (length path - length rest) path) ++ ps)
-          (next.pieces ∙ ap (λ (ps : List (List ℕ)). piece ∷ ps) none)
+      all = cc none
 
       ends : (ps : List (List ℕ)) → ps ≡ [] → more ps (slash after) ≡ nat_lt 0 (length after) → slash after ≡ nat_lt 0 (length after)
       ends [] none is = is
-      ends (p ∷ ps) none is = absurd (cc)
+      ends (p ∷ ps) none is = cc
 
 -- whether a slash follows
 pub not_empty : (n : ℕ) (b : Bool) → b ≡ (n == 0) → not b ≡ nat_lt 0 n
-not_empty n true is = let e : eqb n 0 ≡ true = sym is in grind (arith, nat_tests)
-not_empty n false is = let e : eqb n 0 ≡ false = sym is in grind (arith, nat_tests)
+not_empty n true is = grind (arith, nat_tests)
+not_empty n false is = grind (arith, nat_tests)

@@ -37,8 +37,7 @@ module _ (slash_end follow : Bool) where
       → StopsAtLink slash_end follow chain text chain' stop.Directory m
   at_end m {chain'} rest none goes = record {
     directories = goes.directories;
-    stop = λ k. goes.walks k (At (here chain')) (subst (λ (ps : List (List ℕ)).
-        Walk (tree_in m) follow (here chain') ps (slash_end || slash rest) k (At (here chain'))) (sym none) no_piece);
+    stop = λ k. goes.walks k (At (here chain')) (rw none no_piece);
   }
 
   module _ (m : LogMap) {chain text chain' rest piece after : List ℕ} (next : IsNextPiece rest piece after)
@@ -47,8 +46,7 @@ module _ (slash_end follow : Bool) where
     from_piece : (k : ℕ) {e : End} → Walk (tree_in m) follow (here chain') (piece ∷ comps after) (slash_end || slash after) k e
         → WalksText slash_end follow (here chain) text k (tree_in m) e
     from_piece k {e} w = goes.walks k e
-        (subst (λ (ps : List (List ℕ)). Walk (tree_in m) follow (here chain') ps (slash_end || slash rest) k e) (sym next.pieces)
-        (subst (λ (b : Bool). Walk (tree_in m) follow (here chain') (piece ∷ comps after) (slash_end || b) k e) (sym next.slash_end) w))
+        (rw next.pieces (rw next.slash_end w))
 
     -- whether something is left behind the piece
     left_is : more (comps after) (slash_end || slash after) ≡ is_left slash_end after
@@ -67,7 +65,7 @@ module _ (slash_end follow : Bool) where
     meets_link l meets goes_on = record {
       piece = piece;
       gives = meets;
-      goes = ap (λ (b : Bool). b || follow) left_is ∙ goes_on;
+      goes = cc left_is;
       walks = from_piece;
       begins = next.begins;
       goes_on = next.goes_on;
@@ -75,26 +73,22 @@ module _ (slash_end follow : Bool) where
 
     module _ (chain'' : List ℕ) (same : chain'' ≡ chain') where
       directories_are : IsChain (tree_in m) chain''
-      directories_are = subst (IsChain (tree_in m)) (sym same) goes.directories
+      directories_are = rw same goes.directories
 
       pub stops : (x : Met) (y : Stop) → Meets (here chain') piece x m → IsStop slash_end follow after x (Ok y)
           → StopsAtLink slash_end follow chain text chain'' y m
       stops (met.File n) (stop.Node q) meets is = record {
         directories = directories_are;
-        stop = λ k. from_piece k (subst (λ (j : FileNumber). Walk (tree_in m) follow (here chain') (piece ∷ comps after)
-            (slash_end || slash after) k (At j.value)) (sym is.0) (file meets.1 (left_is ∙ is.1)));
+        stop = λ k. from_piece k (rw is.0 (file meets.1 (left_is ∙ is.1)));
       }
       stops (met.Symbolic l) (stop.Node q) meets is = record {
         directories = directories_are;
-        stop = λ k. from_piece k (subst (λ (j : FileNumber). Walk (tree_in m) follow (here chain') (piece ∷ comps after)
-            (slash_end || slash after) k (At j.value)) (sym is.0) (link meets (ap (λ (b : Bool). b || follow) left_is ∙ is.1)));
+        stop = λ k. from_piece k (rw is.0 (link meets (ap (λ (b : Bool). b || follow) left_is ∙ is.1)));
       }
       stops (met.Symbolic l) (stop.Followed x rest') meets is = record {
         directories = directories_are;
         stop =
-            subst (λ (c : List ℕ). MeetsLink slash_end follow (here chain) text (here c) x rest'.now m) (sym same)
-            (subst (λ (r : List ℕ). MeetsLink slash_end follow (here chain) text (here chain') x r m) (sym is.1)
-            (subst (λ (z : Link). MeetsLink slash_end follow (here chain) text (here chain') z after m) (sym is.0)
+            rw same (rw is.1 (subst (λ (z : Link). MeetsLink slash_end follow (here chain) text (here chain') z after m) (sym is.0)
             (meets_link l meets is.2)));
       }
       stops _ _ meets is = absurd is

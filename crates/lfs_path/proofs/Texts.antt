@@ -30,9 +30,8 @@ pub skipped : (q : List ℕ) → comps (drop (prefix_len is_slash q) q) ≡ comp
 skipped [] = refl
 skipped (c ∷ q) = elim (eqb_tells c 47) as (λ _. comps (drop (prefix_len is_slash (c ∷ q)) (c ∷ q)) ≡ comps (c ∷ q)) [
   | inl same ↦
-      let rest = skipped q in
       let one : prefix_len is_slash (c ∷ q) ≡ suc (prefix_len is_slash q) = rw same.0 (omega arith) in
-      rw one (rest ∙ sym (slash_front q) ∙ ap (λ (b : ℕ). comps (b ∷ q)) (sym same.1))
+      rw one (cc (skipped q, slash_front q))
   | inr apart ↦ rw apart.0 refl
 ]
 
@@ -81,24 +80,22 @@ behind : (x : List ℕ) → Ends x → pieces_of (parts_behind x) ≡ comps x
 behind [] ends = refl
 behind (c ∷ y) ends =
     let same : c ≡ 47 = grind (arith, nat_tests) in
-    sym (slash_front y) ∙ ap (λ (b : ℕ). comps (b ∷ y)) (sym same)
+    cc (slash_front y)
 
 comps_first : (c : ℕ) (q : List ℕ) → eqb c 47 ≡ false
     → comps (c ∷ q) ≡ take (piece_len (c ∷ q)) (c ∷ q) ∷ comps (drop (piece_len (c ∷ q)) (c ∷ q))
 comps_first c q apart =
     let one : piece_len (c ∷ q) ≡ suc (piece_len q) = rw apart (omega arith) in
-    let rest = behind (drop (piece_len (c ∷ q)) (c ∷ q)) (ends_there (c ∷ q)) in
     let long : nat_lt 0 (length (take (suc (piece_len q)) (c ∷ q))) ≡ true = some_true (length (take (piece_len q) q)) in
     ap pieces_of (first_part (c ∷ q)) ∙ rw (one, long) (ap (λ (ps : List (List ℕ)). (c ∷ take (piece_len q) q) ∷ ps)
-    (subst (λ (n : ℕ). pieces_of (parts_behind (drop n (c ∷ q))) ≡ comps (drop n (c ∷ q))) one rest))
+    (rw one at (behind (drop (piece_len (c ∷ q)) (c ∷ q)) (ends_there (c ∷ q)))))
 
 -- no piece: all bytes are slashes
 slashes_end : (y : List ℕ) → comps y ≡ [] → slash (47 ∷ y) ≡ true
 slashes_end [] none = refl
 slashes_end (d ∷ z) none = elim (eqb_tells d 47) as (λ _. slash (47 ∷ d ∷ z) ≡ true) [
   | inl same ↦
-      let rest = slashes_end z (sym (slash_front z) ∙ ap (λ (b : ℕ). comps (b ∷ z)) (sym same.1) ∙ none) in
-      ap (λ (b : ℕ). slash (b ∷ z)) same.1 ∙ rest
+      cc (slashes_end z (sym (slash_front z) ∙ ap (λ (b : ℕ). comps (b ∷ z)) (sym same.1) ∙ none))
   | inr apart ↦ absurd (let some = comps_first d z apart.0 in cc)
 ]
 
@@ -131,7 +128,7 @@ slash_skipped [] some = refl
 slash_skipped (c ∷ q) some = elim (eqb_tells c 47) as (λ _. slash (c ∷ q) ≡ slash (drop (prefix_len is_slash (c ∷ q)) (c ∷ q))) [
   | inl same ↦
       let one : prefix_len is_slash (c ∷ q) ≡ suc (prefix_len is_slash q) = rw same.0 (omega arith) in
-      let left : 0 < length (drop (prefix_len is_slash q) q) = subst (λ (n : ℕ). 0 < length (drop n (c ∷ q))) one some in
+      let left : 0 < length (drop (prefix_len is_slash q) q) = rw one at some in
       rw one (longer q left ∙ slash_skipped q left)
   | inr apart ↦ rw apart.0 refl
 ]
@@ -143,10 +140,9 @@ slash_skipped (c ∷ q) some = elim (eqb_tells c 47) as (λ _. slash (c ∷ q) �
 -- what is left of a text behind some of its bytes is as many bytes from its end
 pub suffix_back : (k j : ℕ) (path : List ℕ) {r : List ℕ} → r ≡ drop j (drop k path) → r ≡ drop (length path - length r) path
 suffix_back k j path {r} is = elim (cases_le (k + j) (length path)) as (λ _. r ≡ drop (length path - length r) path) [
-  | inl inside ↦ let at : k + j ≡ length path - length r = omega (arith, long, inside) in whole ∙ ap (λ (n : ℕ). drop n path) at
+  | inl inside ↦ whole ∙ ap (λ (n : ℕ). drop n path) (omega (arith, long))
   | inr past ↦
-      let none : length path ≤ length path - length r = omega (arith, long, past) in
-      whole ∙ drop_all (k + j) path (omega (arith, past)) ∙ sym (drop_all (length path - length r) path none)
+      whole ∙ drop_all (k + j) path (omega arith) ∙ sym (drop_all (length path - length r) path (omega (arith, long)))
 ]
   where
     whole : r ≡ drop (k + j) path
@@ -165,7 +161,7 @@ module _ (path q piece rest : List ℕ) (k : ℕ) (at : k ≡ prefix_len is_slas
       is ∙ take_all (length path - k) (drop k path) (omega arith) ∙ ap (λ (n : ℕ). drop n path) at
 
   pub no_piece : length q ≡ 0 → comps path ≡ []
-  no_piece none = sym (skipped path) ∙ ap comps (sym whole) ∙ by q none
+  no_piece none = cc (skipped path, whole, by q none)
     where
       by : (x : List ℕ) → length x ≡ 0 → comps x ≡ []
       by [] none = refl
@@ -178,26 +174,23 @@ module _ (path q piece rest : List ℕ) (k : ℕ) (at : k ≡ prefix_len is_slas
           → rest ≡ drop (piece_len x) x → IsNextPiece path piece rest
       by [] some all front back = absurd (omega arith)
       by (c ∷ x) some all front back =
-          let none : prefix_len is_slash (c ∷ x) ≡ 0 = ap (prefix_len is_slash) all ∙ skips_all path in
+          let none : prefix_len is_slash (c ∷ x) ≡ 0 = cc (skips_all path) in
           let apart : eqb c 47 ≡ false = elim (eqb_tells c 47) as (λ _. eqb c 47 ≡ false) [
             | inl same ↦
                 absurd (let one : prefix_len is_slash (c ∷ x) ≡ suc (prefix_len is_slash x) = rw same.0 (omega arith) in omega arith)
             | inr apart ↦ apart.0
           ] in
           let one : piece_len (c ∷ x) ≡ suc (piece_len x) = rw apart (omega arith) in
-          let long : length (c ∷ x) ≡ length path - prefix_len is_slash path = ap length all
-          ∙ length-drop (prefix_len is_slash path) path in
+          let long : length (c ∷ x) ≡ length path - prefix_len is_slash path = cc (length-drop (prefix_len is_slash path) path) in
           let shorter : length rest < length (c ∷ x) = let cut = ap length back ∙ length-drop (piece_len (c ∷ x)) (c ∷ x) in omega arith in
-          let left : 0 < length (drop (prefix_len is_slash path) path) = subst (λ (y : List ℕ). 0 < length y) all some in
+          let left : 0 < length (drop (prefix_len is_slash path) path) = rw (← all) some in
           record {
-            pieces = sym (skipped path) ∙ ap comps (sym all) ∙ comps_first c x apart ∙ ap (λ (y : List ℕ). y
-                ∷ comps (drop (piece_len (c ∷ x)) (c ∷ x))) (sym front) ∙ ap (λ (y : List ℕ). piece ∷ comps y) (sym back);
-            slash_end = slash_skipped path left ∙ ap slash (sym all) ∙ slash_behind (c ∷ x) ∙ ap slash (sym back);
-            goes_on = subst (λ (y : List ℕ). more (comps y) (slash y) ≡ nat_lt 0 (length y)) (sym back)
-                (more_behind (drop (piece_len (c ∷ x)) (c ∷ x)) (ends_there (c ∷ x)));
+            pieces = cc (skipped path, comps_first c x apart);
+            slash_end = cc (slash_skipped path left, slash_behind (c ∷ x));
+            goes_on = rw back (more_behind (drop (piece_len (c ∷ x)) (c ∷ x)) (ends_there (c ∷ x)));
             shorter = omega arith;
-            behind = suffix_back (prefix_len is_slash path) (piece_len (c ∷ x)) path (back ∙ ap (drop (piece_len (c ∷ x))) all);
-            begins = subst Ends (sym back) (ends_there (c ∷ x));
+            behind = suffix_back (prefix_len is_slash path) (piece_len (c ∷ x)) path (cc);
+            begins = rw back (ends_there (c ∷ x));
           }
 
 -- `==` on two pieces
@@ -205,4 +198,4 @@ pub same_is : (x y : List ℕ) → pointwise nat_eq x y ≡ same_name x y
 same_is [] [] = refl
 same_is [] (b ∷ y) = refl
 same_is (a ∷ x) [] = refl
-same_is (a ∷ x) (b ∷ y) = ap (λ r. nat_eq a b && r) (same_is x y)
+same_is (a ∷ x) (b ∷ y) = cc (same_is x y)

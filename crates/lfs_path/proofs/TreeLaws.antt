@@ -11,10 +11,10 @@ tree_maps = record {
   sound = λ N s m sound is headers formed. record {
     headers = headers;
     formed = formed;
-    root = subst (λ (t : Tree). is_dir (node t 1) ≡ true) is sound.root;
-    there = subst NamesGive is sound.named;
-    unnamed = subst (λ (t : Tree). names t 1 ≡ 0) is sound.root_unnamed;
-    one_name = subst (λ (t : Tree). (n : ℕ) → n ≢ 1 → is_dir (node t n) ≡ true → names t n ≡ 1) is sound.one_name;
+    root = rw (← is) sound.root;
+    there = rw (← is) sound.named;
+    unnamed = rw (← is) sound.root_unnamed;
+    one_name = rw (← is) sound.one_name;
   };
   mounted = λ N m tree headers root. record {
     headers = headers;

@@ -17,18 +17,17 @@ use Rattle.lfs_model.proofs.Trees.{cmp_other}
 any_gives : (n : ℕ) (m : Names) → list_any (λ x. x.1 == n) m ≡ true → 1 ≤ count_by (λ x. x.1 == n) m
 any_gives n [] h = cc
 any_gives n (e ∷ es) h =
-    let all = sum_by-cons (λ (x : List ℕ × ℕ). cond (x.1 == n) 1 0) e es in
     elim (e.1 == n) as (λ b. (b || list_any (λ x. x.1 == n) es) ≡ true
     → (if b then 1 else 0) + count_by (λ x. x.1 == n) es ≡ count_by (λ x. x.1 == n) (e ∷ es) → 1 ≤ count_by (λ x. x.1 == n) (e ∷ es)) [
       | true ↦ λ h sum. omega arith
       | false ↦ λ h sum. let rest = any_gives n es h in omega arith
-    ] h (sym all)
+    ] h (sym (sum_by-cons (λ (x : List ℕ × ℕ). cond (x.1 == n) 1 0) e es))
 
 gives_any : (n : ℕ) (x : List ℕ) (m : Names) → find byte_cmp x m ≡ Some n → list_any (λ e. e.1 == n) m ≡ true
 gives_any n x [] h = cc
 gives_any n x (e ∷ es) h = elim (is_eq (byte_cmp x e.0))
     as (λ b. cond b (Some e.1) (find byte_cmp x es) ≡ Some n → (e.1 == n || list_any (λ e. e.1 == n) es) ≡ true) [
-      | true ↦ λ h. let at : e.1 ≡ n = cc in let one : (e.1 == n) ≡ true = eq-eqb e.1 n at in rw one refl
+      | true ↦ λ h. let one : (e.1 == n) ≡ true = eq-eqb e.1 n cc in rw one refl
       | false ↦ λ h. elim (e.1 == n) as (λ b. (b || list_any (λ e. e.1 == n) es) ≡ true) [ true ↦ refl | false ↦ gives_any n x es h ]
     ] h
 
@@ -37,7 +36,7 @@ none_gives p k x [] none h = cc
 none_gives p k x (e ∷ es) none h = elim (p e.1) as (λ b. p e.1 ≡ b → cond b (Some e) (first_that (λ e. p e.1) es) ≡ None → p x ≡ false) [
   | true ↦ λ _ bad. cc
   | false ↦ λ first none. elim (is_eq (nat_cmp k e.0)) as (λ b. cond b (Some e.1) (find nat_cmp k es) ≡ Some x → p x ≡ false) [
-    | true ↦ λ h. let same : e.1 ≡ x = cc in subst (λ y. p y ≡ false) same first
+    | true ↦ λ h. let same : e.1 ≡ x = cc in rw (← same) first
     | false ↦ λ h. none_gives p k x es none h
   ] h
 ] refl none
@@ -64,11 +63,10 @@ module _ (t : Tree) (in_order : T (is_sorted nat_cmp t)) where
               none_gives (λ y. list_any (λ x. x.1 == n) (names_of y)) d y t none is in let yes_is = given in cc
           by (Some f) found = same_or_not f.0 d (λ same. same) (λ apart. absurd (
               let first = first_found nat_cmp_total (λ x. 0) (that_gives n) t f in_order found in
-              let left = total_without nat_cmp_total (gives n) d t in_order in
-              let here : weight nat_cmp_total (gives n) (node t d) ≡ gives n y = ap (weight nat_cmp_total (gives n)) is in
+              let here : weight nat_cmp_total (gives n) (node t d) ≡ gives n y = cc in
               let two = any_gives n (names_of y) given in
-              let still : find nat_cmp f.0 (without nat_cmp d t) ≡ Some f.1 = find_without nat_cmp_total d f.0 t
-              ∙ ap (λ b. cond b None (find nat_cmp f.0 t)) (cmp_other f.0 d apart) ∙ first.1 in
+              let still : find nat_cmp f.0 (without nat_cmp d t) ≡ Some f.1 = cc (find_without nat_cmp_total d f.0 t, cmp_other f.0 d apart)
+              in
               let more = weight-le-total nat_cmp_total (gives n) f.0 f.1 (without nat_cmp d t) still in
               let three = any_gives n (names_of f.1) first.0 in
-              omega (arith, left, here, two, more, three, one)))
+              omega (arith, total_without nat_cmp_total (gives n) d t in_order)))

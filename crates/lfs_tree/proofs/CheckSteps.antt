@@ -43,7 +43,7 @@ module _ (c : Content) (k : CheckpointValue) (m : LogMap) {headers : List (Optio
   need_here =
       let need = need_is c k m is.sized is.holds is.slots.formed is.of_log.counted in
       let same = is.of_log.segments in
-      (λ room. omega (arith, room, need, same), λ fit. omega (arith, fit, need, same))
+      (λ room. omega (arith, same), λ fit. omega (arith, same))
 
   pub fails_reached : (AreNamesFit headers names × AllClimb headers names.up → ⊥) → IsTreeDamage k.segments m 12
   fails_reached other = reached_fail refl is.slots is.texts
@@ -81,7 +81,7 @@ pub fault_after : {a b : DeviceState} (d : DeviceState) → Looks a b → (damag
     → IsFaultOf (b.failures < d.failures) damage f
     → IsFaultOf (a.failures < d.failures) damage f
 fault_after d looks damage fault.NoMemory is = is
-fault_after d looks damage fault.Device is = let before = looks.carries.failures in omega (arith, is, before)
+fault_after d looks damage fault.Device is = omega arith
 fault_after d looks damage fault.TooSmall is = is
 fault_after d looks damage fault.NoCheckpoint is = is
 fault_after d looks damage (fault.Damaged code) is = is
@@ -97,7 +97,7 @@ module _ (old new : DeviceState) (t : Tables) (lawful : IsLawful old) (keeps : n
   pub sees_log : Sees old new has.checkpoint (log_in (view old.content has.checkpoint))
   sees_log = record {
     keeps = keeps;
-    holds = subst (HoldsAt old.content has.checkpoint) same has.holds;
+    holds = rw (← same) has.holds;
     sized = are_sized old.content lawful.now;
   }
 
@@ -105,20 +105,19 @@ module _ (old new : DeviceState) (t : Tables) (lawful : IsLawful old) (keeps : n
   unfolding address
   leads_to = record {
     each = λ n low.
-        let whole : 128 * (n / 128) + n % 128 ≡ n = omega arith in
-        ap (address_in t.map) (sym whole) ∙ has.says.map.addresses (n / 128) (n % 128) (omega (arith, low)) (omega arith);
+        ap (address_in t.map) (sym (omega arith)) ∙ has.says.map.addresses (n / 128) (n % 128) (omega arith) (omega arith);
   }
 
   pub is_of_log : IsOfLog old.content has.checkpoint (log_in (view old.content has.checkpoint)) t
   is_of_log = record {
     leads = leads_to;
     segments = has.says.segments;
-    counted = subst (λ (m : LogMap). IsCounted m t.data_blocks t.meta_blocks) same has.counted;
+    counted = rw (← same) has.counted;
   }
 
   pub tree_of : IsTree has.checkpoint.segments (log_in (view old.content has.checkpoint))
       → TreeOf has.checkpoint.segments has.log (tree_in has.log)
-  tree_of tree = record { is = refl; tree = subst (IsTree has.checkpoint.segments) (sym same) tree }
+  tree_of tree = record { is = refl; tree = rw same tree }
 
   damage_in : (code : ℕ) → IsTreeDamage has.checkpoint.segments (log_in (view old.content has.checkpoint)) code
       → IsDamagedTree old.content code

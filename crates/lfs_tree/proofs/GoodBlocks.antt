@@ -14,6 +14,7 @@ use Rattle.lfs_files.specs.Files.{HoldsBlock}
 use Rattle.lfs_dirs.specs.Directory.{first_slots, per_block, slot_count, slots_at}
 use Rattle.lfs_dirs.proofs.Searches.{block_and_rest}
 use Rattle.lfs_dirs.proofs.SlotPlaces.{slots_many, slots_of_block}
+use Rattle.lfs_dirs.proofs.Widths.{block_before}
 use Rattle.lfs_tree.specs.Naming.{AreGoodSlots, Base, HasNames, IsNoted, IsTaken, NamesValue, TakesNames, TakesSlots}
 use Rattle.lfs_tree.proofs.GoodSlots.{good_behind, good_none}
 
@@ -21,43 +22,46 @@ module _ {headers : List (Option Header)} {d : ℕ} {base : Base} (m : LogMap) (
   pub blocks_begin : (index : ℕ) {set : BTreeSet (Vec ℕ Global)} {t : NamesValue} → slot_count head ≤ per_block head.form * index → IsTaken
       head.form headers d base [] set t → IsTaken head.form headers d base (drop (per_block head.form * index) (slots_at m d head)) set t
   blocks_begin index {set} {t} past was =
-      let many = slots_many m d head in
-      subst (λ (a : List (List ℕ)). IsTaken head.form headers d base a set t)
-      (sym (drop_all (per_block head.form * index) (slots_at m d head) (omega (arith, many, past)))) was
+      rw (drop_all (per_block head.form * index) (slots_at m d head) (omega (arith, slots_many m d head))) was
 
   pub blocks_end : (index : ℕ) {set : BTreeSet (Vec ℕ Global)} {t : NamesValue} → index ≡ 0 → IsTaken head.form headers d base
       (drop (per_block head.form * index) (slots_at m d head)) set t → TakesNames head.form headers d base (slots_at m d head) t true
   blocks_end index {set} {t} all was =
-      let times = ap (λ (i : ℕ). per_block head.form * i) all in
-      let none : per_block head.form * index ≡ 0 = omega (arith, times) in
-      let whole = subst (λ (j : ℕ). IsTaken head.form headers d base (drop j (slots_at m d head)) set t) none was in
+      let none : per_block head.form * index ≡ 0 = omega (arith, ap (λ (i : ℕ). per_block head.form * i) all) in
+      let whole = rw none at was in
       (whole.good, whole.noted)
 
-  module _ (index : ℕ) {next count : ℕ} {block : List ℕ} (holds : HoldsBlock m d next block) (is : count ≡ min (slot_count head
-      - per_block head.form * next) (per_block head.form)) (low : per_block head.form * next < slot_count head) (here : index ≡ next + 1)
+  -- the block before this index is taken: `slots` are there in all, `whole` in a block, and `count` in this one
+  module _ {index next count slots whole : ℕ} {block : List ℕ} (holds : HoldsBlock m d next block) (many : slots ≡ slot_count head)
+      (each : whole ≡ per_block head.form) (is_least : count ≡ min (slots - whole * next) whole) (some : 0 < index)
+      (before : next ≡ index - 1) (within : per_block head.form * index < slot_count head + per_block head.form)
       {set : BTreeSet (Vec ℕ Global)} (set' : BTreeSet (Vec ℕ Global)) {t : NamesValue} (t' : NamesValue)
       (was : IsTaken head.form headers d base (drop (per_block head.form * index) (slots_at m d head)) set t) where
+    low : per_block head.form * next < slot_count head
+    low = omega (arith, block_before head.form index some, ap (λ (i : ℕ). per_block head.form * i) before)
+
     parts : first_slots head.form block count ++ drop (per_block head.form * index) (slots_at m d head)
         ≡ drop (per_block head.form * next) (slots_at m d head)
     parts =
-        ap (λ (a : List (List ℕ)). a ++ drop (per_block head.form * index) (slots_at m d head))
-        (sym (slots_of_block m d head next count block holds (omega (arith, is)) (omega (arith, is, low))))
-        ∙ ap (λ (j : ℕ). take count (drop (per_block head.form * next) (slots_at m d head))
-        ++ drop (per_block head.form * j) (slots_at m d head)) here
-        ∙ sym (block_and_rest head.form (slots_at m d head) next (slots_many m d head) is)
+        let is : count ≡ min (slot_count head - per_block head.form * next) (per_block head.form) =
+        omega (arith, ap (λ (w : ℕ). w * next) each) in
+        let here : index ≡ next + 1 = omega arith in
+        cc (
+          slots_of_block m d head next count block holds (omega arith) (omega (arith, low)),
+          block_and_rest head.form (slots_at m d head) next (slots_many m d head) is,
+        )
 
     pub blocks_go_on : TakesSlots head.form headers d (first_slots head.form block count) set set' t t' true
         → IsTaken head.form headers d base (drop (per_block head.form * next) (slots_at m d head)) set' t'
-    blocks_go_on more = subst (λ (a : List (List ℕ)). IsTaken head.form headers d base a set' t') parts
-        (more base (drop (per_block head.form * index) (slots_at m d head)) was)
+    blocks_go_on more = rw (← parts) (more base (drop (per_block head.form * index) (slots_at m d head)) was)
 
     pub blocks_fail : TakesSlots head.form headers d (first_slots head.form block count) set set' t t' false
         → TakesNames head.form headers d base (slots_at m d head) t' false
     blocks_fail more good =
         more base (drop (per_block head.form * index) (slots_at m d head)) was
-        (subst (AreGoodSlots head.form headers) (sym parts) (good_behind (take (per_block head.form * next) (slots_at m d head))
+        (rw parts (good_behind (take (per_block head.form * next) (slots_at m d head))
         (drop (per_block head.form * next) (slots_at m d head))
-        (subst (AreGoodSlots head.form headers) (sym (take-append-drop (per_block head.form * next) (slots_at m d head))) good)))
+        (rw (take-append-drop (per_block head.form * next) (slots_at m d head)) good)))
 
 pub nothing_taken : (form : ℕ) {headers : List (Option Header)} {d : ℕ} {base : Base} (set : BTreeSet (Vec ℕ Global)) {t : NamesValue}
     → HasNames set [] → IsNoted headers d base [] t → IsTaken form headers d base [] set t
@@ -65,4 +69,4 @@ nothing_taken form {headers} set none was = record { good = good_none; names = n
 
 pub names_none : (set : BTreeSet (Vec ℕ Global)) → set.keys ≡ [] → HasNames set []
 names_none set empty q =
-    ap (λ (keys : List (Vec ℕ Global)). list_any (is_at (λ (y : Vec ℕ Global). slice_cmp nat_cmp q.items y.items)) keys) empty
+    cc

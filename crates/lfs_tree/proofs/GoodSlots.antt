@@ -23,17 +23,16 @@ use Rattle.lfs_tree.proofs.Notings.{noted_more}
 few_with : (o : Option SlotValue) (m : Names) → T (is_sorted byte_cmp m) → length (with_slot o m) ≤ length m + 1
 few_with None m order = omega arith
 few_with (Some s) m order =
-    let long = length-put byte_cmp nat_list_cmp_total s.name s.number m order in
     elim (is_some (find byte_cmp s.name m)) as (λ b. length (put byte_cmp s.name s.number m) ≡ cond b (length m) (length m + 1)
     → length (put byte_cmp s.name s.number m) ≤ length m + 1) [
-      | true ↦ λ e. omega (arith, e)
-      | false ↦ λ e. omega (arith, e)
-    ] long
+      | true ↦ λ e. omega arith
+      | false ↦ λ e. omega arith
+    ] (length-put byte_cmp nat_list_cmp_total s.name s.number m order)
 
 few_names : (form : ℕ) (a : List (List ℕ)) → length (map_of form a) ≤ length a
 few_names form [] = omega arith
-few_names form (x ∷ a) = let few = few_with (slot_in form x) (map_of form a) (sorted_names form a) in let rest = few_names form a in
-    omega (arith, few, rest)
+few_names form (x ∷ a) = let rest = few_names form a in
+    omega (arith, few_with (slot_in form x) (map_of form a) (sorted_names form a))
 
 module _ {form : ℕ} {headers : List (Option Header)} where
   pub good_behind : (a b : List (List ℕ)) → AreGoodSlots form headers (a ++ b) → AreGoodSlots form headers b
@@ -41,10 +40,9 @@ module _ {form : ℕ} {headers : List (Option Header)} where
   good_behind (x ∷ a) b good = good_behind a b record {
     each = good.each.1;
     apart =
-        let few = few_with (slot_in form x) (map_of form (a ++ b)) (sorted_names form (a ++ b)) in
         let rest = few_names form (a ++ b) in
         let all = good.apart in
-        omega (arith, few, rest, all);
+        omega (arith, few_with (slot_in form x) (map_of form (a ++ b)) (sorted_names form (a ++ b)));
   }
 
   pub good_none : AreGoodSlots form headers []
@@ -54,7 +52,7 @@ module _ {form : ℕ} {headers : List (Option Header)} where
 module _ (form : ℕ) (headers : List (Option Header)) (d : ℕ) (slot : List ℕ) where
   module _ {s : SlotValue} (is : slot_in form slot ≡ Some s) where
     map_more : (behind : List (List ℕ)) → map_of form (slot ∷ behind) ≡ put byte_cmp s.name s.number (map_of form behind)
-    map_more behind = ap (λ (o : Option SlotValue). with_slot o (map_of form behind)) is
+    map_more behind = cc
 
     long_more : (behind : List (List ℕ)) → length (map_of form (slot ∷ behind))
         ≡ cond (is_some (find byte_cmp s.name (map_of form behind))) (length (map_of form behind)) (length (map_of form behind) + 1)
@@ -67,7 +65,7 @@ module _ (form : ℕ) (headers : List (Option Header)) (d : ℕ) (slot : List �
         elim (find byte_cmp s.name (map_of form behind)) as (λ o. find byte_cmp s.name (map_of form behind) ≡ o
         → length (map_of form (slot ∷ behind)) ≡ cond (is_some o) (length (map_of form behind)) (length (map_of form behind) + 1) → ⊥) [
           | None ↦ λ e long. found e
-          | Some n ↦ λ e long. let all = good.apart in let some = rest.apart in omega (arith, long, all, some)
+          | Some n ↦ λ e long. omega arith
         ] refl (long_more behind)
 
     pub slot_taken : {set set' : BTreeSet (Vec ℕ Global)} {t t' : NamesValue} (base : Base) {behind : List (List ℕ)} → d < 4096
@@ -81,28 +79,25 @@ module _ (form : ℕ) (headers : List (Option Header)) (d : ℕ) (slot : List �
         apart =
             let long = long_more behind
             ∙ ap (λ (o : Option ℕ). cond (is_some o) (length (map_of form behind)) (length (map_of form behind) + 1)) new in
-            let rest = was.good.apart in
-            omega (arith, long, rest);
+            omega arith;
       };
-      names = subst (HasNames set') (sym (map_more behind)) names;
-      noted = subst (λ (m : Names). IsNoted headers d base m t') (sym (map_more behind)) (noted_more headers d base
-          t t' s.name low inside sizes (sorted_names form behind) new was.noted notes);
+      names = rw (map_more behind) names;
+      noted = rw (map_more behind) (noted_more headers d base t t' s.name low inside sizes (sorted_names form behind) new was.noted notes);
     }
 
 -- ---- the slots of a block, from its last on
 module _ (form : ℕ) (headers : List (Option Header)) (d : ℕ) (block : List ℕ) (count : ℕ) (set : BTreeSet (Vec ℕ Global))
     (t : NamesValue) where
   pub slots_begin : TakesSlots form headers d (slots_in form block count (count - count)) set set t t true
-  slots_begin base behind was = subst (λ (a : List (List ℕ)). IsTaken form headers d base (a ++ behind) set t)
-      (sym (no_slots form block count count (omega arith))) was
+  slots_begin base behind was = rw (no_slots form block count count (omega arith)) was
 
   module _ (place next : ℕ) (some : 0 < place) (le : place ≤ count) (before : next ≡ place - 1) {slot : List ℕ}
       (own : slot ≡ part (slot_len form * next) (slot_len form) block) where
     split : slots_in form block next (count - next) ≡ slot ∷ slots_in form block place (count - place)
     split =
-        let here : next + 1 ≡ place = omega (arith, some, before) in
-        next_slot form block next count (omega (arith, le, some, before))
-        ∙ ap (λ (k : ℕ). part (slot_len form * next) (slot_len form) block ∷ slots_in form block k (count - k)) here
+        next_slot form block next count (omega arith)
+        ∙ ap (λ (k : ℕ). part (slot_len form * next) (slot_len form) block ∷ slots_in form block k (count - k))
+        (omega arith)
         ∙ ap (λ (s : List ℕ). s ∷ slots_in form block place (count - place)) (sym own)
 
     pub slots_go_on : (set1 set2 : BTreeSet (Vec ℕ Global)) (t1 t2 : NamesValue)
@@ -110,21 +105,19 @@ module _ (form : ℕ) (headers : List (Option Header)) (d : ℕ) (block : List �
         → TakesSlots form headers d (slot ∷ []) set1 set2 t1 t2 true
         → TakesSlots form headers d (slots_in form block next (count - next)) set set2 t t2 true
     slots_go_on set1 set2 t1 t2 was one base behind taken =
-        subst (λ (a : List (List ℕ)). IsTaken form headers d base (a ++ behind) set2 t2) (sym split)
-        (one base (slots_in form block place (count - place) ++ behind) (was base behind taken))
+        rw split (one base (slots_in form block place (count - place) ++ behind) (was base behind taken))
 
     dropped : drop next (first_slots form block count) ≡ slots_in form block next (count - next)
     dropped =
         let many = block_slots_many form block 0 count in
         let left = length-drop next (first_slots form block count) in
-        let rest = block_slots_many form block next (count - next) in
         let long : length (drop next (first_slots form block count)) ≡ length (slots_in form block next (count - next)) =
-        omega (arith, many, left, rest) in
+        omega (arith, block_slots_many form block next (count - next)) in
         ext_get_or [] (drop next (first_slots form block count)) (slots_in form block next (count - next)) long
         (λ k low.
-        let inside : k < count - next = omega (arith, low, many, left) in
+        let inside : k < count - next = omega arith in
         get_or-drop next (first_slots form block count) k []
-        ∙ block_slot form block 0 count (next + k) (omega (arith, inside))
+        ∙ block_slot form block 0 count (next + k) (omega arith)
         ∙ ap (λ (j : ℕ). part (slot_len form * j) (slot_len form) block) (omega arith)
         ∙ sym (block_slot form block next (count - next) k inside))
 
@@ -134,8 +127,7 @@ module _ (form : ℕ) (headers : List (Option Header)) (d : ℕ) (block : List �
         → TakesSlots form headers d (first_slots form block count) set set2 t t2 false
     slots_fail set1 set2 t1 t2 was one base behind taken good =
         one base (slots_in form block place (count - place) ++ behind) (was base behind taken)
-        (subst (λ (a : List (List ℕ)). AreGoodSlots form headers (a ++ behind)) (dropped ∙ split)
-        (good_behind (take next (first_slots form block count)) (drop next (first_slots form block count) ++ behind)
-        (subst (AreGoodSlots form headers)
-        (ap (λ (a : List (List ℕ)). a ++ behind) (sym (take-append-drop next (first_slots form block count)))
-        ∙ append_assoc (take next (first_slots form block count)) (drop next (first_slots form block count)) behind) good)))
+        (rw (dropped ∙ split) at (good_behind (take next (first_slots form block count))
+        (drop next (first_slots form block count) ++ behind)
+        (rw (ap (λ (a : List (List ℕ)). a ++ behind) (sym (take-append-drop next (first_slots form block count)))
+        ∙ append_assoc (take next (first_slots form block count)) (drop next (first_slots form block count)) behind) at good)))

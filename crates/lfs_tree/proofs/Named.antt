@@ -17,7 +17,7 @@ unfolding sum_below
 sum_suc f n = refl
 
 pub sum_more : (f : ℕ → ℕ) (n : ℕ) → sum_below f (n + 1) ≡ sum_below f n + f n
-sum_more f n = let next : n + 1 ≡ suc n = omega arith in ap (sum_below f) next ∙ sum_suc f n
+sum_more f n = ap (sum_below f) (omega arith) ∙ sum_suc f n
 
 module _ (m : LogMap) (headers : List (Option Header)) where
   -- what is known before the next object
@@ -26,20 +26,20 @@ module _ (m : LogMap) (headers : List (Option Header)) where
 
   named_none : (t : NamesValue) → AreEmpty t → AreNamed m headers t 0
   named_none t empty = record {
-    counts = λ n low. let none = sum_none (λ d. giving (names_at m d) n) in let zero_at = empty.counts n in omega (arith, none, zero_at);
-    up = λ n low some. let none = sum_none (λ d. giving (names_at m d) n) in absurd (omega (arith, none, some));
-    below = λ d low. absurd (omega (arith, low));
+    counts = λ n low. omega (arith, sum_none (λ d. giving (names_at m d) n));
+    up = λ n low some. absurd (omega (arith, sum_none (λ d. giving (names_at m d) n)));
+    below = λ d low. absurd (omega arith);
     none = λ d le. empty.below d;
-    good = λ n low. absurd (omega (arith, low));
+    good = λ n low. absurd (omega arith);
   }
 
   module _ {t : NamesValue} {upto : ℕ} (was : AreNamed m headers t upto) where
     pub noted_begin : IsNoted headers upto (base_at t upto) [] t
     noted_begin = record {
-      counts = λ n low. let own = was.counts n low in omega (arith, own);
-      given = λ n low some. absurd (omega (arith, some));
+      counts = λ n low. omega (arith, was.counts n low);
+      given = λ n low some. absurd (omega arith);
       kept = λ n low none. refl;
-      own = let none = was.none upto (omega arith) in omega (arith, none);
+      own = omega (arith, was.none upto (omega arith));
       others = λ e other. refl;
     }
 
@@ -47,36 +47,32 @@ module _ (m : LogMap) (headers : List (Option Header)) where
         (noted : IsNoted headers upto (base_at t upto) (names_at m upto) t') where
       up_then : (n : ℕ) → n < 4096 → 0 < given_below m (upto + 1) n → 0 < giving (names_at m (slice_index t'.up n)) n
       up_then n low some = ⊎_elim
-          (λ (here : 0 < giving (names_at m upto) n). subst (λ (d : ℕ). 0 < giving (names_at m d) n) (sym (noted.given n low here)) here)
+          (λ (here : 0 < giving (names_at m upto) n). rw (noted.given n low here) here)
           (λ (none : giving (names_at m upto) n ≤ 0).
-          let more = sum_more (λ d. giving (names_at m d) n) upto in
-          subst (λ (d : ℕ). 0 < giving (names_at m d) n) (sym (noted.kept n low (omega (arith, none))))
-          (was.up n low (omega (arith, more, none, some))))
+          rw (noted.kept n low (omega arith))
+          (was.up n low (omega (arith, sum_more (λ d. giving (names_at m d) n) upto))))
           (cases_lt 0 (giving (names_at m upto) n))
 
       below_then : (d : ℕ) → d < upto + 1 → slice_index t'.below d ≡ capped (count_by (λ x. leads headers x.1) (names_at m d))
       below_then d low = ⊎_elim
           (λ (here : d ≡ upto).
-          let own = noted.own in
-          let none = was.none upto (omega arith) in
-          let last : slice_index t'.below upto ≡ capped (count_by (λ x. leads headers x.1) (names_at m upto)) = omega (arith, own, none) in
-          subst (λ (x : ℕ). slice_index t'.below x ≡ capped (count_by (λ y. leads headers y.1) (names_at m x))) (sym here) last)
-          (λ (other : d ≡ upto → ⊥). noted.others d other ∙ was.below d (omega (arith, low, other)))
+          rw here (omega arith))
+          (λ (other : d ≡ upto → ⊥). noted.others d other ∙ was.below d (omega arith))
           (cases_eq d upto)
 
       good_then : (n : ℕ) → n < upto + 1 → IsGoodObject m headers n
       good_then n low = ⊎_elim
-          (λ (here : n ≡ upto). subst (IsGoodObject m headers) (sym here) good)
-          (λ (other : n ≡ upto → ⊥). was.good n (omega (arith, low, other)))
+          (λ (here : n ≡ upto). rw here good)
+          (λ (other : n ≡ upto → ⊥). was.good n (omega arith))
           (cases_eq n upto)
 
       pub named_more : AreNamed m headers t' (upto + 1)
       named_more = record {
-        counts = λ n low. let own = noted.counts n low in let more = sum_more (λ d. giving (names_at m d) n) upto in
-            omega (arith, own, more);
+        counts = λ n low. let more = sum_more (λ d. giving (names_at m d) n) upto in
+            omega (arith, noted.counts n low);
         up = up_then;
         below = below_then;
-        none = λ d le. noted.others d (λ e. omega (arith, e, le)) ∙ was.none d (omega (arith, le));
+        none = λ d le. noted.others d (λ e. omega arith) ∙ was.none d (omega arith);
         good = good_then;
       }
 
@@ -84,4 +80,4 @@ module _ (m : LogMap) (headers : List (Option Header)) where
   pub named_first : {t : NamesValue} → AreEmpty t → IsGoodObject m headers 0 → names_at m 0 ≡ [] → AreNamed m headers t 1
   named_first {t} empty good nothing =
       let was = named_none t empty in
-      named_more was good (subst (λ (ms : Names). IsNoted headers 0 (base_at t 0) ms t) (sym nothing) (noted_begin was))
+      named_more was good (rw nothing (noted_begin was))

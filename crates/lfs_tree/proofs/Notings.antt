@@ -16,9 +16,8 @@ use Rattle.lfs_tree.specs.Naming.{AreTables, Base, IsNoted, NamesValue, Notes, c
 pub counted_put : (p : ℕ → Bool) (names : Names) (name : List ℕ) (v : ℕ) → T (is_sorted byte_cmp names) → find byte_cmp name names ≡ None
     → count_by (λ x. p x.1) (put byte_cmp name v names) ≡ count_by (λ x. p x.1) names + cond {A = ℕ} (p v) 1 0
 counted_put p names name v order new =
-    let put_in = total_put nat_list_cmp_total (λ w. cond {A = ℕ} (p w) 1 0) name v names order in
     let none = ap (λ (o : Option ℕ). weight nat_list_cmp_total (λ w. cond {A = ℕ} (p w) 1 0) o) new in
-    omega (arith, put_in, none)
+    omega (arith, total_put nat_list_cmp_total (λ w. cond {A = ℕ} (p w) 1 0) name v names order)
 
 module _ (headers : List (Option Header)) (d : ℕ) (base : Base) {names : Names} (t t' : NamesValue) {n : ℕ} (name : List ℕ)
     (here : d < 4096) (inside : n < 4096)
@@ -30,65 +29,51 @@ module _ (headers : List (Option Header)) (d : ℕ) (base : Base) {names : Names
   given_own : (q : ℕ) → q ≡ n → giving (put byte_cmp name n names) q ≡ giving names q + 1
   given_own q same =
       let yes : eqb n q ≡ true = grind (arith, nat_tests) in
-      given_more q ∙ ap (λ (b : Bool). giving names q + cond {A = ℕ} b 1 0) yes
+      cc (given_more q)
 
   given_other : (q : ℕ) → (q ≡ n → ⊥) → giving (put byte_cmp name n names) q ≡ giving names q
   given_other q other =
       let no : eqb n q ≡ false = grind (arith, nat_tests) in
-      let e = given_more q ∙ ap (λ (b : Bool). giving names q + cond {A = ℕ} b 1 0) no in
-      omega (arith, e)
+      omega (arith, given_more q ∙ ap (λ (b : Bool). giving names q + cond {A = ℕ} b 1 0) no)
 
   count_own : (q : ℕ) → q ≡ n → slice_index t'.counts q ≡ min (slice_index t.counts q + 1) 65535
   count_own q same =
-      let size = sizes.counts in
-      let low : n < length t.counts = omega (arith, size, inside) in
-      ap (λ (l : List ℕ). slice_index l q) notes.counts
-      ∙ ap (slice_index (slice_set t.counts n (min (slice_index t.counts n + 1) 65535))) same
-      ∙ get_or-set_same t.counts n (min (slice_index t.counts n + 1) 65535) 0 low
-      ∙ ap (λ (x : ℕ). min (slice_index t.counts x + 1) 65535) (sym same)
+      cc (get_or-set_same t.counts n (min (slice_index t.counts n + 1) 65535) 0 (omega arith))
 
   count_other : (q : ℕ) → (q ≡ n → ⊥) → slice_index t'.counts q ≡ slice_index t.counts q
-  count_other q other = ap (λ (l : List ℕ). slice_index l q) notes.counts
-      ∙ get_or-set_other t.counts n q (min (slice_index t.counts n + 1) 65535) 0 other
+  count_other q other = cc (get_or-set_other t.counts n q (min (slice_index t.counts n + 1) 65535) 0 other)
 
   up_own : (q : ℕ) → q ≡ n → slice_index t'.up q ≡ d
   up_own q same =
-      let size = sizes.up in
-      let low : n < length t.up = omega (arith, size, inside) in
-      ap (λ (l : List ℕ). slice_index l q) notes.up ∙ ap (slice_index (slice_set t.up n d)) same ∙ get_or-set_same t.up n d 0 low
+      cc (get_or-set_same t.up n d 0 (omega arith))
 
   up_other : (q : ℕ) → (q ≡ n → ⊥) → slice_index t'.up q ≡ slice_index t.up q
-  up_other q other = ap (λ (l : List ℕ). slice_index l q) notes.up ∙ get_or-set_other t.up n q d 0 other
+  up_other q other = cc (get_or-set_other t.up n q d 0 other)
 
   counts_then : (q : ℕ) → q < 4096 → slice_index t'.counts q ≡ capped (base.counts q + giving (put byte_cmp name n names) q)
   counts_then q low =
-      let before = was.counts q low in
       ⊎_elim
-      (λ (same : q ≡ n). let own = count_own q same in let more = given_own q same in omega (arith, own, more, before))
-      (λ (other : q ≡ n → ⊥). let own = count_other q other in let more = given_other q other in omega (arith, own, more, before))
+      (λ (same : q ≡ n). let more = given_own q same in omega (arith, count_own q same))
+      (λ (other : q ≡ n → ⊥). let more = given_other q other in omega (arith, count_other q other))
       (cases_eq q n)
 
   given_then : (q : ℕ) → q < 4096 → 0 < giving (put byte_cmp name n names) q → slice_index t'.up q ≡ d
   given_then q low some = ⊎_elim
       (λ (same : q ≡ n). up_own q same)
-      (λ (other : q ≡ n → ⊥). let more = given_other q other in up_other q other ∙ was.given q low (omega (arith, some, more)))
+      (λ (other : q ≡ n → ⊥). up_other q other ∙ was.given q low (omega (arith, given_other q other)))
       (cases_eq q n)
 
   kept_then : (q : ℕ) → q < 4096 → giving (put byte_cmp name n names) q ≡ 0 → slice_index t'.up q ≡ base.up q
   kept_then q low none = ⊎_elim
-      (λ (same : q ≡ n). let more = given_own q same in absurd (omega (arith, none, more)))
-      (λ (other : q ≡ n → ⊥). let more = given_other q other in up_other q other ∙ was.kept q low (omega (arith, none, more)))
+      (λ (same : q ≡ n). absurd (omega (arith, given_own q same)))
+      (λ (other : q ≡ n → ⊥). up_other q other ∙ was.kept q low (omega (arith, given_other q other)))
       (cases_eq q n)
 
   own_then : slice_index t'.below d ≡ capped (base.below d + count_by (λ x. leads headers x.1) (put byte_cmp name n names))
   own_then =
-      let size = sizes.below in
-      let low : d < length t.below = omega (arith, size, here) in
       let own = ap (λ (l : List ℕ). slice_index l d) notes.below
-      ∙ get_or-set_same t.below d (min (slice_index t.below d + cond {A = ℕ} (leads headers n) 1 0) 65535) 0 low in
-      let more = counted_put (leads headers) names name n order new in
-      let before = was.own in
-      omega (arith, own, more, before)
+      ∙ get_or-set_same t.below d (min (slice_index t.below d + cond {A = ℕ} (leads headers n) 1 0) 65535) 0 (omega arith) in
+      omega (arith, counted_put (leads headers) names name n order new)
 
   pub noted_more : IsNoted headers d base (put byte_cmp name n names) t'
   noted_more = record {
@@ -96,6 +81,8 @@ module _ (headers : List (Option Header)) (d : ℕ) (base : Base) {names : Names
     given = given_then;
     kept = kept_then;
     own = own_then;
-    others = λ e other. ap (λ (l : List ℕ). slice_index l e) notes.below ∙ get_or-set_other t.below d e
-        (min (slice_index t.below d + cond {A = ℕ} (leads headers n) 1 0) 65535) 0 other ∙ was.others e other;
+    others = λ e other. cc (
+      get_or-set_other t.below d e (min (slice_index t.below d + cond {A = ℕ} (leads headers n) 1 0) 65535) 0 other,
+      was.others e other,
+    );
   }

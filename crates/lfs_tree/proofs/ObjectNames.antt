@@ -28,13 +28,13 @@ use Rattle.lfs_tree.specs.Reading.{TellsHeaders}
 
 -- ---- lists
 pub all_at : {X : Type 0} (P : X → Type 0) (xs : List X) (j : ℕ) (d : X) → AllByRecursion P xs → j < length xs → P (get_or xs j d)
-all_at P [] j d all low = absurd (omega (arith, low))
+all_at P [] j d all low = absurd (omega arith)
 all_at P (x ∷ xs) zero d all low = all.0
-all_at P (x ∷ xs) (suc j) d all low = all_at P xs j d all.1 (omega (arith, low))
+all_at P (x ∷ xs) (suc j) d all low = all_at P xs j d all.1 (omega arith)
 
 pub all_from : {X : Type 0} (P : X → Type 0) (xs : List X) (d : X) → ((j : ℕ) → j < length xs → P (get_or xs j d)) → AllByRecursion P xs
 all_from P [] d each = tt
-all_from P (x ∷ xs) d each = (each 0 (omega arith), all_from P xs d (λ j low. each (suc j) (omega (arith, low))))
+all_from P (x ∷ xs) d each = (each 0 (omega arith), all_from P xs d (λ j low. each (suc j) (omega arith)))
 
 pub all_map : {X : Type 0} (P Q : X → Type 0) → ((x : X) → P x → Q x) → (xs : List X) → AllByRecursion P xs → AllByRecursion Q xs
 all_map P Q f [] all = tt
@@ -45,12 +45,12 @@ abbrev pub AreHeaders : LogMap → Type 0
 AreHeaders m = (n : ℕ) (h : entry.Header) → m.header n ≡ Some h → IsHeader m.version n h
 
 pub held_headers : {c : Content} {k : CheckpointValue} {m : LogMap} → HoldsAt c k m → AreHeaders m
-held_headers {c} {k} {m} st n h is = subst (λ (v : ℕ). IsHeader v n h) (sym st.version) (headers_are c k m st n h is)
+held_headers {c} {k} {m} st n h is = rw st.version (headers_are c k m st n h is)
 
 -- what the table says of a number
 pub head_told : (m : LogMap) (headers : List (Option Header)) → TellsHeaders m headers 4096 → (n : ℕ) → n < 4096 → {head : Header}
     → get_or headers n None ≡ Some head → m.header n ≡ Some (as_header head)
-head_told m headers told n low is = told n low ∙ ap (option_map as_header) is
+head_told m headers told n low is = cc (told n low)
 
 module _ (m : LogMap) (are : AreHeaders m) where
   outside : (n : ℕ) → (1 ≤ n → n ≤ 4095 → ⊥) → m.header n ≡ None
@@ -61,35 +61,34 @@ module _ (m : LogMap) (are : AreHeaders m) where
 
   -- number 0 is nobody's
   pub nobody : m.header 0 ≡ None
-  nobody = outside 0 (λ low high. omega (arith, low))
+  nobody = outside 0 (λ low high. omega arith)
 
   -- a number's node is that of its header
   pub node_at : (n : ℕ) → node (tree_in m) n ≡ node_of m n (m.header n)
   node_at n = ⊎_elim
       (λ (none : n < 1).
-      let zero_is : n ≡ 0 = omega arith in
-      ap (node (tree_in m)) zero_is ∙ no_node_0 m ∙ sym (ap (node_of m n) (outside n (λ low high. omega (arith, none, low)))))
+      ap (node (tree_in m)) (omega arith) ∙ no_node_0 m ∙ sym (cc (outside n (λ low high. omega arith))))
       (λ (some : 1 ≤ n). ⊎_elim
-      (λ (past : 4095 < n). no_node_past m n (omega arith) ∙ sym (ap (node_of m n) (outside n (λ low high. omega (arith, past, high)))))
+      (λ (past : 4095 < n). cc (no_node_past m n (omega arith), outside n (λ low high. omega arith)))
       (λ (low : n ≤ 4095). node_in m n some low)
       (cases_lt 4095 n))
       (cases_lt n 1)
 
   pub names_in_is : (d : ℕ) → names_in (tree_in m) d ≡ names_at m d
-  names_in_is d = ap (λ (o : Option Node). names_of (unwrap_or o (File []))) (node_at d)
+  names_in_is d = cc (node_at d)
 
   node_header : (n : ℕ) → node (tree_in m) n ≢ None → m.header n ≢ None
-  node_header n there none = there (node_at n ∙ ap (node_of m n) none)
+  node_header n there none = there (cc (node_at n))
 
   header_node : (n : ℕ) → m.header n ≢ None → node (tree_in m) n ≢ None
   header_node n there none = elim (m.header n) as (λ (o : Option entry.Header). m.header n ≡ o → ⊥) [
     | None ↦ λ e. there e
-    | Some h ↦ λ e. let both : Some (node_by m h.kind n h) ≡ None = sym (node_at n ∙ ap (node_of m n) e) ∙ none in absurd (cc)
+    | Some h ↦ λ e. cc (node_at n)
   ] refl
 
   -- ---- the names of an object
   pub no_names : (n : ℕ) → m.header n ≡ None → names_at m n ≡ []
-  no_names n none = ap (λ (o : Option entry.Header). names_of (unwrap_or (node_of m n o) (File []))) none
+  no_names n none = cc
 
   names_by : (n : ℕ) (h : entry.Header) (k : Kind) → (k ≡ kind.Directory → ⊥) → names_of (node_by m k n h) ≡ []
   names_by n h kind.File other = refl
@@ -104,17 +103,17 @@ module _ (m : LogMap) (are : AreHeaders m) where
 
   pub names_directory : (n : ℕ) {h : entry.Header} → m.header n ≡ Some h → h.kind ≡ kind.Directory
       → names_at m n ≡ map_of h.form (slots m n h)
-  names_directory n {h} at dir = names_of_header n at ∙ ap (λ (k : Kind). names_of (node_by m k n h)) dir
+  names_directory n {h} at dir = cc (names_of_header n at)
 
   -- ---- the stage, and each object by itself
   module _ (headers : List (Option Header)) (told : TellsHeaders m headers 4096) where
     there_told : (n : ℕ) → n < 4096 → m.header n ≢ None → get_or headers n None ≢ None
-    there_told n low there none = there (told n low ∙ ap (option_map as_header) none)
+    there_told n low there none = there (cc (told n low))
 
     told_there : (n : ℕ) → n < 4096 → get_or headers n None ≢ None → m.header n ≢ None
     told_there n low there none = elim (get_or headers n None) as (λ (o : Option Header). get_or headers n None ≡ o → ⊥) [
       | None ↦ λ e. there e
-      | Some h ↦ λ e. let both : Some (as_header h) ≡ None = sym (told n low ∙ ap (option_map as_header) e) ∙ none in absurd (cc)
+      | Some h ↦ λ e. cc (told n low)
     ] refl
 
     slot_good : AreSlots m → (n : ℕ) (h : entry.Header) → m.header n ≡ Some h → h.kind ≡ kind.Directory
@@ -123,15 +122,18 @@ module _ (m : LogMap) (are : AreHeaders m) where
         → IsGoodSlot h.form headers (get_or (slots m n h) j [])
     slot_good is n h at dir distinct j low None own some = absurd (some refl)
     slot_good is n h at dir distinct j low (Some s) own some =
-        let found = (slot_gives h.form (slots m n h) s.name s.number).1 distinct j record { inside = low; slot = own } in
-        let range = (slot_found h.form (get_or (slots m n h) j []) s own).0.number in
-        let high = range.1 in
-        let given : entry_in (tree_in m) n s.name ≡ Some s.number = ap (find byte_cmp s.name) (names_in_is n ∙ names_directory n at dir)
-        ∙ found in
+        let high = ((slot_found h.form (get_or (slots m n h) j []) s own).0.number).1 in
+        let given : entry_in (tree_in m) n s.name ≡ Some
+        s.number = cc (
+          names_in_is n,
+          names_directory n at dir,
+          (slot_gives h.form (slots m n h) s.name s.number).1 distinct j record
+              { inside = low; slot = own },
+        ) in
         record {
           value = s;
           spelt = own;
-          there = there_told s.number (omega (arith, high)) (node_header s.number (is.there n s.name s.number given));
+          there = there_told s.number (omega arith) (node_header s.number (is.there n s.name s.number given));
         }
 
     pub good_if_stage : AreSlots m → (n : ℕ) → IsGoodObject m headers n
@@ -145,43 +147,39 @@ module _ (m : LogMap) (are : AreHeaders m) where
 
     formed_if_good : ((n : ℕ) → n < 4096 → IsGoodObject m headers n) → AreFormed m
     formed_if_good good n h at dir =
-        let range = (are n h at).number in
-        let high = range.1 in
-        let own = good n (omega (arith, high)) h at dir in (
+        let high = ((are n h at).number).1 in
+        let own = good n (omega arith) h at dir in (
           all_map (IsGoodSlot h.form headers) (λ b. slot_in h.form b ≢ None)
-              (λ b g none. let both : Some g.value ≡ None = sym g.spelt ∙ none in absurd (cc)) (slots m n h) own.each,
+              (λ b g none. cc) (slots m n h) own.each,
           own.apart,
         )
 
     found_there : ((n : ℕ) → n < 4096 → IsGoodObject m headers n) → (d : ℕ) (name : List ℕ) (n : ℕ) (o : Option entry.Header)
         → m.header d ≡ o → find byte_cmp name (names_at m d) ≡ Some n → m.header n ≢ None
     found_there good d name n None is found =
-        absurd (let none : None ≡ Some n = sym (ap (find byte_cmp name) (no_names d is)) ∙ found in cc)
+        cc
     found_there good d name n (Some h) is found = by h.kind refl
       where
         other : (h.kind ≡ kind.Directory → ⊥) → m.header n ≢ None
-        other kept = absurd (let none : None ≡ Some n = sym (ap (find byte_cmp name) (names_other d is kept)) ∙ found in cc)
+        other kept = absurd (cc (names_other d is kept))
 
         by : (k : Kind) → h.kind ≡ k → m.header n ≢ None
-        by kind.File e = other (λ dir. let no = sym e ∙ dir in cc)
-        by kind.Link e = other (λ dir. let no = sym e ∙ dir in cc)
+        by kind.File e = other (λ dir. cc)
+        by kind.Link e = other (λ dir. cc)
         by kind.Directory dir =
-            let range = (are d h is).number in
-            let high = range.1 in
-            let own = good d (omega (arith, high)) h is dir in
-            let at = (slot_gives h.form (slots m d h) name n).0 (sym (ap (find byte_cmp name) (names_directory d is dir)) ∙ found) in
-            let slot = all_at (IsGoodSlot h.form headers) (slots m d h) at.0 [] own.each at.1.inside in
-            let both : Some slot.value ≡ Some record { number = n; name = name } = sym slot.spelt ∙ at.1.slot in
+            let high = ((are d h is).number).1 in
+            let at = (slot_gives h.form (slots m d h) name n).0 (cc (names_directory d is dir)) in
+            let slot = all_at (IsGoodSlot h.form headers) (slots m d h) at.0 [] (good d (omega arith) h is dir).each at.1.inside in
             let same : slot.value.number ≡ n = cc in
             let number = (slot_found h.form (get_or (slots m d h) at.0 []) slot.value slot.spelt).0.number in
             let most = number.1 in
-            subst (λ (q : ℕ). m.header q ≢ None) same (told_there slot.value.number (omega (arith, most)) slot.there)
+            rw (← same) (told_there slot.value.number (omega arith) slot.there)
 
     pub stage_if_good : ((n : ℕ) → n < 4096 → IsGoodObject m headers n) → AreSlots m
     stage_if_good good = record {
       formed = formed_if_good good;
       there = λ d name n given.
-          header_node n (found_there good d name n (m.header d) refl (sym (ap (find byte_cmp name) (names_in_is d)) ∙ given));
+          header_node n (found_there good d name n (m.header d) refl (cc (names_in_is d)));
     }
 
     -- ---- one object
@@ -191,31 +189,30 @@ module _ (m : LogMap) (are : AreHeaders m) where
         at_head = head_told m headers told n low is
 
         kind_dir : (k : Kind) → is_directory_kind k ≡ true → k ≡ kind.Directory
-        kind_dir kind.File e = absurd (cc)
+        kind_dir kind.File e = cc
         kind_dir kind.Directory e = refl
-        kind_dir kind.Link e = absurd (cc)
+        kind_dir kind.Link e = cc
 
         good_slots : AreGoodSlots head.form headers (slots_at m n head) → IsGoodObject m headers n
         good_slots good h at dir =
             let both : Some (as_header head) ≡ Some h = sym at_head ∙ at in
             let same : as_header head ≡ h = cc in
-            subst (λ (x : entry.Header). AreGoodSlots x.form headers (slots m n x)) same good
+            rw (← same) good
 
         pub object_directory : (r : Bool) → is_directory_kind head.kind ≡ true → TakesNames head.form headers n base (slots_at m n head) t r
             → TakesObject m headers n base t r
         object_directory true dir taken = (
           good_slots taken.0,
-          subst (λ (ms : Names). IsNoted headers n base ms t) (sym (names_directory n at_head (kind_dir head.kind dir))) taken.1,
+          rw (names_directory n at_head (kind_dir head.kind dir)) taken.1,
         )
         object_directory false dir taken = λ good. taken (good (as_header head) at_head (kind_dir head.kind dir))
 
         other_kind : is_directory_kind head.kind ≡ false → head.kind ≡ kind.Directory → ⊥
-        other_kind apart dir = let both : true ≡ false = sym (ap is_directory_kind dir) ∙ apart in absurd (cc)
+        other_kind apart dir = cc
 
         pub object_other : is_directory_kind head.kind ≡ false → IsNoted headers n base [] t
             → IsGoodObject m headers n × IsNoted headers n base (names_at m n) t
         object_other apart was = (
-          λ h at dir. (let both : Some (as_header head) ≡ Some h = sym at_head ∙ at in let same : as_header head ≡ h = cc in
-              absurd (other_kind apart (ap (λ (x : entry.Header). x.kind) same ∙ dir))),
-          subst (λ (ms : Names). IsNoted headers n base ms t) (sym (names_other n at_head (other_kind apart))) was,
+          λ h at dir. (let both : Some (as_header head) ≡ Some h = sym at_head ∙ at in absurd (other_kind apart (cc))),
+          rw (names_other n at_head (other_kind apart)) was,
         )

@@ -30,23 +30,20 @@ use Rattle.lfs_tree.proofs.TreeNames.{found_given, given_found, names_given, sum
 given_first : (e : List ℕ × ℕ) (ms : Names) → 0 < giving (e ∷ ms) e.1
 given_first e ms =
     let yes : eqb e.1 e.1 ≡ true = grind (arith, nat_tests) in
-    let one = ap {B = ℕ} (λ (t : Bool). cond t 1 0) yes in
     let more = sum_by-cons (λ (x : List ℕ × ℕ). cond {A = ℕ} (x.1 == e.1) 1 0) e ms in
-    omega (arith, one, more)
+    omega (arith, ap {B = ℕ} (λ (t : Bool). cond t 1 0) yes)
 
 given_behind : (e : List ℕ × ℕ) (ms : Names) (n : ℕ) → 0 < giving ms n → 0 < giving (e ∷ ms) n
 given_behind e ms n some =
-    let more = sum_by-cons (λ (x : List ℕ × ℕ). cond {A = ℕ} (x.1 == n) 1 0) e ms in
-    omega (arith, some, more)
+    omega (arith, sum_by-cons (λ (x : List ℕ × ℕ). cond {A = ℕ} (x.1 == n) 1 0) e ms)
 
 count_same : (p q : ℕ → Bool) (ms : Names) → ((n : ℕ) → 0 < giving ms n → p n ≡ q n) → count_by (λ x. p x.1) ms ≡ count_by (λ x. q x.1) ms
 count_same p q [] same = refl
 count_same p q (e ∷ ms) same =
-    let rest = count_same p q ms (λ n some. same n (given_behind e ms n some)) in
     let a = sum_by-cons (λ (x : List ℕ × ℕ). cond {A = ℕ} (p x.1) 1 0) e ms in
     let b = sum_by-cons (λ (x : List ℕ × ℕ). cond {A = ℕ} (q x.1) 1 0) e ms in
     let own = ap {B = ℕ} (λ (t : Bool). cond t 1 0) (same e.1 (given_first e ms)) in
-    omega (arith, rest, a, b, own)
+    omega (arith, count_same p q ms (λ n some. same n (given_behind e ms n some)))
 
 module _ (m : LogMap) (are : AreHeaders m) (headers : List (Option Header)) (told : TellsHeaders m headers 4096) where
   -- ---- what stands at a number
@@ -57,53 +54,51 @@ module _ (m : LogMap) (are : AreHeaders m) (headers : List (Option Header)) (tol
 
   node_there : (n : ℕ) (hd : Header) → n < 4096 → get_or headers n None ≡ Some hd
       → node (tree_in m) n ≡ Some (node_by m hd.kind n (as_header hd))
-  node_there n hd low is = node_at m are n ∙ ap (node_of m n) (head_told m headers told n low is)
+  node_there n hd low is = cc (node_at m are n, head_told m headers told n low is)
 
   node_not : (n : ℕ) → n < 4096 → get_or headers n None ≡ None → node (tree_in m) n ≡ None
-  node_not n low none = node_at m are n ∙ ap (node_of m n) (told n low ∙ ap (option_map as_header) none)
+  node_not n low none = cc (node_at m are n, told n low)
 
   leads_by : (n : ℕ) → n < 4096 → (o : Option Header) → get_or headers n None ≡ o → leads headers n ≡ is_dir (node (tree_in m) n)
-  leads_by n low None is = ap is_directory is ∙ sym (ap is_dir (node_not n low is))
-  leads_by n low (Some hd) is = ap is_directory is ∙ sym (ap is_dir (node_there n hd low is) ∙ dir_by n (as_header hd) hd.kind)
+  leads_by n low None is = cc (node_not n low is)
+  leads_by n low (Some hd) is = cc (node_there n hd low is, dir_by n (as_header hd) hd.kind)
 
   leads_is : (n : ℕ) → n < 4096 → leads headers n ≡ is_dir (node (tree_in m) n)
   leads_is n low = leads_by n low (get_or headers n None) refl
 
   -- a number that is there
   low_of : (n : ℕ) {h : entry.Header} → m.header n ≡ Some h → n < 4096
-  low_of n {h} at = let range = (are n h at).number in let high = range.1 in omega (arith, high)
+  low_of n {h} at = let high = ((are n h at).number).1 in omega arith
 
   header_of : (n : ℕ) (h : entry.Header) → m.header n ≡ Some h → (hd : Header) × (get_or headers n None ≡ Some hd) × (h ≡ as_header hd)
   header_of n h at = by (get_or headers n None) refl
     where
       by : (o : Option Header) → get_or headers n None ≡ o → (hd : Header) × (get_or headers n None ≡ Some hd) × (h ≡ as_header hd)
-      by None is = absurd (let both : None ≡ Some h = sym (told n (low_of n at) ∙ ap (option_map as_header) is) ∙ at in cc)
+      by None is = absurd (cc (told n (low_of n at)))
       by (Some hd) is = (hd, is, let both : Some h ≡ Some (as_header hd) = sym at ∙ head_told m headers told n (low_of n at) is in cc)
 
   header_in : (n : ℕ) → node (tree_in m) n ≢ None → (h : entry.Header) × (m.header n ≡ Some h)
   header_in n there = by (m.header n) refl
     where
       by : (o : Option entry.Header) → m.header n ≡ o → (h : entry.Header) × (m.header n ≡ Some h)
-      by None is = absurd (there (node_at m are n ∙ ap (node_of m n) is))
+      by None is = absurd (there (cc (node_at m are n)))
       by (Some h) is = (h, is)
 
   dir_there : (n : ℕ) → is_dir (node (tree_in m) n) ≡ true → node (tree_in m) n ≢ None
-  dir_there n dir none = let no_ : true ≡ false = sym dir ∙ ap is_dir none in absurd (cc)
+  dir_there n dir none = cc
 
   -- ---- names of a directory
   sorted_at : (d : ℕ) → T (is_sorted byte_cmp (names_at m d))
   sorted_at d = by (m.header d) refl
     where
       sorted_by : (h : entry.Header) → m.header d ≡ Some h → (k : Kind) → h.kind ≡ k → T (is_sorted byte_cmp (names_at m d))
-      sorted_by h is kind.File e = subst (λ (ms : Names). T (is_sorted byte_cmp ms))
-          (sym (names_other m are d is (λ dir. let both = sym e ∙ dir in absurd (cc)))) tt
-      sorted_by h is kind.Link e = subst (λ (ms : Names). T (is_sorted byte_cmp ms))
-          (sym (names_other m are d is (λ dir. let both = sym e ∙ dir in absurd (cc)))) tt
+      sorted_by h is kind.File e = rw (names_other m are d is (λ dir. cc)) tt
+      sorted_by h is kind.Link e = rw (names_other m are d is (λ dir. cc)) tt
       sorted_by h is kind.Directory e =
-          subst (λ (ms : Names). T (is_sorted byte_cmp ms)) (sym (names_directory m are d is e)) (sorted_names h.form (slots m d h))
+          rw (names_directory m are d is e) (sorted_names h.form (slots m d h))
 
       by : (o : Option entry.Header) → m.header d ≡ o → T (is_sorted byte_cmp (names_at m d))
-      by None is = subst (λ (ms : Names). T (is_sorted byte_cmp ms)) (sym (no_names m are d is)) tt
+      by None is = rw (no_names m are d is) tt
       by (Some h) is = sorted_by h is h.kind refl
 
   -- what gives a name is a directory
@@ -111,31 +106,30 @@ module _ (m : LogMap) (are : AreHeaders m) (headers : List (Option Header)) (tol
   entry_dir d name {n} given = by (node (tree_in m) d) refl
     where
       none_of : (o : Option Node) → node (tree_in m) d ≡ o → names_of (unwrap_or o (File [])) ≡ [] → is_dir (node (tree_in m) d) ≡ true
-      none_of o is none = absurd (let both : None ≡ Some n = sym
-          (ap (λ (x : Option Node). find byte_cmp name (names_of (unwrap_or x (File [])))) is ∙ ap (find byte_cmp name) none) ∙ given in cc)
+      none_of o is none = cc
 
       by : (o : Option Node) → node (tree_in m) d ≡ o → is_dir (node (tree_in m) d) ≡ true
       by None is = none_of None is refl
       by (Some (File b)) is = none_of (Some (File b)) is refl
       by (Some (Link text)) is = none_of (Some (Link text)) is refl
-      by (Some (Dir form ms)) is = ap is_dir is
+      by (Some (Dir form ms)) is = cc
 
   entry_given : (d : ℕ) (name : List ℕ) (n : ℕ) → entry_in (tree_in m) d name ≡ Some n → 0 < giving (names_at m d) n
-  entry_given d name n given = found_given (names_at m d) name n (sym (ap (find byte_cmp name) (names_in_is m are d)) ∙ given)
+  entry_given d name n given = found_given (names_at m d) name n (cc (names_in_is m are d))
 
   -- ---- the tables
   module _ {t : NamesValue} (named : AreNamed m headers t 4096) where
     pub count_is : (n : ℕ) → n < 4096 → slice_index t.counts n ≡ capped (names (tree_in m) n)
-    count_is n low = named.counts n low ∙ ap capped (sym (names_given m are n))
+    count_is n low = cc (named.counts n low, names_given m are n)
 
     -- the directory above one that is named
     up_names : (n : ℕ) → n < 4096 → 0 < names (tree_in m) n → 0 < giving (names_at m (slice_index t.up n)) n
-    up_names n low some = let same = names_given m are n in named.up n low (omega (arith, some, same))
+    up_names n low some = named.up n low (omega (arith, names_given m are n))
 
     up_entry : (n : ℕ) → n < 4096 → 0 < names (tree_in m) n → (name : List ℕ) × (entry_in (tree_in m) (slice_index t.up n) name ≡ Some n)
     up_entry n low some =
         let found = given_found (names_at m (slice_index t.up n)) n (sorted_at (slice_index t.up n)) (up_names n low some) in
-        (found.0, ap (find byte_cmp found.0) (names_in_is m are (slice_index t.up n)) ∙ found.1)
+        (found.0, cc (names_in_is m are (slice_index t.up n)))
 
     -- ---- numbers named
     module _ (fit : AreNamesFit headers t) where
@@ -143,60 +137,52 @@ module _ (m : LogMap) (are : AreHeaders m) (headers : List (Option Header)) (tol
           → (hd : Header) × (h ≡ as_header hd) × FitsNames (Some hd) n (slice_index t.counts n)
       fits_at n {h} at =
           let is = header_of n h at in
-          (is.0, is.2, subst (λ (o : Option Header). FitsNames o n (slice_index t.counts n)) is.1 (fit n (low_of n at)))
+          (is.0, is.2, rw is.1 at (fit n (low_of n at)))
 
       pub named_some : (n : ℕ) → n ≢ 1 → node (tree_in m) n ≢ None → 0 < names (tree_in m) n
       named_some n other there =
           let at = header_in n there in
-          let fits = fits_at n at.1 in
-          let some = fits.2.1 other in
-          let same = count_is n (low_of n at.1) in
-          omega (arith, some, same)
+          let some = (fits_at n at.1).2.1 other in
+          omega (arith, count_is n (low_of n at.1))
 
       pub named_root : (h : entry.Header) → m.header 1 ≡ Some h → names (tree_in m) 1 ≡ 0
       named_root h at =
-          let fits = fits_at 1 at in
-          let none = fits.2.0 refl in
-          let same = count_is 1 (omega arith) in
-          omega (arith, none, same)
+          let none = (fits_at 1 at).2.0 refl in
+          omega (arith, count_is 1 (omega arith))
 
       pub named_one : (n : ℕ) → n ≢ 1 → is_dir (node (tree_in m) n) ≡ true → names (tree_in m) n ≡ 1
       named_one n other dir =
           let at = header_in n (dir_there n dir) in
           let fits = fits_at n at.1 in
-          let kind_is = sym (dir_by n at.0 at.0.kind) ∙ ap is_dir (sym (node_at m are n ∙ ap (node_of m n) at.1)) ∙ dir in
-          let one = fits.2.2 other (ap (λ (h : entry.Header). is_directory_kind h.kind) (sym fits.1) ∙ kind_is) in
-          let same = count_is n (low_of n at.1) in
-          omega (arith, one, same)
+          let one = fits.2.2 other (cc (dir_by n at.0 at.0.kind, node_at m are n)) in
+          omega (arith, count_is n (low_of n at.1))
 
     pub names_fit : AreReached m → AreNamesFit headers t
     names_fit reached n low = by (get_or headers n None) refl
       where
         by : (o : Option Header) → get_or headers n None ≡ o → FitsNames (get_or headers n None) n (slice_index t.counts n)
-        by None is = subst (λ (o : Option Header). FitsNames o n (slice_index t.counts n)) (sym is) tt
+        by None is = rw is tt
         by (Some hd) is =
             let same = count_is n low in
             let at = node_there n hd low is in
             subst (λ (o : Option Header). FitsNames o n (slice_index t.counts n)) (sym is) (
-              λ one. (let none = ap (names (tree_in m)) one ∙ reached.root in omega (arith, same, none)),
-              λ other. (let some = reached.some n other (λ none.
-                  let both : Some (node_by m hd.kind n (as_header hd)) ≡ None = sym at ∙ none in absurd (cc)) in omega (arith, same, some)),
+              λ one. (omega (arith, ap (names (tree_in m)) one ∙ reached.root)),
+              λ other. (let some = reached.some n other (λ none. cc) in omega arith),
               λ other dir.
-                  (let one = reached.one n other (ap is_dir at ∙ dir_by n (as_header hd) hd.kind ∙ dir) in omega (arith, same, one)),
+                  (omega (arith, reached.one n other (ap is_dir at ∙ dir_by n (as_header hd) hd.kind ∙ dir))),
             )
 
     -- ---- directories reached
     module _ (one : (n : ℕ) → n ≢ 1 → is_dir (node (tree_in m) n) ≡ true → names (tree_in m) n ≡ 1) where
       dir_low : (n : ℕ) → is_dir (node (tree_in m) n) ≡ true → n < 4096
-      dir_low n dir = let at = header_in n (dir_there n dir) in low_of n at.1
+      dir_low n dir = low_of n (header_in n (dir_there n dir)).1
 
       pub climbs_reached : {n : ℕ} → Climbs (slice_index t.up) n → is_dir (node (tree_in m) n) ≡ true → IsReachable (tree_in m) n
       climbs_reached way.root dir = root
       climbs_reached (way.more n rest) dir = ⊎_elim
-          (λ (here : n ≡ 1). subst (IsReachable (tree_in m)) (sym here) root)
+          (λ (here : n ≡ 1). rw here root)
           (λ (other : n ≡ 1 → ⊥).
-          let once = one n other dir in
-          let given = up_entry n (dir_low n dir) (omega (arith, once)) in
+          let given = up_entry n (dir_low n dir) (omega (arith, one n other dir)) in
           below given.0 (climbs_reached rest (entry_dir (slice_index t.up n) given.0 given.1)) given.1) (cases_eq n 1)
 
       up_low : (n : ℕ) → n < 4096 → 0 < names (tree_in m) n → slice_index t.up n < 4096
@@ -208,20 +194,19 @@ module _ (m : LogMap) (are : AreHeaders m) (headers : List (Option Header)) (tol
           (λ (same : d ≡ slice_index t.up n). same)
           (λ (apart : d ≡ slice_index t.up n → ⊥).
           let once = one n other dir in
-          let first = entry_given d name n given in
-          let second = up_names n (dir_low n dir) (omega (arith, once)) in
+          let second = up_names n (dir_low n dir) (omega arith) in
           let both = sum_both (λ (x : ℕ). giving (names_at m x) n) d 4096 (dir_low d (entry_dir d name given))
-          (up_low n (dir_low n dir) (omega (arith, once))) apart in
+          (up_low n (dir_low n dir) (omega arith)) apart in
           let all = names_given m are n in
-          absurd (omega (arith, once, first, second, both, all)))
+          absurd (omega (arith, entry_given d name n given)))
           (cases_eq d (slice_index t.up n))
 
       pub reached_climbs : {n : ℕ} → IsReachable (tree_in m) n → is_dir (node (tree_in m) n) ≡ true → Climbs (slice_index t.up) n
       reached_climbs root dir = way.root
       reached_climbs (below {d} {n} name from given) dir = ⊎_elim
-          (λ (here : n ≡ 1). subst (Climbs (slice_index t.up)) (sym here) way.root)
+          (λ (here : n ≡ 1). rw here way.root)
           (λ (other : n ≡ 1 → ⊥).
-          way.more n (subst (Climbs (slice_index t.up)) (same_up n d name other dir given) (reached_climbs from (entry_dir d name given))))
+          way.more n (rw (← same_up n d name other dir given) (reached_climbs from (entry_dir d name given))))
           (cases_eq n 1)
 
     -- ---- the stage
@@ -232,8 +217,8 @@ module _ (m : LogMap) (are : AreHeaders m) (headers : List (Option Header)) (tol
       one = named_one fit;
       down = λ n dir.
           let there = header_in n (dir_there n dir) in
-          let range = (are n there.0 there.1).number in
-          climbs_reached (named_one fit) (climb n range.0 (low_of n there.1) (leads_is n (low_of n there.1) ∙ dir)) dir;
+          climbs_reached (named_one fit) (climb n ((are n there.0 there.1).number).0 (low_of n there.1)
+          (leads_is n (low_of n there.1) ∙ dir)) dir;
     }
 
     pub fit_if_reached : AreReached m → AreNamesFit headers t × AllClimb headers t.up
@@ -246,31 +231,35 @@ module _ (m : LogMap) (are : AreHeaders m) (headers : List (Option Header)) (tol
       given_low : (d n : ℕ) → 0 < giving (names_at m d) n → n < 4096
       given_low d n some =
           let found = given_found (names_at m d) n (sorted_at d) some in
-          let at = header_in n (entries.there d found.0 n (ap (find byte_cmp found.0) (names_in_is m are d) ∙ found.1)) in
-          low_of n at.1
+          low_of n (header_in n (entries.there d found.0 n (cc (names_in_is m are d)))).1
+
+      -- what a kind makes of the links of an object, and of the test of them
+      links_by : (n : ℕ) (hd : Header) → n < 4096 → get_or headers n None ≡ Some hd → {k : Kind} → hd.kind ≡ k
+          → (links (tree_in m) n ≡ links_at (tree_in m) n (Some (node_by m k n (as_header hd))))
+          × (cond (is_directory_kind hd.kind) (2 + slice_index t.below n) (slice_index t.counts n)
+          ≡ cond {A = ℕ} (is_directory_kind k) (2 + slice_index t.below n) (slice_index t.counts n))
+      links_by n hd low is e =
+          (ap (links_at (tree_in m) n) (node_there n hd low is ∙ ap (λ (k : Kind). Some (node_by m k n (as_header hd))) e), cc)
 
       links_of : (n : ℕ) (hd : Header) → n < 4096 → get_or headers n None ≡ Some hd → hd.links ≤ 1000 → (k : Kind) → hd.kind ≡ k
           → (hd.links ≡ cond (is_directory_kind hd.kind) (2 + slice_index t.below n) (slice_index t.counts n)) ↔
           (hd.links ≡ links (tree_in m) n)
       links_of n hd low is few kind.File e =
           let same = count_is n low in
-          let tree = ap (links_at (tree_in m) n) (node_there n hd low is ∙ ap (λ (k : Kind). Some (node_by m k n (as_header hd))) e) in
-          let test = ap {B = ℕ} (λ (k : Kind). cond (is_directory_kind k) (2 + slice_index t.below n) (slice_index t.counts n)) e in
-          (λ l. omega (arith, l, same, tree, test, few), λ l. omega (arith, l, same, tree, test, few))
+          let by = links_by n hd low is e in
+          (λ l. omega arith, λ l. omega arith)
       links_of n hd low is few kind.Link e =
           let same = count_is n low in
-          let tree = ap (links_at (tree_in m) n) (node_there n hd low is ∙ ap (λ (k : Kind). Some (node_by m k n (as_header hd))) e) in
-          let test = ap {B = ℕ} (λ (k : Kind). cond (is_directory_kind k) (2 + slice_index t.below n) (slice_index t.counts n)) e in
-          (λ l. omega (arith, l, same, tree, test, few), λ l. omega (arith, l, same, tree, test, few))
+          let by = links_by n hd low is e in
+          (λ l. omega arith, λ l. omega arith)
       links_of n hd low is few kind.Directory e =
-          let own = names_directory m are n (head_told m headers told n low is) e in
           let same = named.below n low in
           let counted = count_same (leads headers) (λ (v : ℕ). is_dir (node (tree_in m) v)) (names_at m n)
           (λ v some. leads_is v (given_low n v some)) in
-          let moved = ap (λ (ms : Names). count_by (λ x. is_dir (node (tree_in m) x.1)) ms) own in
-          let tree = ap (links_at (tree_in m) n) (node_there n hd low is ∙ ap (λ (k : Kind). Some (node_by m k n (as_header hd))) e) in
-          let test = ap {B = ℕ} (λ (k : Kind). cond (is_directory_kind k) (2 + slice_index t.below n) (slice_index t.counts n)) e in
-          (λ l. omega (arith, l, same, counted, moved, tree, test, few), λ l. omega (arith, l, same, counted, moved, tree, test, few))
+          let moved = ap (λ (ms : Names). count_by (λ x. is_dir (node (tree_in m) x.1)) ms)
+          (names_directory m are n (head_told m headers told n low is) e) in
+          let by = links_by n hd low is e in
+          (λ l. omega arith, λ l. omega arith)
 
       few_links : (n : ℕ) {hd : Header} → n < 4096 → get_or headers n None ≡ Some hd → hd.links ≤ 1000
       few_links n {hd} low is = (are n (as_header hd) (head_told m headers told n low is)).links.1
@@ -279,15 +268,13 @@ module _ (m : LogMap) (are : AreHeaders m) (headers : List (Option Header)) (tol
       links_if_fit fit n h at =
           let is = header_of n h at in
           let low = low_of n at in
-          let fits = subst (λ (o : Option Header). FitsLinks o (slice_index t.counts n) (slice_index t.below n)) is.1 (fit n low) in
-          ap (λ (x : entry.Header). x.links) is.2 ∙ (links_of n is.0 low is.1 (few_links n low is.1) is.0.kind refl).0 fits
+          cc ((links_of n is.0 low is.1 (few_links n low is.1) is.0.kind refl).0 (rw is.1 at (fit n low)))
 
       pub fit_if_links : AreLinks m → AreLinksFit headers t
       fit_if_links all n low = by (get_or headers n None) refl
         where
           by : (o : Option Header) → get_or headers n None ≡ o
               → FitsLinks (get_or headers n None) (slice_index t.counts n) (slice_index t.below n)
-          by None is = subst (λ (o : Option Header). FitsLinks o (slice_index t.counts n) (slice_index t.below n)) (sym is) tt
+          by None is = rw is tt
           by (Some hd) is =
-              subst (λ (o : Option Header). FitsLinks o (slice_index t.counts n) (slice_index t.below n)) (sym is)
-              ((links_of n hd low is (few_links n low is) hd.kind refl).1 (all n (as_header hd) (head_told m headers told n low is)))
+              rw is ((links_of n hd low is (few_links n low is) hd.kind refl).1 (all n (as_header hd) (head_told m headers told n low is)))

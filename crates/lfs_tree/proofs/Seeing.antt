@@ -45,96 +45,88 @@ sees_then {k} {m} sees looks =
     let same = sym looks.untouched.content in
     record {
       keeps = sees.keeps;
-      holds = subst (λ (x : Content). HoldsAt x k m) same sees.holds;
-      sized = subst (λ (x : Content). (at : ℕ) (bytes : List ℕ) → cell_at x at ≡ Some bytes → length bytes ≡ 512) same sees.sized;
+      holds = rw (← same) sees.holds;
+      sized = rw (← same) sees.sized;
     }
 
 pub leads_then : {a b : DeviceState} {k : CheckpointValue} {map : MapValue} → Leads a.content k map → Looks a b → Leads b.content k map
-leads_then {k} {map} leads looks = subst (λ (x : Content). Leads x k map) (sym looks.untouched.content) leads
+leads_then {k} {map} leads looks = rw looks.untouched.content leads
 
 pub inode_then : {a b : DeviceState} (k : CheckpointValue) (n : ℕ) {bytes : List ℕ}
     → bytes ≡ block a.content (address a.content k (Inode n)) → Looks a b → bytes ≡ block b.content (address b.content k (Inode n))
-inode_then k n is looks = is ∙ ap (λ (x : Content). block x (address x k (Inode n))) (sym looks.untouched.content)
+inode_then k n is looks = cc
 
 -- ---- what is there
 module _ {c : Content} {k : CheckpointValue} {m : LogMap}
     (sized : (at : ℕ) (bytes : List ℕ) → cell_at c at ≡ Some bytes → length bytes ≡ 512) (st : HoldsAt c k m) where
   pub is_long : (e : Entry) {at : ℕ} → at ≡ address c k e → 0 < at → 0 < length (block c at)
   is_long e is some =
-      let long = Decodes.long c k m sized st e (omega (arith, is, some)) in
       let same = ap (λ (x : ℕ). length (block c x)) is in
-      omega (arith, long, same)
+      omega (arith, Decodes.long c k m sized st e (omega arith))
 
   pub is_inside : (e : Entry) {at : ℕ} → at ≡ address c k e → 0 < at → at < length c
   is_inside e is some =
-      let within = reached_within (view c k) st.stages e (omega (arith, is, some)) in
-      let high = within.1 in
-      let size = st.size in
-      omega (arith, is, high, size)
+      let high = (reached_within (view c k) st.stages e (omega arith)).1 in
+      omega arith
 
   pub not_lost : (e : Entry) {at : ℕ} → at ≡ address c k e → IsLost c at → ⊥
   not_lost e {at} is lost =
       let some = lost.some in
-      let long = is_long e is some in
       let none = ap length (block_at c at some ∙ ap bytes_of lost.lost) in
-      omega (arith, long, none)
+      omega (arith, is_long e is some)
 
   pub inode_there : {n at : ℕ} {bytes : List ℕ} → at ≡ address c k (Inode n) → 0 < at → block c at ≡ bytes → IsInodeOf c k m n bytes
   inode_there {n} {bytes} is some own =
-      let same : bytes ≡ block c (address c k (Inode n)) = sym own ∙ ap (block c) is in
       record {
-        header = header_at c k m sized st n (omega (arith, is, some)) ∙ ap (λ (b : List ℕ). Some (header b)) (sym same);
-        block = same;
+        header = cc (header_at c k m sized st n (omega arith));
+        block = cc;
       }
 
   -- ---- blocks
-  leaf_is : (n q : ℕ) {bytes : List ℕ} → bytes ≡ block c (address c k (Inode n)) → leaf_in c bytes q ≡ address c k (Leaf n q)
-  unfolding address
-  leaf_is n zero is = ap (λ (b : List ℕ). word b 120) is
-  leaf_is n (suc q) is = ap (λ (b : List ℕ). word (block c (word b 121)) q) is
+  module _ (n : ℕ) {bytes : List ℕ} (is : bytes ≡ block c (address c k (Inode n))) where
+    leaf_is : (q : ℕ) → leaf_in c bytes q ≡ address c k (Leaf n q)
+    unfolding address
+    leaf_is zero = cc
+    leaf_is (suc q) = cc
 
-  double_is : (n : ℕ) {bytes : List ℕ} → bytes ≡ block c (address c k (Inode n)) → word bytes 121 ≡ address c k (Double n)
-  unfolding address
-  double_is n is = ap (λ (b : List ℕ). word b 121) is
+    double_is : word bytes 121 ≡ address c k (Double n)
+    unfolding address
+    double_is = cc
 
-  data_by : (n i : ℕ) {bytes : List ℕ} → bytes ≡ block c (address c k (Inode n)) → {leaf : ℕ}
-      → leaf ≡ address c k (Leaf n ((i - 112) / 128))
-      → cond (nat_lt i 112) (word bytes (8 + i)) (word (block c leaf) ((i - 112) % 128)) ≡ address c k (Data n i)
-  unfolding address
-  data_by n i is at =
-      ap₂ (λ (b : List ℕ) (x : ℕ). cond (nat_lt i 112) (word b (8 + i)) (word (block c x) ((i - 112) % 128))) is at
+    data_by : (i : ℕ) {leaf : ℕ} → leaf ≡ address c k (Leaf n ((i - 112) / 128))
+        → cond (nat_lt i 112) (word bytes (8 + i)) (word (block c leaf) ((i - 112) % 128)) ≡ address c k (Data n i)
+    unfolding address
+    data_by i at = cc
 
-  pub data_is : (n i : ℕ) {bytes : List ℕ} → bytes ≡ block c (address c k (Inode n)) → data_in c bytes i ≡ address c k (Data n i)
-  data_is n i {bytes} is = data_by n i is (leaf_is n ((i - 112) / 128) is)
+    pub data_is : (i : ℕ) → data_in c bytes i ≡ address c k (Data n i)
+    data_is i = data_by i (leaf_is ((i - 112) / 128))
 
-  pub data_not_lost : (n i : ℕ) {bytes : List ℕ} → bytes ≡ block c (address c k (Inode n)) → IsDataLost c bytes i → ⊥
-  data_not_lost n i {bytes} is lost = ⊎_elim
-      (λ (double : IsLeafLost c bytes ((i - 112) / 128)). not_lost (Double n) (double_is n is) double.1)
-      (λ (leaf : IsLost c (leaf_in c bytes ((i - 112) / 128))).
-      not_lost (Leaf n ((i - 112) / 128)) (leaf_is n ((i - 112) / 128) is) leaf) lost.1
+    pub data_not_lost : (i : ℕ) → IsDataLost c bytes i → ⊥
+    data_not_lost i lost = ⊎_elim
+        (λ (double : IsLeafLost c bytes ((i - 112) / 128)). not_lost (Double n) double_is double.1)
+        (λ (leaf : IsLost c (leaf_in c bytes ((i - 112) / 128))). not_lost (Leaf n ((i - 112) / 128)) (leaf_is ((i - 112) / 128)) leaf)
+        lost.1
 
   pub block_there : (n : ℕ) {i at : ℕ} {bytes : List ℕ} → at ≡ address c k (Data n i) → 0 < at → block c at ≡ bytes → HoldsBlock m n i bytes
   block_there n {i} {bytes} is some own =
-      let same : bytes ≡ block c (address c k (Data n i)) = sym own ∙ ap (block c) is in
       record {
-        long = ap length same ∙ Decodes.long c k m sized st (Data n i) (omega (arith, is, some));
-        bytes = λ p. ap (λ (b : List ℕ). slice_index b p) (same ∙ sym (st.block n i));
+        long = cc (Decodes.long c k m sized st (Data n i) (omega arith));
+        bytes = λ p. cc (st.block n i);
       }
 
   pub block_not : (n : ℕ) {i at : ℕ} (bytes : List ℕ) → at ≡ address c k (Data n i) → at ≡ 0 → bytes ≡ replicate 512 0
       → HoldsBlock m n i bytes
   block_not n {i} bytes is none zeros =
-      let gone : m.block n i ≡ [] = st.block n i ∙ ap (block c) (sym is ∙ none) in
+      let gone : m.block n i ≡ [] = cc (st.block n i) in
       record {
         long = ap length zeros ∙ (let nought : ℕ = 0 in length-replicate 512 nought);
-        bytes = λ p. ap (λ (b : List ℕ). slice_index b p) zeros ∙ get_or-zeros 512 p ∙ sym (ap (λ (b : List ℕ). slice_index b p) gone);
+        bytes = λ p. cc (get_or-zeros 512 p);
       }
 
 -- ---- headers by number
 pub told_next : (m : LogMap) (hs : List (Option Header)) (i : ℕ) (found : Option Header) → i < length hs → TellsHeaders m hs i
     → m.header i ≡ option_map as_header found → TellsHeaders m (set hs i found) (i + 1)
 told_next m hs i found inside was own n low = ⊎_elim
-    (λ (here : n ≡ i). ap m.header here ∙ own
-    ∙ ap (option_map as_header) (sym (ap (λ (x : ℕ). get_or (set hs i found) x None) here ∙ get_or-set_same hs i found None inside)))
-    (λ (other : n ≡ i → ⊥). was n (omega (arith, low, other)) ∙ ap (option_map as_header) (sym (get_or-set_other hs i n found None other)))
+    (λ (here : n ≡ i). cc (get_or-set_same hs i found None inside))
+    (λ (other : n ≡ i → ⊥). cc (was n (omega arith), get_or-set_other hs i n found None other))
     (cases_eq n i)

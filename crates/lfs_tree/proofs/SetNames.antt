@@ -22,11 +22,9 @@ module _ (set : BTreeSet (Vec ℕ Global)) (key : Vec ℕ Global) {name : List �
       elim (eq_by_cmp byte_cmp q.items name) as (λ b. eq_by_cmp byte_cmp q.items name ≡ b
       → tree.contains (λ (x y : Vec ℕ Global). slice_cmp nat_cmp x.items y.items) set' q
       ≡ is_some (cond b (Some v) (find byte_cmp q.items names))) [
-        | true ↦ λ e. up q ∙ ap (λ b. cond b true (tree.contains (λ (x y : Vec ℕ Global). slice_cmp nat_cmp x.items y.items) set q))
-            (ties (is ∙ sym (tied q.items name e)))
+        | true ↦ λ e. cc (up q, ties (is ∙ sym (tied q.items name e)))
         | false ↦ λ e.
             let other : key.items ≢ q.items =
-            λ same. (let yes = ties (sym same ∙ is) in let no : true ≡ false = sym yes ∙ e in absurd (cc)) in
-            up q ∙ ap (λ b. cond b true (tree.contains (λ (x y : Vec ℕ Global). slice_cmp nat_cmp x.items y.items) set q))
-            (apart key.items q.items other) ∙ had q
+            λ same. cc (ties (sym same ∙ is)) in
+            cc (up q, apart key.items q.items other, had q)
       ] refl ∙ sym (ap is_some (find-put byte_cmp nat_list_cmp_total q.items name v names))

@@ -33,47 +33,46 @@ module _ (m : LogMap) (are : AreHeaders m) (n : ℕ) where
   pub names_given : names (tree_in m) n ≡ given_below m 4096 n
   names_given =
       let w = λ (d : ℕ). giving (names_at m d) n in
-      let start : sum_below w 1 ≡ 0 = sum_more w 0 ∙ (let none = sum_none w in
-      let own = ap (λ (ms : Names). giving ms n) (no_names m are 0 (nobody m are)) in omega (arith, none, own)) in
+      let start : sum_below w 1 ≡ 0 = sum_more w 0 ∙ (let own = ap (λ (ms : Names). giving ms n) (no_names m are 0 (nobody m are)) in
+      omega (arith, sum_none w)) in
       tree_sum m (λ x. giving (names_of x) n) w (λ d. given_each d (node_of m d (m.header d))) (λ d. sum_below w (suc d)) start
       (λ d. sum_step w (suc d))
 
 -- what is given is found, and what is found is given
 pub given_found : (ms : Names) (n : ℕ) → T (is_sorted byte_cmp ms) → 0 < giving ms n → (name : List ℕ) × (find byte_cmp name ms ≡ Some n)
-given_found [] n order some = absurd (omega (arith, some))
+given_found [] n order some = absurd (omega arith)
 given_found (e ∷ ms) n order some = ⊎_elim
-    (λ (here : e.1 ≡ n). (e.0, find_first nat_list_cmp_total (λ x. 0) e ms ∙ ap Some here))
+    (λ (here : e.1 ≡ n). (e.0, cc (find_first nat_list_cmp_total (λ x. 0) e ms)))
     (λ (other : e.1 ≡ n → ⊥).
     let no_ : eqb e.1 n ≡ false = grind (arith, nat_tests) in
-    let first = sum_by-cons (λ (x : List ℕ × ℕ). cond {A = ℕ} (x.1 == n) 1 0) e ms in
     let own = ap {B = ℕ} (λ (b : Bool). cond b 1 0) no_ in
-    let rest = given_found ms n (T_right _ (is_sorted byte_cmp ms) order) (omega (arith, some, first, own)) in
+    let rest = given_found ms n (T_right _ (is_sorted byte_cmp ms) order)
+    (omega (arith, sum_by-cons (λ (x : List ℕ × ℕ). cond {A = ℕ} (x.1 == n) 1 0) e ms)) in
     (rest.0, find_after nat_list_cmp_total (λ x. 0) rest.0 e ms n order rest.1))
     (cases_eq e.1 n)
 
 pub found_given : (ms : Names) (name : List ℕ) (n : ℕ) → find byte_cmp name ms ≡ Some n → 0 < giving ms n
 found_given ms name n found =
-    let some = weight-le-total nat_list_cmp_total (λ v. cond {A = ℕ} (v == n) 1 0) name n ms found in
     let same : eqb n n ≡ true = grind (arith, nat_tests) in
     let one = ap {B = ℕ} (λ (b : Bool). cond b 1 0) same in
-    omega (arith, some, one)
+    omega (arith, weight-le-total nat_list_cmp_total (λ v. cond {A = ℕ} (v == n) 1 0) name n ms found)
 
 -- ---- two numbers that add to a sum
 sum_own : (f : ℕ → ℕ) (a n : ℕ) → a < n → f a ≤ sum_below f n
 unfolding sum_below
-sum_own f a zero low = absurd (omega (arith, low))
+sum_own f a zero low = absurd (omega arith)
 sum_own f a (suc n) low = ⊎_elim
-    (λ (here : a ≡ n). (let e = ap f here in omega (arith, e)))
-    (λ (other : a ≡ n → ⊥). (let rest = sum_own f a n (omega (arith, low, other)) in omega (arith, rest)))
+    (λ (here : a ≡ n). (omega (arith, ap f here)))
+    (λ (other : a ≡ n → ⊥). (omega (arith, sum_own f a n (omega arith))))
     (cases_eq a n)
 
 pub sum_both : (f : ℕ → ℕ) (a : ℕ) {b : ℕ} (n : ℕ) → a < n → b < n → (a ≡ b → ⊥) → f a + f b ≤ sum_below f n
 unfolding sum_below
-sum_both f a zero low high ne = absurd (omega (arith, low))
+sum_both f a zero low high ne = absurd (omega arith)
 sum_both f a {b} (suc n) low high ne = ⊎_elim
-    (λ (here : a ≡ n). (let e = ap f here in let rest = sum_own f b n (omega (arith, here, high, ne)) in omega (arith, e, rest)))
+    (λ (here : a ≡ n). (let rest = sum_own f b n (omega arith) in omega (arith, ap f here)))
     (λ (other : a ≡ n → ⊥). ⊎_elim
-    (λ (there : b ≡ n). (let e = ap f there in let rest = sum_own f a n (omega (arith, low, other)) in omega (arith, e, rest)))
+    (λ (there : b ≡ n). (let rest = sum_own f a n (omega arith) in omega (arith, ap f there)))
     (λ (apart : b ≡ n → ⊥).
-    (let rest = sum_both f a n (omega (arith, low, other)) (omega (arith, high, apart)) ne in omega (arith, rest))) (cases_eq b n))
+    (omega (arith, sum_both f a n (omega arith) (omega arith) ne))) (cases_eq b n))
     (cases_eq a n)

@@ -41,21 +41,17 @@ pub damage_of_tree : {v : View} {code : ℕ} → Stages v → IsTreeDamage v.che
     → (10 ≤ code) × (code ≤ 14) × IsDamaged v code
 unfolding stage
 damage_of_tree {v} s (slots_fail is fails) =
-    (omega (arith, is), omega (arith, is), subst (IsDamaged v) (sym is) (below_10 s, fails))
+    (omega arith, omega arith, rw is (below_10 s, fails))
 damage_of_tree {v} s (texts_fail is slots fails) =
-    (omega (arith, is), omega (arith, is), subst (IsDamaged v) (sym is) (below_next v 10 (below_10 s) slots, fails))
-damage_of_tree {v} s (reached_fail is slots texts fails) = ( omega (arith, is),
-  omega (arith, is),
-  subst (IsDamaged v) (sym is) (below_next v 11 (below_next v 10 (below_10 s) slots) texts, fails),
-)
-damage_of_tree {v} s (links_fail is slots texts reached fails) = ( omega (arith, is),
-  omega (arith, is),
-  subst (IsDamaged v) (sym is) (below_next v 12 (below_next v 11 (below_next v 10 (below_10 s) slots) texts) reached, fails),
-)
-damage_of_tree {v} s (room_fail is slots texts reached links fails) = ( omega (arith, is),
-  omega (arith, is),
-  subst (IsDamaged v) (sym is)
-      (below_next v 13 (below_next v 12 (below_next v 11 (below_next v 10 (below_10 s) slots) texts) reached) links, fails),
+    (omega arith, omega arith, rw is (below_next v 10 (below_10 s) slots, fails))
+damage_of_tree {v} s (reached_fail is slots texts fails) =
+    (omega arith, omega arith, rw is (below_next v 11 (below_next v 10 (below_10 s) slots) texts, fails))
+damage_of_tree {v} s (links_fail is slots texts reached fails) =
+    (omega arith, omega arith, rw is (below_next v 12 (below_next v 11 (below_next v 10 (below_10 s) slots) texts) reached, fails))
+damage_of_tree {v} s (room_fail is slots texts reached links fails) = (
+  omega arith,
+  omega arith,
+  rw is (below_next v 13 (below_next v 12 (below_next v 11 (below_next v 10 (below_10 s) slots) texts) reached) links, fails),
 )
 
 -- where the stages of the log and of its tree hold, too few clean segments are what is damaged
@@ -91,11 +87,10 @@ module _ (c : Content) (k : CheckpointValue) (m : LogMap) (sized : IsSized c) (s
   whole_slots : (h : Header) → is_size h.form h.kind h.size ≡ true → (k : Kind) → h.kind ≡ k → k ≡ kind.Directory
       → h.size % slot_len h.form ≡ 0
   unfolding is_size
-  whole_slots h size kind.File e dir = absurd (cc)
-  whole_slots h size kind.Link e dir = absurd (cc)
+  whole_slots h size kind.File e dir = cc
+  whole_slots h size kind.Link e dir = cc
   whole_slots h size kind.Directory e dir =
-      let own : is_size h.form kind.Directory h.size ≡ true = ap (λ (x : Kind). is_size h.form x h.size) (sym e) ∙ size in
-      eqb-true (h.size % slot_len h.form) 0 (and_parts (h.size % slot_len h.form == 0) (nat_le h.size (1024 * slot_len h.form)) own).0
+      eqb-true (h.size % slot_len h.form) 0 (and_parts (h.size % slot_len h.form == 0) (nat_le h.size (1024 * slot_len h.form)) cc).0
 
   directory : (n : ℕ) (h : Header) → m.header n ≡ Some h → h.kind ≡ kind.Directory → IsDirectory m n h
   directory n h at dir =
@@ -112,8 +107,7 @@ module _ (c : Content) (k : CheckpointValue) (m : LogMap) (sized : IsSized c) (s
       by false e = refl
       by true e =
           let at = map_is.within n i (ltb-true 0 (length (m.block n i)) e) in
-          let both : Some at.0 ≡ None = sym at.1 ∙ none in
-          absurd (cc)
+          cc
 
   stored_none : (n : ℕ) → m.header n ≡ None → length (stored_blocks m n) ≡ 0
   unfolding stored_below
@@ -138,6 +132,5 @@ module _ (c : Content) (k : CheckpointValue) (m : LogMap) (sized : IsSized c) (s
       sum_of data_of (data_of_file m) (λ n. data_each n (m.header n) refl) in
       let meta : meta_blocks (tree_in m) ≡ sum_upto (meta_of_file m) 4095 =
       sum_of meta_of (meta_of_file m) (λ n. meta_each n (m.header n) refl) in
-      let stored = counted.stored in
       let above = counted.above in
-      omega (arith, data_is, meta, stored, above)
+      omega arith

@@ -31,7 +31,7 @@ refused_log old new (fault.Damaged code) is = λ keeps. (is keeps).1
 module _ {a b d : DeviceState} (one : Looks a b) (two : Looks b d) {found : FoundLog}
     (holds : b.keeps_model → IsFound a.content found) where
   found_then : d.keeps_model → IsFound b.content found
-  found_then keeps = subst (λ (x : Content). IsFound x found) (sym one.untouched.content) (holds (two.carries.kept_before keeps))
+  found_then keeps = rw one.untouched.content (holds (two.carries.kept_before keeps))
 
   has_then : d.keeps_model → HoldsTables b.content found.tables
   has_then keeps = (found_then keeps).tables
@@ -41,7 +41,7 @@ module _ {a b d : DeviceState} (one : Looks a b) (two : Looks b d) {found : Foun
     pub tree_found : found.enough_clean ≡ true → d.keeps_model → HasTree a.content found.tables
     tree_found on keeps =
         let log = found_then keeps in
-        subst (λ (x : Content). HasTree x found.tables) one.untouched.content (record {
+        rw (← one.untouched.content) (record {
           tables = record { held = log.tables; stands = record { holds = log.tables.holds; clean = log.clean.0 on } };
           tree = tree keeps log.tables;
         })
@@ -51,21 +51,20 @@ module _ {a b d : DeviceState} (one : Looks a b) (two : Looks b d) {found : Foun
     few_clean off keeps =
         let log = found_then keeps in
         let has = log.tables in
-        let whole = subst (IsTree has.checkpoint.segments) (same_log has.holds) (tree keeps has).tree in
         subst (λ (x : Content). IsDamagedIn x 15) one.untouched.content (record {
           checkpoint = has.checkpoint;
           newest = has.newest;
           size = has.holds.size;
-          damaged = too_few_clean has.holds.stages whole
-              (λ clean. let bad : false ≡ true = sym off ∙ log.clean.1 clean in absurd (cc));
+          damaged = too_few_clean has.holds.stages (rw (same_log has.holds) at (tree keeps has).tree)
+              (λ clean. cc (log.clean.1 clean));
         })
 
   refused_by : (f : MountFault) → d.keeps_model → IsRefusedTree b d f → IsRefusedVolume a d f
   refused_by fault.NoMemory keeps is = tt
-  refused_by fault.Device keeps is = λ again. (let before = one.carries.failures in omega (arith, is, before))
+  refused_by fault.Device keeps is = λ again. (omega arith)
   refused_by fault.TooSmall keeps is = absurd is
   refused_by fault.NoCheckpoint keeps is = absurd is
-  refused_by (fault.Damaged code) keeps is = λ again. subst (λ (x : Content). IsDamagedIn x code) one.untouched.content is.2
+  refused_by (fault.Damaged code) keeps is = λ again. rw (← one.untouched.content) is.2
 
   pub refused_behind : (f : MountFault) → (d.keeps_model → HoldsTables b.content found.tables → IsRefusedTree b d f) → IsRefusedVolume a d f
   refused_behind fault.NoMemory told = tt
@@ -83,11 +82,10 @@ log_of c s is = record { checkpoint = is.checkpoint; newest = is.found; stands =
 
 undamaged : {c : Content} (code : ℕ) → IsDamagedIn c code → (s : State) → Stands c s → ⊥
 undamaged {c} code damage s is =
-    let both : Some damage.checkpoint ≡ Some is.checkpoint = sym damage.newest ∙ is.found in
     let same : damage.checkpoint ≡ is.checkpoint = cc in
-    let here = subst (λ (k : CheckpointValue). IsDamaged (view c k) code) same damage.damaged in
+    let here = rw same at damage.damaged in
     not_damaged (view c is.checkpoint) is.stands.holds.stages
-    (subst (IsTree is.checkpoint.segments) (same_log is.stands.holds) is.tree.tree) is.stands.clean code here
+    (rw (← same_log is.stands.holds) is.tree.tree) is.stands.clean code here
 
 pub fault_of_volume : {old : DeviceState} (new : DeviceState) → IsLawful old → (f : MountFault) → IsRefusedVolume old new f
     → (f ≡ fault.NoMemory → ⊥)

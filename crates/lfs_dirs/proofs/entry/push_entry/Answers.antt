@@ -9,7 +9,5 @@ use Rattle.lfs_dirs.proofs.entry.push_entry.Goals as goal
 pub returns : goal.returns
 returns c =
     let e : Entry = record { name = c.in_ok-name.name; number = c.args.number } in
-    let name = c.in_ok-name.ensures.items_if_clones_equal (λ x y same. same) in
     let came : c.push.new.self.items ≡ c.args.entries.now.items ++ e ∷ [] = c.in-Ok.ensures.items in
-    ap gathered came ∙ gathered_push c.args.entries.now.items e
-    ∙ ap (λ (x : List ℕ). put byte_cmp x c.args.number.value (gathered c.args.entries.now.items)) name
+    cc (gathered_push c.args.entries.now.items e, c.in_ok-name.ensures.items_if_clones_equal (λ x y same. same))

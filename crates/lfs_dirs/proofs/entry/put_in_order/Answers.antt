@@ -10,8 +10,7 @@ use Rattle.lfs_dirs.proofs.entry.put_in_order.Goals as goal
 pub returns : goal.returns
 returns c =
     let order = ranks_by nat_list_cmp_total (λ (e : Entry). e.name.items) in
-    let stable = c.sort_by.ensures.stable comes_before order (answers_always _ _ _ (λ f a r g k. search rules)) in
-    let sorted = c.in_ok-sort_by.ensures.sorted comes_before order (answers_always _ _ _ (λ f a r g k. search rules)) in
-    let once = dedup_same _ same_name _ (λ x y b f' x' y' k. search rules) _ _ c.dedup_by.ensures.filtered in
-    ordered c.reverse.new.self.items c.sort_by.new.self.items c.sort_by.ensures.permutation stable sorted once
-    ∙ ap (λ (l : List Entry). first_of_each (pairs l)) c.reverse.ensures.items
+    cc (ordered c.reverse.new.self.items c.sort_by.new.self.items c.sort_by.ensures.permutation
+    (c.sort_by.ensures.stable comes_before order (answers_always _ _ _ (λ f a r g k. search rules)))
+    (c.in_ok-sort_by.ensures.sorted comes_before order (answers_always _ _ _ (λ f a r g k. search rules)))
+    (dedup_same _ same_name _ (λ x y b f' x' y' k. search rules) _ _ c.dedup_by.ensures.filtered))

@@ -11,67 +11,39 @@ use Rattle.lfs_dirs.proofs.listing.inspect.Goals as goal
 
 pub loop-index-init : goal.loop-index-init
 loop-index-init g c =
-    let e = c.div_ceil-index.ensures in
     let slots = c.slots_of-slots.ensures in
-    let whole = c.slots_in_block-whole.ensures.value in
-    let up = blocks_up c.args.header.form c.slots_of-slots.result whole in
-    let times = ap (λ (i : ℕ). per_block c.args.header.form * i) e in (
-      omega (arith, times, up, slots),
+    let whole = c.slots_in_block-whole.ensures.value in (
+      omega (
+        arith,
+        ap (λ (i : ℕ). per_block c.args.header.form * i) c.div_ceil-index.ensures,
+        blocks_up c.args.header.form
+            c.slots_of-slots.result whole,
+      ),
       list_begins c.args.directory.value c.args.header (g.F.Files.state c.args.files.now) c.div_ceil-index.result
           c.new-entries.ensures.items (let past = blocks_past c.args.header.form c.div_ceil-index.result c.slots_of-slots.result
-          whole (omega (arith, e)) in omega (arith, past, slots)),
+          whole (omega arith) in omega arith),
     )
 
 pub loop-index-preserved : goal.loop-index-preserved
-loop-index-preserved g c =
-    let t = c.loop-index-test.true in
-    let u = c.loop-index.invariant.0 in
-    let m = c.min-count.ensures in
-    let slots = c.slots_of-slots.ensures in
-    let whole = c.slots_in_block-whole.ensures.value in
-    let first = ap (λ (w : ℕ). w * (c.loop-index.index - 1)) whole in
-    let low : per_block c.args.header.form * (c.loop-index.index - 1) < slot_count c.args.header =
-    let one = block_before c.args.header.form c.loop-index.index t in omega (arith, u, one) in
-    let is : c.min-count.result ≡ min (slot_count c.args.header - per_block c.args.header.form * (c.loop-index.index - 1))
-    (per_block c.args.header.form) = omega (arith, m, first, whole, slots) in (
-      omega (arith, low),
-      list_goes_on c.args.directory.value c.args.header (g.F.Files.state c.list_block.new.files)
-          (c.loop-index.index - 1) is low c.loop-index.invariant.1
-          c.list_block.new.entries.items (g.met.F.Files.lawful c.args.files.now) t refl c.list_block.ensures.reads
-          c.in_ok-list_block.ensures.done,
-    )
+loop-index-preserved g c = (
+  omega (arith, block_before c.args.header.form c.loop-index.index c.loop-index-test.true),
+  list_goes_on c.args.directory.value c.args.header (g.F.Files.state c.list_block.new.files) c.slots_of-slots.ensures
+      c.slots_in_block-whole.ensures.value c.min-count.ensures c.loop-index-test.true c.loop-index.invariant.0 c.loop-index.invariant.1
+      c.list_block.new.entries.items (g.met.F.Files.lawful c.args.files.now) c.list_block.ensures.reads c.in_ok-list_block.ensures.done,
+)
 
 pub returns-in_err-list_block-clause-failed : goal.returns-in_err-list_block-clause-failed
 returns-in_err-list_block-clause-failed g c =
     let p = err_from_is_err_and c.from_residual.result c.from_residual.ensures.1 in rw (p.1, p.2)
-    (λ other. let t = c.loop-index-test.true in
-    let u = c.loop-index.invariant.0 in
-    let m = c.min-count.ensures in
-    let slots = c.slots_of-slots.ensures in
-    let whole = c.slots_in_block-whole.ensures.value in
-    let first = ap (λ (w : ℕ). w * (c.loop-index.index - 1)) whole in
-    let low : per_block c.args.header.form * (c.loop-index.index - 1) < slot_count c.args.header =
-    let one = block_before c.args.header.form c.loop-index.index t in omega (arith, u, one) in
-    let is : c.min-count.result ≡ min (slot_count c.args.header - per_block c.args.header.form * (c.loop-index.index - 1))
-    (per_block c.args.header.form) = omega (arith, m, first, whole, slots) in
-    list_fails c.args.directory.value c.args.header (g.F.Files.state c.list_block.new.files)
-    (c.loop-index.index - 1) is low c.loop-index.invariant.1 (c.in_err-list_block.ensures.failed other))
+    (λ other. list_fails c.args.directory.value c.args.header (g.F.Files.state c.list_block.new.files) c.slots_of-slots.ensures
+    c.slots_in_block-whole.ensures.value c.min-count.ensures c.loop-index-test.true c.loop-index.invariant.0 c.loop-index.invariant.1
+    (c.in_err-list_block.ensures.failed other))
 
 pub returns-in_err-list_block-clause-malformed : goal.returns-in_err-list_block-clause-malformed
 returns-in_err-list_block-clause-malformed g c =
     let p = err_from_is_err_and c.from_residual.result c.from_residual.ensures.1 in rw (p.1, p.2)
-    (λ same. let t = c.loop-index-test.true in
-    let u = c.loop-index.invariant.0 in
-    let m = c.min-count.ensures in
-    let slots = c.slots_of-slots.ensures in
-    let whole = c.slots_in_block-whole.ensures.value in
-    let first = ap (λ (w : ℕ). w * (c.loop-index.index - 1)) whole in
-    let low : per_block c.args.header.form * (c.loop-index.index - 1) < slot_count c.args.header =
-    let one = block_before c.args.header.form c.loop-index.index t in omega (arith, u, one) in
-    let is : c.min-count.result ≡ min (slot_count c.args.header - per_block c.args.header.form * (c.loop-index.index - 1))
-    (per_block c.args.header.form) = omega (arith, m, first, whole, slots) in
-    slot_lacks c.args.directory.value c.args.header (g.F.Files.state c.list_block.new.files)
-    (c.loop-index.index - 1) is low c.loop-index.invariant.1
+    (λ same. slot_lacks c.args.directory.value c.args.header (g.F.Files.state c.list_block.new.files) c.slots_of-slots.ensures
+    c.slots_in_block-whole.ensures.value c.min-count.ensures c.loop-index-test.true c.loop-index.invariant.0 c.loop-index.invariant.1
     (c.in_err-list_block.ensures.malformed (other_result c.in_err-list_block.field-0.0 ListFault.NoSlot same)))
 
 pub returns-in_err-list_block-clause-device : goal.returns-in_err-list_block-clause-device
@@ -82,6 +54,5 @@ returns-in_err-list_block-clause-device g c =
 
 pub returns-in-Ok-clause-answer : goal.returns-in-Ok-clause-answer
 returns-in-Ok-clause-answer g c =
-    let t = c.loop-index-test.false in
     list_ends c.args.directory.value c.args.header c.put_in_order.new.entries.items
-    (omega (arith, t)) c.loop-index.invariant.1 c.in-Ok.ensures
+    (omega arith) c.loop-index.invariant.1 c.in-Ok.ensures

@@ -6,11 +6,11 @@ pub loop-place-init : goal.loop-place-init
 loop-place-init c = (omega arith, puts_none c.args.form c.args.block.now c.args.count c.args.entries.now.items)
 
 pub loop-place-preserved : goal.loop-place-preserved
-loop-place-preserved c =
-    let le = c.loop-place.invariant.0 in (
-      omega (arith, le),
-      puts_more c.args.form c.args.block.now c.args.count c.loop-place.place
-          (c.loop-place.place - 1) c.args.entries.now.items c.loop-place.entries.items c.put_slot.new.entries.items
-          c.loop-place-test.true le refl c.nth_slot.ensures.bytes c.loop-place.invariant.1 c.in_ok-put_slot.ensures.done
-          c.in_ok-put_slot.ensures.formed,
-    )
+loop-place-preserved c = (
+  omega arith,
+  puts_more c.args.form c.args.block.now c.args.count c.loop-place.place
+      (c.loop-place.place - 1) c.args.entries.now.items c.loop-place.entries.items c.put_slot.new.entries.items
+      c.loop-place-test.true c.loop-place.invariant.0 refl c.nth_slot.ensures.bytes c.loop-place.invariant.1
+      c.in_ok-put_slot.ensures.done
+      c.in_ok-put_slot.ensures.formed,
+)

@@ -38,19 +38,13 @@ returns-in_err-write_at-clause-failed g c =
 
 pub returns-clause-done : goal.returns-clause-done
 returns-clause-done g c is =
-    let slot : c.written.result.now ≡ slot_for c.args.header.form c.args.number.value c.args.name.now = c.written.ensures
-    ∙ c.encode_slot-slot.ensures.bytes ∙ ap (λ (n : ℕ). slot_for c.args.header.form n c.args.name.now) c.from.ensures in
-    let long : length c.written.result.now ≡ slot_len c.args.header.form = ap (λ (w : List ℕ). length w) c.written.ensures
-    ∙ c.encode_slot-slot.ensures.long in
+    let slot : c.written.result.now ≡ slot_for c.args.header.form c.args.number.value c.args.name.now = cc in
+    let long : length c.written.result.now ≡ slot_len c.args.header.form = cc in
     let found : FindsName (g.F.Files.state c.args.files.now) (g.F.Files.state c.search_from.new.files) c.args.directory.value c.args.header
     c.args.name.now c.in-Ok-Some.found = rw c.in-Ok-Some.field-0-is at c.in-Ok-Some.ensures.found in
-    let inside : c.in-Ok-Some.found.place < slot_count c.args.header = search rules in
     repoints c.in-Ok-Some.found (fits_slot c.args.header.form c.args.number.value c.args.number.some c.args.number.few c.requires.name)
-    (sym (ap length slot) ∙ long) inside c.search_from.ensures.searches.reads c.write_at.ensures.redrafts found
-    (subst (λ (w : List ℕ). Writes (g.F.Files.state c.search_from.new.files) (g.F.Files.state c.write_at.new.self) c.args.directory.value
-    c.args.header (slot_len c.args.header.form * c.in-Ok-Some.found.place) w) slot
-    (subst (λ (l : ℕ). Writes (g.F.Files.state c.search_from.new.files) (g.F.Files.state c.write_at.new.self) c.args.directory.value
-    c.args.header (l * c.in-Ok-Some.found.place) c.written.result.now) c.slot_len.ensures.value c.in_ok-write_at.ensures.done))
+    (cc) (search rules) c.search_from.ensures.searches.reads c.write_at.ensures.redrafts found
+    (rw (← slot) (rw (← c.slot_len.ensures.value) c.in_ok-write_at.ensures.done))
 
 pub returns-clause-counted : goal.returns-clause-counted
 returns-clause-counted g c is =
@@ -58,6 +52,5 @@ returns-clause-counted g c is =
 
 pub returns-clause-small : goal.returns-clause-small
 returns-clause-small g c is =
-    let long : length c.written.result.now ≡ slot_len c.args.header.form = ap (λ (w : List ℕ). length w) c.written.ensures
-    ∙ c.encode_slot-slot.ensures.long in
+    let long : length c.written.result.now ≡ slot_len c.args.header.form = cc in
     grows_behind 1 2 c.search_from.ensures.searches.reads (slot_grows long c.in_ok-write_at.ensures.done)

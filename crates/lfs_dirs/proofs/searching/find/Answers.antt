@@ -9,9 +9,7 @@ pub returns-in-Ok-Some-clause-slot : goal.returns-in-Ok-Some-clause-slot
 returns-in-Ok-Some-clause-slot g c =
     search_hits c.args.directory.value c.args.header c.args.name.now (g.F.Files.state c.search_nth.new.files)
     c.loop-index.invariant c.in-Ok-Some.found c.search_nth.ensures.searches.reads
-    (subst (λ (found : Option Found). FindsInNth (g.F.Files.state c.loop-index.files)
-    (g.F.Files.state c.search_nth.new.files) c.args.directory.value c.args.header c.loop-index.index c.args.name.now found)
-    c.in-Ok-Some.field-0-is c.in-Ok-Some.ensures.answer)
+    (rw c.in-Ok-Some.field-0-is at c.in-Ok-Some.ensures.answer)
 
 pub returns-in-Err-clause-failed : goal.returns-in-Err-clause-failed
 returns-in-Err-clause-failed g c =
@@ -22,17 +20,14 @@ pub loop-index-preserved : goal.loop-index-preserved
 loop-index-preserved g c =
     search_goes_on c.args.directory.value c.args.header c.args.name.now (g.F.Files.state c.search_nth.new.files)
     c.loop-index.invariant (g.met.F.Files.lawful c.args.files.now) c.search_nth.ensures.searches.reads
-    (subst (λ (found : Option Found). FindsInNth (g.F.Files.state c.loop-index.files)
-    (g.F.Files.state c.search_nth.new.files) c.args.directory.value c.args.header c.loop-index.index c.args.name.now found)
-    c.in-Ok-None.field-0-is c.in-Ok-None.ensures.answer)
+    (rw c.in-Ok-None.field-0-is at c.in-Ok-None.ensures.answer)
 
 pub returns-clause-slot : goal.returns-clause-slot
 returns-clause-slot g c =
-    let t = c.loop-index-test.false in
-    let e = c.div_ceil-index-end.ensures in
     search_ends c.args.directory.value c.args.header c.args.name.now
     (let past = blocks_past c.args.header.form c.loop-index.index c.slots_of-slots.result
-    c.slots_in_block-whole.ensures.value (omega (arith, t, e)) in let slots = c.slots_of-slots.ensures in omega (arith, past, slots))
+    c.slots_in_block-whole.ensures.value (omega arith) in
+    omega arith)
     c.loop-index.invariant
 
 pub returns-in-Ok-Some-clause-answer : goal.returns-in-Ok-Some-clause-answer

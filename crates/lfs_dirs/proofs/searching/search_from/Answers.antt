@@ -8,6 +8,4 @@ pub returns-in-Ok-Some-clause-found : goal.returns-in-Ok-Some-clause-found
 returns-in-Ok-Some-clause-found g c =
     names_near (g.F.Files.state c.args.files.now) (g.F.Files.state c.search_nth.new.files) c.args.directory.value c.args.header _
     c.args.name.now c.in-Ok-Some.found
-    (subst (λ (found : Option Found). FindsInNth (g.F.Files.state c.args.files.now)
-    (g.F.Files.state c.search_nth.new.files) c.args.directory.value c.args.header (c.args.place / c.slots_in_block.result) c.args.name.now
-    found) c.in-Ok-Some.field-0-is c.in-Ok-Some.ensures.answer)
+    (rw c.in-Ok-Some.field-0-is at c.in-Ok-Some.ensures.answer)

@@ -7,20 +7,17 @@ use Rattle.lfs_dirs.proofs.searching.search_slots.Goals as goal
 
 pub returns-then-has_name-clause-found : goal.returns-then-has_name-clause-found
 returns-then-has_name-clause-found c =
-    let there : slot_in c.args.form c.nth_slot-slot.result.now ≡ Some c.in-Some.view = sym c.decode.ensures.exact ∙ c.in-Some.is in
     let is : slot_in c.args.form (part (slot_len c.args.form * c.loop-place.place) (slot_len c.args.form) c.args.block.now)
-    ≡ Some c.in-Some.view = sym (ap (slot_in c.args.form) c.nth_slot-slot.ensures.bytes) ∙ there in
-    let same = (c.has_name.ensures c.args.form c.in-Some.view there).0 c.if-has_name.true in
+    ≡ Some c.in-Some.view = cc in
     scan_hit c.args.form c.args.block.now c.args.count c.args.name.now c.loop-place.place _ c.loop-place-test.true
-    c.loop-place.invariant is (sym same) c.number.ensures
+    c.loop-place.invariant is (sym ((c.has_name.ensures c.args.form c.in-Some.view cc).0 c.if-has_name.true)) c.number.ensures
 
 pub loop-place-preserved : goal.loop-place-preserved
 loop-place-preserved c =
     let other : (s : SlotValue) → slot_in c.args.form (part (slot_len c.args.form * c.loop-place.place)
     (slot_len c.args.form) c.args.block.now) ≡ Some s → c.args.name.now ≢ s.name = λ s is same. (
-    let yes = (c.has_name.ensures c.args.form s (ap (slot_in c.args.form) c.nth_slot-slot.ensures.bytes ∙ is)).1 (sym same) in
-    let no = c.if-has_name.false in
-    absurd (cc)) in
+    let yes = (c.has_name.ensures c.args.form s (cc)).1 (sym same) in
+    cc) in
     scan_miss c.args.form c.args.block.now c.args.count c.args.name.now c.loop-place.place c.loop-place-test.true c.loop-place.invariant
     other
 

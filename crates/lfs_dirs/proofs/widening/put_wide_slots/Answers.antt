@@ -6,18 +6,15 @@ pub loop-place-init : goal.loop-place-init
 loop-place-init c = (omega arith, wide_begins c.args.form c.args.block.now c.args.count c.args.slots.now.items)
 
 pub loop-place-preserved : goal.loop-place-preserved
-loop-place-preserved c =
-    let was = c.loop-place.invariant.0 in
-    let more = c.in_ok-put_wide_slot.ensures.long in
-    let low = c.loop-place-test.true in (
-      omega (arith, was, more, low),
-      wide_goes_on c.args.form c.args.block.now c.args.count c.put_wide_slot.new.slots.items
-          c.loop-place-test.true c.nth_slot.ensures.bytes c.loop-place.invariant.1 c.in_ok-put_wide_slot.ensures.done
-          c.in_ok-put_wide_slot.ensures.formed,
-    )
+loop-place-preserved c = (
+  omega (arith, c.loop-place.invariant.0, c.in_ok-put_wide_slot.ensures.long),
+  wide_goes_on c.args.form c.args.block.now c.args.count c.put_wide_slot.new.slots.items
+      c.loop-place-test.true c.nth_slot.ensures.bytes c.loop-place.invariant.1 c.in_ok-put_wide_slot.ensures.done
+      c.in_ok-put_wide_slot.ensures.formed,
+)
 
 pub returns-clause-long : goal.returns-clause-long
-returns-clause-long c = let was = c.loop-place.invariant.0 in let past = c.loop-place-test.false in omega (arith, was, past)
+returns-clause-long c = omega arith
 
 pub returns-clause-done : goal.returns-clause-done
 returns-clause-done c = wide_ends c.args.form c.args.block.now c.args.count c.loop-place-test.false c.loop-place.invariant.1

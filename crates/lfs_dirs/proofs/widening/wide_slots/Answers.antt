@@ -1,5 +1,5 @@
 use Rattle.std.proofs.lemmas.Result.{err_from_is_err_and}
-use Rattle.std.proofs.Common.{◌*◌, ◌<◌, refl, arith}
+use Rattle.std.proofs.Common.{◌*◌, ◌<◌, ◌≤◌, refl, arith, rules}
 use Rattle.lfs_dirs.specs.Directory.{per_block, slot_count}
 use Rattle.lfs_dirs.specs.Searching.{count_in_nth}
 use Rattle.lfs_dirs.proofs.Widenings.{widening_begins, widening_ends, widening_fails, widening_few, widening_goes_on, widening_long}
@@ -11,12 +11,10 @@ loop-index-init g c = widening_begins c.args.directory.value c.args.header c.new
 
 pub loop-index-preserved : goal.loop-index-preserved
 loop-index-preserved g c =
-    let t = c.loop-index-test.true in
-    let e = c.div_ceil-index-end.ensures in
-    let all = c.slots_of-all.ensures in
     let low : per_block c.args.header.form * c.loop-index.index < slot_count c.args.header =
     (let less = blocks_low c.args.header.form c.loop-index.index c.slots_of-all.result
-    c.slots_in_block-whole.ensures.value (omega (arith, t, e)) in omega (arith, less, all)) in
+    c.slots_in_block-whole.ensures.value (omega arith) in omega arith)
+    in
     widening_goes_on c.args.directory.value c.args.header (g.F.Files.state c.widen_nth.new.files)
     (count_in_nth c.args.header c.loop-index.index) refl low c.loop-index.invariant
     (g.met.F.Files.lawful c.args.files.now) c.widen_nth.ensures.gathers.reads c.in_ok-widen_nth.ensures.long c.in_ok-widen_nth.ensures.done
@@ -24,36 +22,21 @@ loop-index-preserved g c =
 pub returns-in_err-widen_nth-clause-failed : goal.returns-in_err-widen_nth-clause-failed
 returns-in_err-widen_nth-clause-failed g c =
     let p = err_from_is_err_and c.from_residual.result c.from_residual.ensures.1 in rw (p.1, p.2)
-    (λ other. let t = c.loop-index-test.true in
-    let e = c.div_ceil-index-end.ensures in
-    let all = c.slots_of-all.ensures in
-    let low : per_block c.args.header.form * c.loop-index.index < slot_count c.args.header =
+    (λ other. let low : per_block c.args.header.form * c.loop-index.index < slot_count c.args.header =
     (let less = blocks_low c.args.header.form c.loop-index.index c.slots_of-all.result
-    c.slots_in_block-whole.ensures.value (omega (arith, t, e)) in omega (arith, less, all)) in
+    c.slots_in_block-whole.ensures.value (omega arith) in omega arith)
+    in
     widening_fails c.args.directory.value c.args.header (g.F.Files.state c.widen_nth.new.files)
     (count_in_nth c.args.header c.loop-index.index) refl low c.loop-index.invariant (c.in_err-widen_nth.ensures.failed other))
 
-pub returns-clause-answer : goal.returns-clause-answer
-returns-clause-answer g c =
-    let t = c.loop-index-test.false in
-    let e = c.div_ceil-index-end.ensures in
-    widening_ends c.args.directory.value c.args.header (let past = blocks_past c.args.header.form c.loop-index.index c.slots_of-all.result
-    c.slots_in_block-whole.ensures.value (omega (arith, t, e)) in let all = c.slots_of-all.ensures in
-    omega (arith, past, all)) c.loop-index.invariant
-
-pub returns-clause-long : goal.returns-clause-long
-returns-clause-long g c =
-    let t = c.loop-index-test.false in
-    let e = c.div_ceil-index-end.ensures in
-    widening_long c.args.directory.value c.args.header (let past = blocks_past c.args.header.form c.loop-index.index c.slots_of-all.result
-    c.slots_in_block-whole.ensures.value (omega (arith, t, e)) in let all = c.slots_of-all.ensures in
-    omega (arith, past, all)) c.loop-index.invariant
-
-pub returns-clause-few : goal.returns-clause-few
-returns-clause-few g c =
-    let t = c.loop-index-test.false in
-    let e = c.div_ceil-index-end.ensures in
-    widening_few c.args.directory.value c.args.header c.requires.size
-    (let past = blocks_past c.args.header.form c.loop-index.index c.slots_of-all.result
-    c.slots_in_block-whole.ensures.value (omega (arith, t, e)) in let all = c.slots_of-all.ensures in
-    omega (arith, past, all)) c.loop-index.invariant
+pub returns : goal.returns
+returns g c =
+    let most = blocks_past c.args.header.form c.loop-index.index c.slots_of-all.result c.slots_in_block-whole.ensures.value (omega arith) in
+    let past : slot_count c.args.header ≤ per_block c.args.header.form * c.loop-index.index = omega arith in
+    record {
+      gathers = search rules;
+      long = widening_long c.args.directory.value c.args.header past c.loop-index.invariant;
+      few = widening_few c.args.directory.value c.args.header c.requires.size past c.loop-index.invariant;
+      answer = widening_ends c.args.directory.value c.args.header past c.loop-index.invariant;
+      failed = search rules;
+    }

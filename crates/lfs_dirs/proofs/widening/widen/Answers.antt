@@ -16,75 +16,49 @@ pub returns-in_err-reform-clause-redrafts : goal.returns-in_err-reform-clause-re
 returns-in_err-reform-clause-redrafts g c =
     redrafts_more (g.met.F.Files.lawful c.args.files.now) (redrafts_read c.wide_slots.ensures.gathers.reads) c.reform.ensures.redrafts
 
-pub returns-then-is_empty-clause-redrafts : goal.returns-then-is_empty-clause-redrafts
-returns-then-is_empty-clause-redrafts g c =
-    redrafts_more (g.met.F.Files.lawful c.args.files.now) (redrafts_read c.wide_slots.ensures.gathers.reads) c.reform.ensures.redrafts
-
 pub returns-in_err-write_at-clause-redrafts : goal.returns-in_err-write_at-clause-redrafts
 returns-in_err-write_at-clause-redrafts g c =
     redrafts_more (g.met.F.Files.lawful c.args.files.now) (redrafts_more (g.met.F.Files.lawful c.args.files.now)
     (redrafts_read c.wide_slots.ensures.gathers.reads) c.reform.ensures.redrafts) c.write_at.ensures.redrafts
 
-pub returns-clause-redrafts : goal.returns-clause-redrafts
-returns-clause-redrafts g c =
-    redrafts_more (g.met.F.Files.lawful c.args.files.now) (redrafts_more (g.met.F.Files.lawful c.args.files.now)
-    (redrafts_read c.wide_slots.ensures.gathers.reads) c.reform.ensures.redrafts) c.write_at.ensures.redrafts
-
-pub returns-then-is_empty-clause-done : goal.returns-then-is_empty-clause-done
-returns-then-is_empty-clause-done g c =
+pub returns-then-is_empty : goal.returns-then-is_empty
+returns-then-is_empty g c =
+    let reads = c.wide_slots.ensures.gathers.reads in
+    let told = c.in_ok-slots.ensures.answer in
     let long = c.in_ok-slots.ensures.long in
     let size : c.len-size.result ≡ slot_len 1 * slot_count c.args.header = search rules in
-    let reforms = subst (λ (n : ℕ). Reforms (g.F.Files.state c.wide_slots.new.files)
-    (g.F.Files.state c.reform.new.self) c.args.directory.value c.args.header 1 n) size c.in_ok-reform.ensures.done in
-    let none : length c.in_ok-slots.slots.items ≡ 0 = search rules in
-    widens_empty (g.F.Files.state c.args.files.now) (g.F.Files.state c.wide_slots.new.files)
-    (g.F.Files.state c.reform.new.self) c.args.directory.value c.args.header c.in_ok-slots.slots.items c.wide_slots.ensures.gathers.reads
-    c.in_ok-slots.ensures.answer long c.requires.size c.reform.ensures.redrafts reforms none
+    let reforms = rw size at c.in_ok-reform.ensures.done in
+    record {
+      redrafts = redrafts_more (g.met.F.Files.lawful c.args.files.now) (redrafts_read reads) c.reform.ensures.redrafts;
+      done = widens_empty reads told long c.requires.size c.reform.ensures.redrafts reforms (search rules);
+      counted = counts_empty reads told long c.requires.size c.reform.ensures.redrafts reforms c.in_ok-reform.ensures.counted;
+      failed = search rules;
+      halted = search rules;
+      other = search rules;
+    }
 
-pub returns-then-is_empty-clause-counted : goal.returns-then-is_empty-clause-counted
-returns-then-is_empty-clause-counted g c =
+pub returns : goal.returns
+returns g c =
+    let reads = c.wide_slots.ensures.gathers.reads in
+    let told = c.in_ok-slots.ensures.answer in
     let long = c.in_ok-slots.ensures.long in
     let size : c.len-size.result ≡ slot_len 1 * slot_count c.args.header = search rules in
-    let reforms = subst (λ (n : ℕ). Reforms (g.F.Files.state c.wide_slots.new.files)
-    (g.F.Files.state c.reform.new.self) c.args.directory.value c.args.header 1 n) size c.in_ok-reform.ensures.done in
-    counts_empty (g.F.Files.state c.args.files.now) (g.F.Files.state c.wide_slots.new.files)
-    (g.F.Files.state c.reform.new.self) c.args.directory.value c.args.header c.in_ok-slots.slots.items c.wide_slots.ensures.gathers.reads
-    c.in_ok-slots.ensures.answer long c.requires.size c.reform.ensures.redrafts reforms c.in_ok-reform.ensures.counted
-
-pub returns-clause-done : goal.returns-clause-done
-returns-clause-done g c =
-    let long = c.in_ok-slots.ensures.long in
-    let size : c.len-size.result ≡ slot_len 1 * slot_count c.args.header = search rules in
-    let reforms = subst (λ (n : ℕ). Reforms (g.F.Files.state c.wide_slots.new.files)
-    (g.F.Files.state c.reform.new.self) c.args.directory.value c.args.header 1 n) size c.in_ok-reform.ensures.done in
     let bytes : c.as_slice.result.now ≡ c.in_ok-slots.slots.items = search rules in
-    let sized = subst (λ (n : ℕ). Writes (g.F.Files.state c.reform.new.self) (g.F.Files.state c.write_at.new.self) c.args.directory.value
-    record { kind = c.args.header.kind; form = 1; links = c.args.header.links; size = n } 0 c.as_slice.result.now) size
-    c.in_ok-write_at.ensures.done in
-    let writes = subst (λ (w : List ℕ). Writes (g.F.Files.state c.reform.new.self)
-    (g.F.Files.state c.write_at.new.self) c.args.directory.value (wide c.args.header) 0 w) bytes sized in
-    widens_written (g.F.Files.state c.args.files.now) (g.F.Files.state c.wide_slots.new.files)
-    (g.F.Files.state c.reform.new.self) c.args.directory.value c.args.header c.in_ok-slots.slots.items c.wide_slots.ensures.gathers.reads
-    c.in_ok-slots.ensures.answer long c.requires.size c.reform.ensures.redrafts reforms
-    (g.F.Files.state c.write_at.new.self) c.write_at.ensures.redrafts writes
-    (λ lone. c.in_ok-write_at.ensures.asked (subst (λ (w : List ℕ). IsLoneWrite (g.F.Files.state c.reform.new.self) w) (sym bytes) lone))
-
-pub returns-clause-counted : goal.returns-clause-counted
-returns-clause-counted g c =
-    let long = c.in_ok-slots.ensures.long in
-    let size : c.len-size.result ≡ slot_len 1 * slot_count c.args.header = search rules in
-    let reforms = subst (λ (n : ℕ). Reforms (g.F.Files.state c.wide_slots.new.files)
-    (g.F.Files.state c.reform.new.self) c.args.directory.value c.args.header 1 n) size c.in_ok-reform.ensures.done in
-    let bytes : c.as_slice.result.now ≡ c.in_ok-slots.slots.items = search rules in
-    let sized = subst (λ (n : ℕ). Writes (g.F.Files.state c.reform.new.self) (g.F.Files.state c.write_at.new.self) c.args.directory.value
-    record { kind = c.args.header.kind; form = 1; links = c.args.header.links; size = n } 0 c.as_slice.result.now) size
-    c.in_ok-write_at.ensures.done in
-    let writes = subst (λ (w : List ℕ). Writes (g.F.Files.state c.reform.new.self)
-    (g.F.Files.state c.write_at.new.self) c.args.directory.value (wide c.args.header) 0 w) bytes sized in
-    counts_written (g.F.Files.state c.args.files.now) (g.F.Files.state c.wide_slots.new.files)
-    (g.F.Files.state c.reform.new.self) c.args.directory.value c.args.header c.in_ok-slots.slots.items c.wide_slots.ensures.gathers.reads
-    c.in_ok-slots.ensures.answer long c.requires.size c.reform.ensures.redrafts reforms
-    (g.F.Files.state c.write_at.new.self) c.write_at.ensures.redrafts writes c.in_ok-reform.ensures.counted c.in_ok-write_at.ensures.counted
+    let reforms = rw size at c.in_ok-reform.ensures.done in
+    let writes = rw bytes at (rw size at c.in_ok-write_at.ensures.done) in
+    let first = c.reform.ensures.redrafts in
+    let last = c.write_at.ensures.redrafts in
+    let lawful = g.met.F.Files.lawful c.args.files.now in
+    record {
+      redrafts = redrafts_more lawful (redrafts_more lawful (redrafts_read reads) first) last;
+      done = widens_written reads told long c.requires.size first reforms last writes
+          (λ lone. c.in_ok-write_at.ensures.asked (rw bytes lone));
+      counted = counts_written reads told long c.requires.size first reforms last writes c.in_ok-reform.ensures.counted
+          c.in_ok-write_at.ensures.counted;
+      failed = search rules;
+      halted = search rules;
+      other = search rules;
+    }
 
 pub returns-in_err-reform-clause-failed : goal.returns-in_err-reform-clause-failed
 returns-in_err-reform-clause-failed g c =
@@ -94,11 +68,7 @@ returns-in_err-reform-clause-failed g c =
 pub returns-in_err-write_at-clause-failed : goal.returns-in_err-write_at-clause-failed
 returns-in_err-write_at-clause-failed g c =
     let p = err_from_is_err_and c.from_residual-in_err-write_at.result c.from_residual-in_err-write_at.ensures.1 in rw (p.1, p.2)
-    (λ other. let long = c.in_ok-slots.ensures.long in
-    let size : c.len-size.result ≡ slot_len 1 * slot_count c.args.header = search rules in
-    let reforms = subst (λ (n : ℕ). Reforms (g.F.Files.state c.wide_slots.new.files)
-    (g.F.Files.state c.reform.new.self) c.args.directory.value c.args.header 1 n) size c.in_ok-reform.ensures.done in
-    fails_written (g.F.Files.state c.args.files.now) (g.F.Files.state c.wide_slots.new.files)
-    (g.F.Files.state c.reform.new.self) c.args.directory.value c.args.header c.in_ok-slots.slots.items c.wide_slots.ensures.gathers.reads
-    c.in_ok-slots.ensures.answer long c.requires.size c.reform.ensures.redrafts reforms
-    (g.F.Files.state c.write_at.new.self) (c.in_err-write_at.ensures.failed other))
+    (λ other. let size : c.len-size.result ≡ slot_len 1 * slot_count c.args.header = search rules in
+    let reforms = rw size at c.in_ok-reform.ensures.done in
+    fails_written c.wide_slots.ensures.gathers.reads c.in_ok-slots.ensures.answer c.in_ok-slots.ensures.long c.requires.size
+    c.reform.ensures.redrafts reforms (g.F.Files.state c.write_at.new.self) (c.in_err-write_at.ensures.failed other))

@@ -5,13 +5,12 @@ use Rattle.lfs_path.proofs.split.split_last.Goals as goal
 
 pub returns-then-is_none-clause-some : goal.returns-then-is_none-clause-some
 returns-then-is_none-clause-some c =
-    let none : is_none c.next_piece-in-Some.result ≡ true = search rules in
     splits_last c.loop-piece.invariant c.in-Some.ensures.piece
-    (no_piece c.next_piece-in-Some.result c.in-Some.after.now none c.next_piece-in-Some.ensures.none) refl refl
+    (no_piece c.next_piece-in-Some.result c.in-Some.after.now (search rules) c.next_piece-in-Some.ensures.none) refl refl
     (not_empty (length c.in-Some.after.now) c.is_empty.result c.is_empty.ensures)
 
 pub loop-piece-preserved : goal.loop-piece-preserved
 loop-piece-preserved c =
-    let some : is_none c.next_piece-in-Some.result ≡ false = search rules in
     splits_further c.loop-piece.invariant c.in-Some.ensures.piece
-    (some_piece (λ x. x.0.now) (λ x. x.1.now) c.next_piece-in-Some.result c.in-Some.after.now some c.next_piece-in-Some.ensures.piece)
+    (some_piece (λ x. x.0.now) (λ x. x.1.now) c.next_piece-in-Some.result c.in-Some.after.now (search rules)
+    c.next_piece-in-Some.ensures.piece)

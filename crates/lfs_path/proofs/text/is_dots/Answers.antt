@@ -8,7 +8,5 @@ use Rattle.lfs_path.proofs.text.is_dots.Goals as goal
 
 pub returns-else-eq : goal.returns-else-eq
 returns-else-eq c =
-    let no : same_name c.args.piece.now dot ≡ false = sym (same_is c.args.piece.now dot)
-    ∙ ap (λ y. pointwise nat_eq c.args.piece.now y) (sym c.as_slice.ensures) ∙ sym c.eq.ensures ∙ c.if-eq.false in
-    c.eq-else-eq.ensures ∙ ap (λ y. pointwise nat_eq c.args.piece.now y) c.as_slice-else-eq.ensures ∙ same_is c.args.piece.now dot_dot
-    ∙ ap (λ (b : Bool). b || same_name c.args.piece.now dot_dot) (sym no)
+    let no : same_name c.args.piece.now dot ≡ false = cc (same_is c.args.piece.now dot) in
+    cc (same_is c.args.piece.now dot_dot)

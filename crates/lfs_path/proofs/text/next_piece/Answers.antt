@@ -10,24 +10,21 @@ use Rattle.lfs_path.proofs.text.next_piece.Goals as goal
 pub returns-then-is_empty-clause-none : goal.returns-then-is_empty-clause-none
 returns-then-is_empty-clause-none c =
     let q : List ℕ = take (length c.args.path.now - c.leading_slashes.result) (drop c.leading_slashes.result c.args.path.now) in
-    let none : length q ≡ 0 = search rules in
-    no_piece c.args.path.now q [] [] c.leading_slashes.result c.leading_slashes.ensures.count refl none
+    no_piece c.args.path.now q [] [] c.leading_slashes.result c.leading_slashes.ensures.count refl (search rules)
 
 pub returns-clause-piece : goal.returns-clause-piece
 returns-clause-piece c =
     let q : List ℕ = take (length c.args.path.now - c.leading_slashes.result) (drop c.leading_slashes.result c.args.path.now) in
-    let some : 0 < length q = search rules in
     next_is c.args.path.now q c.split_at.result.0.now c.split_at.result.1.now c.leading_slashes.result c.leading_slashes.ensures.count refl
-    some
-    (c.split_at.ensures.front ∙ ap (λ (n : ℕ). take n q) c.piece_length.ensures.count) (c.split_at.ensures.back
-    ∙ ap (λ (n : ℕ). drop n q) c.piece_length.ensures.count)
+    (search rules)
+    (cc) (cc)
 
 -- what a filter leaves first passes
 first_passes : (p : List ℕ → Bool) (xs : List (List ℕ)) {y : List ℕ} {ys : List (List ℕ)} → filter p xs ≡ y ∷ ys → p y ≡ true
-first_passes p [] e = absurd (cc)
+first_passes p [] e = cc
 first_passes p (x ∷ xs) {y} {ys} e =
     elim (p x) as (λ b. p x ≡ b → (if b then x ∷ filter p xs else filter p xs) ≡ y ∷ ys → p y ≡ true) [
-      | true ↦ λ is eq. (let same : x ≡ y = cc in ap p (sym same) ∙ is)
+      | true ↦ λ is eq. (ap p (sym cc) ∙ is)
       | false ↦ λ is eq. first_passes p xs eq
     ] refl e
 
@@ -37,14 +34,7 @@ some_bytes n e = grind (arith, nat_tests)
 pub returns-clause-within : goal.returns-clause-within
 returns-clause-within c =
     let q : List ℕ = take (length c.args.path.now - c.leading_slashes.result) (drop c.leading_slashes.result c.args.path.now) in
-    let is = returns-clause-piece c in
     let first = some_bytes (length c.split_at.result.0.now) (first_passes (λ piece. nat_lt 0 (length piece))
-    (parts c.args.path.now) is.pieces) in
-    let front = ap length c.split_at.ensures.front in
-    let back = ap length c.split_at.ensures.back in
-    let few = c.piece_length.ensures.few in
-    let take_long = length-take-le c.piece_length.result q few in
-    let drop_long = length-drop c.piece_length.result q in
-    let q_long = length-take-le (length c.args.path.now - c.leading_slashes.result) (drop c.leading_slashes.result c.args.path.now)
-    (let l = length-drop c.leading_slashes.result c.args.path.now in omega (arith, l)) in
-    (first, omega (arith, front, back, few, take_long, drop_long, q_long))
+    (parts c.args.path.now) (returns-clause-piece c).pieces) in
+    let take_long = length-take-le c.piece_length.result q c.piece_length.ensures.few in
+    (first, omega (arith, ap length c.split_at.ensures.front))

@@ -6,11 +6,11 @@ pub returns-then-links-eq-MOST_FOLLOWED-clause-refused : goal.returns-then-links
 returns-then-links-eq-MOST_FOLLOWED-clause-refused g c =
     walk_loops c.args.slash_end c.args.follow c.args.path.now c.walk_text.new.chain c.loop-chain.invariant c.walk_text.ensures.walks.reads
     c.in-Ok-Followed.link c.in-Ok-Followed.rest c.as_slice.ensures.value (rw c.in-Ok-Followed.field-0-is at c.in-Ok-Followed.ensures.answer)
-    (let t = c.if-links-eq-MOST_FOLLOWED.true in omega (arith, t))
+    (omega arith)
 
 pub loop-chain-preserved : goal.loop-chain-preserved
 loop-chain-preserved g c =
     walk_goes_on c.args.slash_end c.args.follow c.args.path.now c.walk_text.new.chain c.loop-chain.invariant c.walk_text.ensures.walks.reads
     c.in-Ok-Followed.link c.in-Ok-Followed.rest c.as_slice.ensures.value (rw c.in-Ok-Followed.field-0-is at c.in-Ok-Followed.ensures.answer)
     c.follow_link.ensures.walks.reads (g.met.F.Files.lawful c.args.files.now)
-    (let t = c.if-links-eq-MOST_FOLLOWED.false in let few = c.loop-chain.invariant.few in omega (arith, t, few)) c.in_ok-text.ensures.answer
+    (omega arith) c.in_ok-text.ensures.answer

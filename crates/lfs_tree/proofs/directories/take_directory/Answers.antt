@@ -8,35 +8,26 @@ use Rattle.lfs_tree.proofs.directories.take_directory.Goals as goal
 
 pub returns-in-Ok-false-clause-failed : goal.returns-in-Ok-false-clause-failed
 returns-in-Ok-false-clause-failed g c same k m sees leads there =
-    let old = g.D.SectorDevice.state c.args.device.now in
-    let none = subst (λ (b : Bool). InodeAnswer old.content k m c.args.directory.value c.read_inode.new.out b) c.in-Ok-false.field-0-test
-    (c.in-Ok-false.ensures.answer k m sees leads) in
-    let both : Some (as_header c.args.header) ≡ None = sym there ∙ none in
-    absurd (cc)
+    let both : Some (as_header c.args.header) ≡ None = sym there
+    ∙ (rw c.in-Ok-false.field-0-test at (c.in-Ok-false.ensures.answer k m sees leads)) in
+    cc
 
 pub returns-in-Err-clause-failed : goal.returns-in-Err-clause-failed
 returns-in-Err-clause-failed g c same k m sees leads there = c.in-Err.ensures.failed k m sees leads
 
 pub returns-clause-takes : goal.returns-clause-takes
 returns-clause-takes g c = IfOk-weaker c.take_blocks.result _ _ (λ taken takes k m sees leads base was.
-    let old = g.D.SectorDevice.state c.args.device.now in
-    let mid = g.D.SectorDevice.state c.read_inode.new.device in
-    let new = g.D.SectorDevice.state c.take_blocks.new.device in
     let looks = c.read_inode.ensures.keeps.looks in
-    let own = subst (λ (b : Bool). InodeAnswer old.content k m c.args.directory.value c.read_inode.new.out b) c.in-Ok-true.field-0-test
-    (c.in-Ok-true.ensures.answer k m (sees_first sees c.take_blocks.ensures.keeps.looks) leads) in
-    takes k m (sees_then sees looks) (inode_then k c.args.directory.value own.block looks) base
+    takes k m (sees_then sees looks) (inode_then k c.args.directory.value
+    (rw c.in-Ok-true.field-0-test at (c.in-Ok-true.ensures.answer k m (sees_first sees c.take_blocks.ensures.keeps.looks) leads)).block
+    looks) base
     (nothing_taken c.args.header.form c.new-names.result (names_none c.new-names.result c.new-names.ensures.empty) was))
     c.take_blocks.ensures.takes
 
 pub returns-clause-failed : goal.returns-clause-failed
 returns-clause-failed g c same k m sees leads there =
-    let old = g.D.SectorDevice.state c.args.device.now in
-    let mid = g.D.SectorDevice.state c.read_inode.new.device in
-    let new = g.D.SectorDevice.state c.take_blocks.new.device in
     let looks = c.read_inode.ensures.keeps.looks in
-    let own = subst (λ (b : Bool). InodeAnswer old.content k m c.args.directory.value c.read_inode.new.out b) c.in-Ok-true.field-0-test
-    (c.in-Ok-true.ensures.answer k m (sees_first sees c.take_blocks.ensures.keeps.looks) leads) in
-    let rose = c.take_blocks.ensures.failed same k m (sees_then sees looks) (inode_then k c.args.directory.value own.block looks) in
-    let earlier = looks.carries.failures in
-    omega (arith, rose, earlier)
+    let rose = c.take_blocks.ensures.failed same k m (sees_then sees looks)
+    (inode_then k c.args.directory.value (rw c.in-Ok-true.field-0-test at (c.in-Ok-true.ensures.answer k m
+    (sees_first sees c.take_blocks.ensures.keeps.looks) leads)).block looks) in
+    omega arith

@@ -5,9 +5,9 @@ use Rattle.lfs_tree.proofs.reached.climb_directory.Goals as goal
 pub returns-then-not-leads : goal.returns-then-not-leads
 returns-then-not-leads c was =
     directory_passed c.args.headers.now c.args.tables.now.up c.args.marks.now c.args.number.value
-    (sym c.leads.ensures ∙ c.if-not-leads.true) was
+    (cc) was
 
 pub returns : goal.returns
 returns c was =
     directory_climbs c.args.headers.now c.args.tables.now.up c.climb.new.marks c.args.number.value
-    (sym c.leads.ensures ∙ c.if-not-leads.false) c.climb.result (c.climb.ensures was)
+    (cc) c.climb.result (c.climb.ensures was)

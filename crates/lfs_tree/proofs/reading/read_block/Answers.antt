@@ -8,43 +8,34 @@ use Rattle.lfs_tree.proofs.reading.read_block.Goals as goal
 
 pub returns-in-Err-Unreadable-clause-failed : goal.returns-in-Err-Unreadable-clause-failed
 returns-in-Err-Unreadable-clause-failed g c k m n sees is =
-    let old = g.D.SectorDevice.state c.args.device.now in
-    absurd (data_not_lost sees.sized sees.holds n c.args.index is
-    (c.in-Err-Unreadable.ensures.unreadable (ap Err c.in-Err-Unreadable.field-0-is) sees.keeps))
+    absurd (data_not_lost sees.sized sees.holds n is c.args.index (c.in-Err-Unreadable.ensures.unreadable (cc) sees.keeps))
 
 pub returns-then-address-eq0-clause-answer : goal.returns-then-address-eq0-clause-answer
 returns-then-address-eq0-clause-answer g c k m n sees is =
-    let old = g.D.SectorDevice.state c.args.device.now in
-    block_not sees.sized sees.holds n _ (c.in-Ok.ensures.value sees.keeps ∙ data_is sees.sized sees.holds n c.args.index is)
+    block_not sees.sized sees.holds n _ (c.in-Ok.ensures.value sees.keeps ∙ data_is sees.sized sees.holds n is c.args.index)
     c.if-address-eq0.true refl
 
 pub returns-clause-answer : goal.returns-clause-answer
 returns-clause-answer g c = on_ok_weaker c.read_sector.result (λ read k m n sees is.
-    let old = g.D.SectorDevice.state c.args.device.now in
-    let mid = g.D.SectorDevice.state c.locate.new.device in
-    let new = g.D.SectorDevice.state c.read_sector.new.device in
     let looks = looks_call (g.met.D.SectorDevice.lawful c.args.device.now) c.locate.ensures.follows.looks.carries
     c.locate.ensures.follows.looks.untouched
     c.locate.ensures.follows.looks.time in
-    let before = sees_first sees c.read_sector.ensures.keeps.looks in
     let some = c.if-address-eq0.false in
-    block_there sees.sized sees.holds n (c.in-Ok.ensures.value before.keeps ∙ data_is sees.sized sees.holds n c.args.index is)
-    (omega (arith, some)) (read old.content (reads_then (reads_of sees) looks))) c.read_sector.ensures.block
+    block_there sees.sized sees.holds n (c.in-Ok.ensures.value (sees_first sees c.read_sector.ensures.keeps.looks).keeps
+    ∙ data_is sees.sized sees.holds n is c.args.index)
+    (omega arith) (read (g.D.SectorDevice.state c.args.device.now).content (reads_then (reads_of sees) looks)))
+    c.read_sector.ensures.block
 
 pub returns-clause-failed : goal.returns-clause-failed
 returns-clause-failed g c = on_err_weaker c.read_sector.result (λ fails k m n sees is.
-    let old = g.D.SectorDevice.state c.args.device.now in
-    let mid = g.D.SectorDevice.state c.locate.new.device in
-    let new = g.D.SectorDevice.state c.read_sector.new.device in
     let looks = looks_call (g.met.D.SectorDevice.lawful c.args.device.now) c.locate.ensures.follows.looks.carries
     c.locate.ensures.follows.looks.untouched
     c.locate.ensures.follows.looks.time in
-    let before = sees_first sees c.read_sector.ensures.keeps.looks in
     let some = c.if-address-eq0.false in
-    let at = c.in-Ok.ensures.value before.keeps ∙ data_is sees.sized sees.holds n c.args.index is in
-    let rose = fails old.content (reads_then (reads_of sees) looks)
-    (is_inside sees.sized sees.holds (Data n c.args.index) at (omega (arith, some)))
-    (is_long sees.sized sees.holds (Data n c.args.index) at (omega (arith, some))) in
-    let earlier = looks.carries.failures in
-    omega (arith, rose, earlier))
+    let at = c.in-Ok.ensures.value (sees_first sees c.read_sector.ensures.keeps.looks).keeps
+    ∙ data_is sees.sized sees.holds n is c.args.index in
+    let rose = fails (g.D.SectorDevice.state c.args.device.now).content (reads_then (reads_of sees) looks)
+    (is_inside sees.sized sees.holds (Data n c.args.index) at (omega arith))
+    (is_long sees.sized sees.holds (Data n c.args.index) at (omega arith)) in
+    omega arith)
     c.read_sector.ensures.failed

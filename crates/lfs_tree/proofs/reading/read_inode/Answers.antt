@@ -6,18 +6,12 @@ use Rattle.lfs_tree.proofs.reading.read_inode.Goals as goal
 
 pub returns-clause-answer : goal.returns-clause-answer
 returns-clause-answer g c k m sees leads =
-    let old = g.D.SectorDevice.state c.args.device.now in
-    let new = g.D.SectorDevice.state c.read_sector.new.device in
-    let some = c.if-address-eq0.false in
-    inode_there sees.sized sees.holds (c.address-address.ensures ∙ leads.each c.args.number c.requires) (omega (arith, some))
-    (c.in_ok-read_sector.ensures.block old.content (reads_of sees))
+    inode_there sees.sized sees.holds (cc (leads.each c.args.number c.requires)) (omega arith)
+    (c.in_ok-read_sector.ensures.block (g.D.SectorDevice.state c.args.device.now).content (reads_of sees))
 
 pub returns-in_err-read_sector-clause-failed : goal.returns-in_err-read_sector-clause-failed
 returns-in_err-read_sector-clause-failed g c = any_error c.from_residual.result _ (λ k m sees leads.
-    let old = g.D.SectorDevice.state c.args.device.now in
-    let new = g.D.SectorDevice.state c.read_sector.new.device in
-    let some = c.if-address-eq0.false in
     let is = c.address-address.ensures ∙ leads.each c.args.number c.requires in
-    c.in_err-read_sector.ensures.failed old.content (reads_of sees)
-    (is_inside sees.sized sees.holds (Inode c.args.number) is (omega (arith, some)))
-    (is_long sees.sized sees.holds (Inode c.args.number) is (omega (arith, some))))
+    c.in_err-read_sector.ensures.failed (g.D.SectorDevice.state c.args.device.now).content (reads_of sees)
+    (is_inside sees.sized sees.holds (Inode c.args.number) is (omega arith))
+    (is_long sees.sized sees.holds (Inode c.args.number) is (omega arith)))

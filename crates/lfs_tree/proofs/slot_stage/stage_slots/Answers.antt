@@ -15,61 +15,44 @@ loop-number-init g c = record {
   named = λ k m sees leads told empty.
       let are = held_headers sees.holds in
       let none = nobody m are in
-      named_first m c.args.headers.now empty (λ h at dir. (let both : None ≡ Some h = sym none ∙ at in absurd (cc)))
+      named_first m c.args.headers.now empty (λ h at dir. (cc))
       (no_names m are 0 none);
 }
 
 pub loop-number-preserved : goal.loop-number-preserved
 loop-number-preserved g c =
-    let old = g.D.SectorDevice.state c.args.device.now in
-    let mid = g.D.SectorDevice.state c.loop-number.device in
-    let new = g.D.SectorDevice.state c.take_object.new.device in
     let here = c.loop-number.invariant in
-    let number = c.loop-number.number in
     let headers = c.args.headers.now in
     record {
       looks = looks_then here.looks c.in_ok-take_object.ensures.keeps.looks;
       no_failure = c.in_ok-take_object.ensures.keeps.no_failure ∙ here.no_failure;
       named = λ k m sees leads told empty.
           let was = here.named k m (sees_first sees c.in_ok-take_object.ensures.keeps.looks) leads told empty in
-          let base = base_at m headers c.loop-number.tables number in
           let taken = c.in_ok-take_object.ensures.takes k m (sees_then sees here.looks)
-          (leads_then leads here.looks) told base (noted_begin m headers was) in
-          let both = subst (TakesObject m headers number base c.take_object.new.tables) c.if-not-branch.false taken in
+          (leads_then leads here.looks) told (base_at m headers c.loop-number.tables c.loop-number.number) (noted_begin m headers was) in
+          let both = rw c.if-not-branch.false at taken in
           named_more m headers was both.0 both.1;
     }
 
 pub returns-then-not-branch-clause-holds : goal.returns-then-not-branch-clause-holds
 returns-then-not-branch-clause-holds g c k m sees leads told empty =
-    let old = g.D.SectorDevice.state c.args.device.now in
-    let mid = g.D.SectorDevice.state c.loop-number.device in
-    let new = g.D.SectorDevice.state c.take_object.new.device in
     let here = c.loop-number.invariant in
     let number = c.loop-number.number in
     let headers = c.args.headers.now in
-    let was = here.named k m (sees_first sees c.in_ok-take_object.ensures.keeps.looks) leads told empty in
-    let base = base_at m headers c.loop-number.tables number in
     let taken = c.in_ok-take_object.ensures.takes k m (sees_then sees here.looks)
-    (leads_then leads here.looks) told base (noted_begin m headers was) in
-    let bad = subst (TakesObject m headers number base c.take_object.new.tables) c.if-not-branch.true taken in
-    λ stage. bad (good_if_stage m (held_headers sees.holds) headers told stage number)
+    (leads_then leads here.looks) told (base_at m headers c.loop-number.tables number) (noted_begin m headers
+    (here.named k m (sees_first sees c.in_ok-take_object.ensures.keeps.looks) leads told empty)) in
+    λ stage. (rw c.if-not-branch.true at taken) (good_if_stage m (held_headers sees.holds) headers told stage number)
 
 pub returns-in_err-take_object-clause-failed : goal.returns-in_err-take_object-clause-failed
 returns-in_err-take_object-clause-failed g c same k m sees leads told =
-    let old = g.D.SectorDevice.state c.args.device.now in
-    let mid = g.D.SectorDevice.state c.loop-number.device in
-    let new = g.D.SectorDevice.state c.take_object.new.device in
     let looks = c.loop-number.invariant.looks in
     let rose = c.in_err-take_object.ensures.failed (ap Err (passed_on c.in_err-take_object.field-0.0 _ c.from_residual.ensures same)) k m
     (sees_then sees looks) (leads_then leads looks) told in
-    let earlier = looks.carries.failures in
-    omega (arith, rose, earlier)
+    omega arith
 
 pub returns-clause-holds : goal.returns-clause-holds
 returns-clause-holds g c k m sees leads told empty =
-    let old = g.D.SectorDevice.state c.args.device.now in
-    let ended = c.loop-number-test.false in
-    let high = c.loop-number.auto.number-end in
-    let last : c.loop-number.number ≡ 4096 = omega (arith, ended, high) in
-    let named = subst (AreNamed m c.args.headers.now c.loop-number.tables) last (c.loop-number.invariant.named k m sees leads told empty) in
+    let last : c.loop-number.number ≡ 4096 = omega arith in
+    let named = rw last at (c.loop-number.invariant.named k m sees leads told empty) in
     (stage_if_good m (held_headers sees.holds) c.args.headers.now told named.good, named)

@@ -5,23 +5,18 @@ use Rattle.lfs_tree.proofs.slot_stage.take_object.Goals as goal
 
 pub returns-then-not-is_directory-clause-takes : goal.returns-then-not-is_directory-clause-takes
 returns-then-not-is_directory-clause-takes g c k m sees leads told base was =
-    let old = g.D.SectorDevice.state c.args.device.now in
-    let few = c.args.number.few in
     object_other m (held_headers sees.holds) c.args.headers.now told c.args.number.value
-    (omega (arith, few)) base c.args.tables.now (sym c.get.ensures ∙ c.in-Some.is)
-    (sym c.is_directory.ensures ∙ c.if-not-is_directory.true) was
+    (omega arith) base c.args.tables.now (sym c.get.ensures ∙ c.in-Some.is)
+    (cc) was
 
 pub returns-clause-takes : goal.returns-clause-takes
 returns-clause-takes g c = IfOk-weaker c.take_directory.result _ _ (λ taken takes k m sees leads told base was.
-    let old = g.D.SectorDevice.state c.args.device.now in
-    let few = c.args.number.few in
     object_directory m (held_headers sees.holds) c.args.headers.now told c.args.number.value
-    (omega (arith, few)) base c.take_directory.new.tables (sym c.get.ensures ∙ c.in-Some.is) taken
-    (sym c.is_directory.ensures ∙ c.if-not-is_directory.false) (takes k m sees leads base was))
+    (omega arith) base c.take_directory.new.tables (cc) taken
+    (cc) (takes k m sees leads base was))
     c.take_directory.ensures.takes
 
 pub returns-clause-failed : goal.returns-clause-failed
 returns-clause-failed g c same k m sees leads told =
-    let few = c.args.number.few in
     c.take_directory.ensures.failed same k m sees leads
-    (head_told m c.args.headers.now told c.args.number.value (omega (arith, few)) (sym c.get.ensures ∙ c.in-Some.is))
+    (head_told m c.args.headers.now told c.args.number.value (omega arith) (cc))

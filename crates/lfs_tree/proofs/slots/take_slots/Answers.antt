@@ -16,18 +16,15 @@ returns-then-not-branch c =
     slots_fail c.args.form c.args.headers.now c.args.directory.value c.args.block.now c.args.count c.args.names.now c.args.tables.now
     c.loop-place.place (c.loop-place.place - 1) c.loop-place-test.true c.loop-place.invariant.low refl c.nth_slot.ensures.bytes
     c.loop-place.names c.take_slot.new.names c.loop-place.tables c.take_slot.new.tables c.loop-place.invariant.takes
-    (subst (TakesSlots c.args.form c.args.headers.now c.args.directory.value (c.nth_slot.result.now ∷ []) c.loop-place.names
-    c.take_slot.new.names c.loop-place.tables c.take_slot.new.tables) c.if-not-branch.true c.in_ok-take_slot.ensures)
+    (rw c.if-not-branch.true at c.in_ok-take_slot.ensures)
 
 pub loop-place-preserved : goal.loop-place-preserved
 loop-place-preserved c =
-    let le = c.loop-place.invariant.low in
     record {
-      low = omega (arith, le);
+      low = omega arith;
       takes =
           slots_go_on c.args.form c.args.headers.now c.args.directory.value c.args.block.now c.args.count c.args.names.now c.args.tables.now
           c.loop-place.place (c.loop-place.place - 1) c.loop-place-test.true c.loop-place.invariant.low refl c.nth_slot.ensures.bytes
           c.loop-place.names c.take_slot.new.names c.loop-place.tables c.take_slot.new.tables c.loop-place.invariant.takes
-          (subst (TakesSlots c.args.form c.args.headers.now c.args.directory.value (c.nth_slot.result.now ∷ []) c.loop-place.names
-          c.take_slot.new.names c.loop-place.tables c.take_slot.new.tables) c.if-not-branch.false c.in_ok-take_slot.ensures);
+          (rw c.if-not-branch.false at c.in_ok-take_slot.ensures);
     }

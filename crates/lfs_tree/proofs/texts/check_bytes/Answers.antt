@@ -10,55 +10,32 @@ pub loop-index-init : goal.loop-index-init
 loop-index-init g c = record {
   looks = looks_none (g.met.D.SectorDevice.lawful c.args.device.now);
   no_failure = refl;
-  none = λ k m n sees is p low none. omega (arith, low);
+  none = λ k m n sees is p low none. omega arith;
 }
 
 pub returns-in_err-read_block-clause-failed : goal.returns-in_err-read_block-clause-failed
 returns-in_err-read_block-clause-failed g c = any_error c.from_residual.result _ (λ k m n sees is.
-    let old = g.D.SectorDevice.state c.args.device.now in
-    let mid = g.D.SectorDevice.state c.loop-index.device in
-    let new = g.D.SectorDevice.state c.read_block.new.device in
     let looks = c.loop-index.invariant.looks in
-    let rose = c.in_err-read_block.ensures.failed k m n (sees_then sees looks) (inode_then k n is looks) in
-    let earlier = looks.carries.failures in
-    omega (arith, rose, earlier))
+    omega (arith, c.in_err-read_block.ensures.failed k m n (sees_then sees looks) (inode_then k n is looks)))
 
 pub loop-index-preserved : goal.loop-index-preserved
 loop-index-preserved g c =
-    let old = g.D.SectorDevice.state c.args.device.now in
-    let mid = g.D.SectorDevice.state c.loop-index.device in
-    let new = g.D.SectorDevice.state c.read_block.new.device in
     let here = c.loop-index.invariant in
-    let t = c.loop-index-test.true in
-    let d = c.div_ceil-index-end.ensures in
-    let e = c.min-count.ensures in
-    let low : 512 * c.loop-index.index < c.args.size = omega (arith, t, d) in
-    let is : c.min-count.result ≡ min (c.args.size - 512 * c.loop-index.index) 512 = omega (arith, e) in
     record {
       looks = looks_then here.looks c.in_ok-read_block.ensures.keeps.looks;
       no_failure = c.in_ok-read_block.ensures.keeps.no_failure ∙ here.no_failure;
       none = λ k m n sees own.
           texts_go_on m n c.args.size (c.in_ok-read_block.ensures.answer k m n (sees_then sees here.looks) (inode_then k n own here.looks))
-          low is (here.none k m n (sees_first sees c.in_ok-read_block.ensures.keeps.looks) own)
+          (omega arith) (omega arith) (here.none k m n (sees_first sees c.in_ok-read_block.ensures.keeps.looks) own)
           (c.is_nonzero.ensures.0 c.if-not-is_nonzero.false);
     }
 
 pub returns-then-not-is_nonzero-clause-holds : goal.returns-then-not-is_nonzero-clause-holds
 returns-then-not-is_nonzero-clause-holds g c k m n sees own =
-    let old = g.D.SectorDevice.state c.args.device.now in
-    let mid = g.D.SectorDevice.state c.loop-index.device in
-    let new = g.D.SectorDevice.state c.read_block.new.device in
     let here = c.loop-index.invariant in
-    let t = c.loop-index-test.true in
-    let d = c.div_ceil-index-end.ensures in
-    let e = c.min-count.ensures in
-    let low : 512 * c.loop-index.index < c.args.size = omega (arith, t, d) in
-    let is : c.min-count.result ≡ min (c.args.size - 512 * c.loop-index.index) 512 = omega (arith, e) in
     texts_fail m n c.args.size (c.in_ok-read_block.ensures.answer k m n (sees_then sees here.looks) (inode_then k n own here.looks))
-    low is (λ all. let yes = c.is_nonzero.ensures.1 all in let no_ = c.if-not-is_nonzero.true in absurd (cc))
+    (omega arith) (omega arith) (λ all. let yes = c.is_nonzero.ensures.1 all in cc)
 
 pub returns-clause-holds : goal.returns-clause-holds
 returns-clause-holds g c k m n sees own =
-    let t = c.loop-index-test.false in
-    let d = c.div_ceil-index-end.ensures in
-    λ p low. c.loop-index.invariant.none k m n sees own p (omega (arith, low, t, d))
+    λ p low. c.loop-index.invariant.none k m n sees own p (omega arith)

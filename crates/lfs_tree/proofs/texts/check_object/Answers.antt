@@ -10,13 +10,9 @@ use Rattle.lfs_tree.proofs.texts.check_object.Goals as goal
 
 pub returns-then-not-branch-clause-failed : goal.returns-then-not-branch-clause-failed
 returns-then-not-branch-clause-failed g c k m sees leads told =
-    let old = g.D.SectorDevice.state c.args.device.now in
-    let few = c.args.number.few in
-    let there = head_told m c.args.headers.now told c.args.number.value (omega (arith, few)) (sym c.get.ensures ∙ c.in-Some.is) in
-    let none = subst (λ (b : Bool). InodeAnswer old.content k m c.args.number.value c.read_inode.new.out b) c.if-not-branch.true
-    (c.in_ok-read_inode.ensures.answer k m sees leads) in
-    let both : Some (as_header c.in-Some.header) ≡ None = sym there ∙ none in
-    absurd (cc)
+    let both : Some (as_header c.in-Some.header) ≡ None = sym (head_told m c.args.headers.now told c.args.number.value (omega arith) (cc))
+    ∙ (rw c.if-not-branch.true at (c.in_ok-read_inode.ensures.answer k m sees leads)) in
+    cc
 
 pub returns-in_err-read_inode-clause-failed : goal.returns-in_err-read_inode-clause-failed
 returns-in_err-read_inode-clause-failed g c =
@@ -24,26 +20,18 @@ returns-in_err-read_inode-clause-failed g c =
 
 pub returns-clause-holds : goal.returns-clause-holds
 returns-clause-holds g c = IfOk-weaker c.check_bytes.result _ _ (λ holds decides k m sees leads told.
-    let old = g.D.SectorDevice.state c.args.device.now in
-    let mid = g.D.SectorDevice.state c.read_inode.new.device in
-    let new = g.D.SectorDevice.state c.check_bytes.new.device in
     let looks = c.read_inode.ensures.keeps.looks in
-    let few = c.args.number.few in
-    let own = subst (λ (b : Bool). InodeAnswer old.content k m c.args.number.value c.read_inode.new.out b) c.if-not-branch.false
-    (c.in_ok-read_inode.ensures.answer k m (sees_first sees c.check_bytes.ensures.keeps.looks) leads) in
-    text_decided m c.args.headers.now told c.args.number.value (omega (arith, few)) c.in-Some.header
-    (sym c.get.ensures ∙ c.in-Some.is) holds (c.is_link.ensures.0 c.if-not-is_link.false)
-    (decides k m c.args.number.value (sees_then sees looks) (inode_then k c.args.number.value own.block looks))) c.check_bytes.ensures.holds
+    text_decided m c.args.headers.now told c.args.number.value (omega arith) c.in-Some.header
+    (cc) holds (c.is_link.ensures.0 c.if-not-is_link.false)
+    (decides k m c.args.number.value (sees_then sees looks)
+    (inode_then k c.args.number.value (rw c.if-not-branch.false at (c.in_ok-read_inode.ensures.answer k m
+    (sees_first sees c.check_bytes.ensures.keeps.looks) leads)).block looks))) c.check_bytes.ensures.holds
 
 pub returns-clause-failed : goal.returns-clause-failed
 returns-clause-failed g c = on_err_weaker c.check_bytes.result (λ fails k m sees leads told.
-    let old = g.D.SectorDevice.state c.args.device.now in
-    let mid = g.D.SectorDevice.state c.read_inode.new.device in
-    let new = g.D.SectorDevice.state c.check_bytes.new.device in
     let looks = c.read_inode.ensures.keeps.looks in
-    let own = subst (λ (b : Bool). InodeAnswer old.content k m c.args.number.value c.read_inode.new.out b) c.if-not-branch.false
-    (c.in_ok-read_inode.ensures.answer k m (sees_first sees c.check_bytes.ensures.keeps.looks) leads) in
-    let rose = fails k m c.args.number.value (sees_then sees looks) (inode_then k c.args.number.value own.block looks) in
-    let earlier = looks.carries.failures in
-    omega (arith, rose, earlier))
+    let rose = fails k m c.args.number.value (sees_then sees looks)
+    (inode_then k c.args.number.value (rw c.if-not-branch.false at (c.in_ok-read_inode.ensures.answer k m
+    (sees_first sees c.check_bytes.ensures.keeps.looks) leads)).block looks) in
+    omega arith)
     c.check_bytes.ensures.failed

@@ -12,16 +12,12 @@ loop-number-init g c = record {
   looks = looks_none (g.met.D.SectorDevice.lawful c.args.device.now);
   no_failure = refl;
   good = λ k m sees leads told n low h at link.
-      let range = (held_headers sees.holds n h at).number in
-      let some = range.0 in
-      absurd (omega (arith, low, some));
+      let some = ((held_headers sees.holds n h at).number).0 in
+      absurd (omega arith);
 }
 
 pub loop-number-preserved : goal.loop-number-preserved
 loop-number-preserved g c =
-    let old = g.D.SectorDevice.state c.args.device.now in
-    let mid = g.D.SectorDevice.state c.loop-number.device in
-    let new = g.D.SectorDevice.state c.check_object.new.device in
     let here = c.loop-number.invariant in
     let number = c.loop-number.number in
     record {
@@ -35,9 +31,6 @@ loop-number-preserved g c =
 
 pub returns-then-not-branch-clause-holds : goal.returns-then-not-branch-clause-holds
 returns-then-not-branch-clause-holds g c k m sees leads told stage =
-    let old = g.D.SectorDevice.state c.args.device.now in
-    let mid = g.D.SectorDevice.state c.loop-number.device in
-    let new = g.D.SectorDevice.state c.check_object.new.device in
     let here = c.loop-number.invariant in
     let number = c.loop-number.number in
     decided_false (IsGoodText m number) c.if-not-branch.true (c.in_ok-check_object.ensures.holds k m
@@ -45,17 +38,10 @@ returns-then-not-branch-clause-holds g c k m sees leads told stage =
 
 pub returns-in_err-check_object-clause-failed : goal.returns-in_err-check_object-clause-failed
 returns-in_err-check_object-clause-failed g c = any_error c.from_residual.result _ (λ k m sees leads told.
-    let old = g.D.SectorDevice.state c.args.device.now in
-    let mid = g.D.SectorDevice.state c.loop-number.device in
-    let new = g.D.SectorDevice.state c.check_object.new.device in
     let looks = c.loop-number.invariant.looks in
-    let rose = c.in_err-check_object.ensures.failed k m (sees_then sees looks) (leads_then leads looks) told in
-    let earlier = looks.carries.failures in
-    omega (arith, rose, earlier))
+    omega (arith, c.in_err-check_object.ensures.failed k m (sees_then sees looks) (leads_then leads looks) told))
 
 pub returns-clause-holds : goal.returns-clause-holds
 returns-clause-holds g c k m sees leads told =
-    let old = g.D.SectorDevice.state c.args.device.now in
-    let ended = c.loop-number-test.false in
     stage_if_text m (held_headers sees.holds)
-    (λ n low. c.loop-number.invariant.good k m sees leads told n (omega (arith, ended, low)))
+    (λ n low. c.loop-number.invariant.good k m sees leads told n (omega arith))

@@ -12,17 +12,16 @@ returns-in_err-found-clause-reason g c =
 
 pub returns-in_err-found-clause-cause : goal.returns-in_err-found-clause-cause
 returns-in_err-found-clause-cause g c =
-    let old = g.D.SectorDevice.state c.args.device.now in
     let new = g.D.SectorDevice.state c.verify_log.new.device in
     same_error c.from_residual.result c.in_err-found.field-0.0 _ c.from_residual.ensures
     (fault_of_volume new (g.met.D.SectorDevice.lawful c.args.device.now) c.in_err-found.field-0.0
-    (refused_log old new c.in_err-found.field-0.0 c.in_err-found.ensures.reason))
+    (refused_log (g.D.SectorDevice.state c.args.device.now) new c.in_err-found.field-0.0 c.in_err-found.ensures.reason))
 
 pub returns-in_err-found-clause-below_all : goal.returns-in_err-found-clause-below_all
 returns-in_err-found-clause-below_all g c = λ low.
     let small = c.in_err-found.ensures.below_all low in
     let is = same_fault c.from_residual.result c.in_err-found.field-0.0 c.from_residual.ensures in
-    let of = small.0 in (cc, small.1)
+    (cc, small.1)
 
 pub returns-in_err-check_tree-clause-reason : goal.returns-in_err-check_tree-clause-reason
 returns-in_err-check_tree-clause-reason g c =
@@ -32,11 +31,9 @@ returns-in_err-check_tree-clause-reason g c =
 
 pub returns-in_err-check_tree-clause-cause : goal.returns-in_err-check_tree-clause-cause
 returns-in_err-check_tree-clause-cause g c =
-    let old = g.D.SectorDevice.state c.args.device.now in
-    let mid = g.D.SectorDevice.state c.verify_log.new.device in
-    let new = g.D.SectorDevice.state c.check_tree.new.device in
     same_error c.from_residual-in_err-check_tree.result c.in_err-check_tree.field-0.0 _ c.from_residual-in_err-check_tree.ensures
-    (fault_of_volume new (g.met.D.SectorDevice.lawful c.args.device.now) c.in_err-check_tree.field-0.0
+    (fault_of_volume (g.D.SectorDevice.state c.check_tree.new.device) (g.met.D.SectorDevice.lawful c.args.device.now)
+    c.in_err-check_tree.field-0.0
     (refused_behind c.verify_log.ensures.looks c.check_tree.ensures.looks
     c.in_ok-found.ensures.found c.in_err-check_tree.field-0.0 c.in_err-check_tree.ensures.reason))
 
@@ -47,10 +44,7 @@ returns-then-not-found-clause-reason g c =
 
 pub returns-then-not-found-clause-cause : goal.returns-then-not-found-clause-cause
 returns-then-not-found-clause-cause g c =
-    let old = g.D.SectorDevice.state c.args.device.now in
-    let mid = g.D.SectorDevice.state c.verify_log.new.device in
-    let new = g.D.SectorDevice.state c.check_tree.new.device in
-    fault_of_volume new (g.met.D.SectorDevice.lawful c.args.device.now) (fault.Damaged 15)
+    fault_of_volume (g.D.SectorDevice.state c.check_tree.new.device) (g.met.D.SectorDevice.lawful c.args.device.now) (fault.Damaged 15)
     (few_clean c.verify_log.ensures.looks c.check_tree.ensures.looks c.in_ok-found.ensures.found c.in_ok-check_tree.ensures.tree
     c.if-not-found.true)
 

@@ -4,4 +4,4 @@ use Rattle.lfs_tree.proofs.marks.Marks.new.Goals as goal
 
 pub returns : goal.returns
 returns c = λ up.
-    (let long = c.in_ok-marks.ensures.len in root_marked up c.in_ok-marks.marks.items (omega (arith, long)) c.in_ok-marks.ensures.empty)
+    (root_marked up c.in_ok-marks.marks.items (omega (arith, c.in_ok-marks.ensures.len)) c.in_ok-marks.ensures.empty)
