@@ -1,4 +1,5 @@
 mod Prelude
+mod Exits
 mod calls
 mod volume
 mod paths

@@ -27,10 +27,7 @@ run_more : (N : ℕ) (p : Point) (lines : List Line) (answers : List Answer) (po
 run_more N p [] [] [] line answer next run more = (more, tt)
 run_more N p (l ∷ lines) (a ∷ answers) (q ∷ points) line answer next run more =
     (run.0, run_more N q lines answers points line answer next run.1 more)
-run_more N p [] [] (q ∷ points) line answer next run more = absurd run
-run_more N p [] (a ∷ answers) points line answer next run more = absurd run
-run_more N p (l ∷ lines) [] points line answer next run more = absurd run
-run_more N p (l ∷ lines) (a ∷ answers) [] line answer next run more = absurd run
+run_more N p lines answers points line answer next run more = absurd run
 
 -- one answer and one point for each line
 line_lengths : (N : ℕ) (p : Point) (lines : List Line) (answers : List Answer) (points : List Point) → LineRun N p lines answers points
@@ -38,10 +35,7 @@ line_lengths : (N : ℕ) (p : Point) (lines : List Line) (answers : List Answer)
 line_lengths N p [] [] [] run = (refl, refl)
 line_lengths N p (l ∷ lines) (a ∷ answers) (q ∷ points) run = let h = line_lengths N q lines answers points run.1 in
     (omega (arith, h.0), omega (arith, h.1))
-line_lengths N p [] [] (q ∷ points) run = absurd run
-line_lengths N p [] (a ∷ answers) points run = absurd run
-line_lengths N p (l ∷ lines) [] points run = absurd run
-line_lengths N p (l ∷ lines) (a ∷ answers) [] run = absurd run
+line_lengths N p lines answers points run = absurd run
 
 so_far : (N : ℕ) (p : Point) (lines : List Line) (answers : List Answer) (points : List Point) → LineRun N p lines answers points
     → IsRunSoFar (p ∷ points) (map call_of lines) answers (final p points)
@@ -72,11 +66,11 @@ final_state p (q ∷ points) = let one = final_state q points in (suc one.0, (le
 
 was_state : (points : List Point) (next : Point) (s : State) → Contains (left_states points) s
     → Contains (left_states (points ++ next ∷ [])) s
-was_state points next s one = subst (λ (ss : List State). Contains ss s) (sym (states_more points next))
+was_state points next s one = rw (states_more points next)
     (Contains-append_left (left_states points) (drop_nameless next.state ∷ []) s one)
 
 next_state : (points : List Point) (next : Point) → Contains (left_states (points ++ next ∷ [])) (drop_nameless next.state)
-next_state points next = subst (λ (ss : List State). Contains ss (drop_nameless next.state)) (sym (states_more points next))
+next_state points next = rw (states_more points next)
     (Contains-append_right (left_states points) (drop_nameless next.state ∷ []) (drop_nameless next.state) (0, omega arith, refl))
 
 -- ---- what a stop leaves
@@ -120,7 +114,7 @@ module _ (a b c : DeviceState) (p : Point) (points : List Point) (next : Point) 
   then_one one s (inl left) =
       let was = one.each left.content (lawful.counts_now a.moment left.content one.later left.may_leave) in
       let same : was.0 ≡ s = single_state left.content was.0 s was.1 left.stands in
-      subst (λ (t : State). Left a t ⊎ Contains all t) same (more was.0 was.2)
+      rw (← same) (more was.0 was.2)
   then_one one s (inr of) = inr (at_index of.0 of.1 of.2)
 
   leaves_step : LeavesStates a b so_far_states → LeavesStates b c pair → LeavesStates a c all
@@ -159,11 +153,10 @@ module _ {D : Type 0} {state : D → DeviceState} (lawful : (d : D) → IsLawful
   serves_more : (old mid new : Mounted D) (lines : List Line) (answers : List Answer) (line : Line) (answer : Answer)
       → ServesLines state old mid lines answers
       → ServesLine state mid new line answer → ServesLines state old new (lines ++ line ∷ []) (answers ++ answer ∷ [])
-  serves_more old mid new [] [] line answer same more = (new, subst (λ (v : Mounted D). ServesLine state v new line answer) same more, refl)
+  serves_more old mid new [] [] line answer same more = (new, rw (← same) more, refl)
   serves_more old mid new (l ∷ lines) (a ∷ answers) line answer those more =
       (those.0, those.1, serves_more those.0 mid new lines answers line answer those.2 more)
-  serves_more old mid new [] (a ∷ answers) line answer those more = absurd those
-  serves_more old mid new (l ∷ lines) [] line answer those more = absurd those
+  serves_more old mid new lines answers line answer those more = absurd those
 
   -- no line
   pub ran_none : (old : Mounted D) → RunsLines state old old [] []
@@ -187,8 +180,7 @@ module _ {D : Type 0} {state : D → DeviceState} (lawful : (d : D) → IsLawful
           at = subst (IsAt state new) (sym (final_more p ran.points step.next)) step.at;
           leaves = leaves;
           moments = moments_from p (ran.points ++ step.next ∷ []) leaves;
-          pending = λ one. subst (λ (calls : List Call). LeavesPrefix (state new.log.device) (p ∷ (ran.points ++ step.next ∷ [])) calls
-              (answers ++ answer ∷ [])) (sym (calls_more lines line)) (leaves_more (state mid.log.device) (state new.log.device) answers
+          pending = λ one. rw (calls_more lines line) (leaves_more (state mid.log.device) (state new.log.device) answers
               step.next (call_of line) answer (so_far (segments_of old) p lines answers ran.points ran.run) (lawful new.log.device)
               (ran.pending one) step.leaves step.saves);
         }
@@ -237,8 +229,7 @@ module _ {D : Type 0} {state : D → DeviceState} (lawful : (d : D) → IsLawful
         λ one. leaves_more (state mid.log.device) d' answers step.next
         (call_of line) answer so (lawful new.log.device) (told.ran.pending one) step.leaves step.saves in record {
           ran = more_at old mid new line answer p told.ran step;
-          kept = λ one. subst (λ (calls : List Call). AreKeptSince d' (p ∷ (told.ran.points ++ step.next ∷ [])) calls
-              (answers ++ answer ∷ []) (clocks ++ d'.moment ∷ [])) (sym (calls_more lines line)) (kept_told d'
+          kept = λ one. rw (calls_more lines line) (kept_told d'
               (answers ++ answer ∷ []) clocks (lawful new.log.device)
               (omega (arith, length-append answers (answer ∷ []), length-append (map call_of lines) (call_of line ∷ []), so.answers_length))
               (omega (arith, length-append (map call_of lines) (call_of line ∷ []), few, long))

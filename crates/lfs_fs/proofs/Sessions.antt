@@ -19,7 +19,7 @@ stands_as same is = record {
   log = is.log;
   found = is.found;
   stands = is.stands;
-  tree = subst (λ (x : State). TreeOf is.checkpoint.segments is.log x.tree) (sym same) is.tree;
+  tree = rw same is.tree;
   version = ap (λ (x : State). x.version) same ∙ is.version;
   closed = ap (λ (x : State). x.handles) same ∙ is.closed;
 }
@@ -33,84 +33,6 @@ numbered state v {p} at on c left =
     let is = settled state holds in
     (r.checkpoint, (is.each c left).newest, at.number ∙ sym holds.number)
 
-module _ {D : Type 0} (state : D → DeviceState) (d : D) (lawful : IsLawful (state d)) (v : Fs D) (new : Mounted D) (lines : List Line)
-    (answers : List Answer)
-    (finds : FindsState state d v)
-    (durable : (state (seen v).log.device).keeps_model → Only (state d).content (state (seen v).log.device))
-    (untouched : IsUntouched (state d) (state (seen v).log.device))
-    (carries : Carries (state d) (state (seen v).log.device))
-    (moment : LeavesOnly (state d) (state (seen v).log.device) (state d).may_leave)
-    (no_failure : (state (seen v).log.device).failures ≡ (state d).failures)
-    (runs : RunsLines state (seen v) new lines answers) (keeps : (state new.log.device).keeps_model)
-    (rans : (p : Point) → IsAt state (seen v) p → RanAt state (seen v) new lines answers p) where
-  kept : (state (seen v).log.device).keeps_model
-  kept = runs.carries.kept_before keeps
-
-  found : (s : State) × Stands (state d).content s × MountsAt state v s
-  found = finds kept
-
-  at : MountsAt state v found.0
-  at = found.2
-
-  -- the state that is found is the one that the volume is in
-  stands : Stands (state d).content at.point.state
-  stands = stands_as at.same found.1
-
-  -- after the mount a stop leaves it alone
-  alone : LeavesOne (state (seen v).log.device) (drop_nameless at.point.state)
-  alone c left =
-      let same : drop_nameless at.point.state ≡ at.point.state = nothing_dropped (state d).content at.point.state stands in
-      subst (Stands c) (sym same) (subst (λ (x : Content). Stands x at.point.state) (sym (durable kept c left)) stands)
-
-  abbrev ran : RanAt state (seen v) new lines answers at.point
-  ran = rans at.point at.at
-
-  running : Runs state (seen v) at.point.state
-  running = at.at.running at.running
-
-  -- the volume knows the checkpoint by which the content stands
-  same_checkpoint : running.checkpoint ≡ stands.checkpoint
-  same_checkpoint = Some-injective (sym (settled state running.is.holds).newest ∙ ap newest untouched.content ∙ stands.found)
-
-  abbrev Leaves : Content → Type 0
-  Leaves = StandsForSome (at.point ∷ ran.points)
-
-  -- what a stop meanwhile leaves, by what one before might have left
-  moments_by : (P : Content → Type 0) → AllLeft (state d) P → LeavesOnly (state d) (state new.log.device) (λ c. P c ⊎ Leaves c)
-  moments_by P was = joined (state d).may_leave Leaves
-      (λ c. P c ⊎ Leaves c) moment (ran.moments alone)
-      (λ c left. inl (was c left)) (λ c some. inr some)
-
-  -- where that was pending in an earlier run, so is the state at the beginning
-  module _ (before : List Point) (calls : List Call) (given : List Answer) (was : LeavesPrefix (state d) before calls given) where
-    pending : StandsForPrefix (state d).content before calls given
-    pending = was (state d).content (lawful.present (carries.kept_before kept))
-
-    goes_on_from : Continues (state d) (state new.log.device) before calls given at.point ran.points
-    goes_on_from = record {
-      began = (pending.0, pending.1, single_state (state d).content at.point.state (drop_nameless pending.0) stands pending.2);
-      moments = moments_by (λ c. StandsForPrefix c before calls given) was;
-    }
-
-  uses_by : UsesVolume (state d) (state new.log.device) lines answers
-  uses_by = record {
-    first = at.point;
-    points = ran.points;
-    segments = segments_of (seen v);
-    stands = stands;
-    same_segments = sym running.is.holds.segments ∙ ap (λ (k : CheckpointValue). k.segments) same_checkpoint;
-    same_number = at.at.number ∙ sym running.is.holds.number ∙ ap (λ (k : CheckpointValue). k.number) same_checkpoint;
-    running = at.at.halted ∙ at.running;
-    run = ran.run;
-    unstuck = runs.unstuck;
-    failures_before = at.at.failures ∙ no_failure;
-    failures_after = ran.at.failures;
-    number_after = numbered state new ran.at;
-    moments = moments_by (state d).may_leave (λ c left. left);
-    pending = ran.pending alone;
-    continues = goes_on_from;
-  }
-
 module _ {D : Type 0} {state : D → DeviceState} (d : D) (lawful : IsLawful (state d)) (v : Fs D) {new : Mounted D} {lines : List Line}
     {answers : List Answer} (finds : FindsState state d v)
     (durable : (state (seen v).log.device).keeps_model → Only (state d).content (state (seen v).log.device))
@@ -118,19 +40,88 @@ module _ {D : Type 0} {state : D → DeviceState} (d : D) (lawful : IsLawful (st
     (carries : Carries (state d) (state (seen v).log.device))
     (moment : LeavesOnly (state d) (state (seen v).log.device) (state d).may_leave)
     (no_failure : (state (seen v).log.device).failures ≡ (state d).failures) where
+  module _ (runs : RunsLines state (seen v) new lines answers) (keeps : (state new.log.device).keeps_model)
+      (rans : (p : Point) → IsAt state (seen v) p → RanAt state (seen v) new lines answers p) where
+    kept : (state (seen v).log.device).keeps_model
+    kept = runs.carries.kept_before keeps
+
+    found : (s : State) × Stands (state d).content s × MountsAt state v s
+    found = finds kept
+
+    at : MountsAt state v found.0
+    at = found.2
+
+    -- the state that is found is the one that the volume is in
+    stands : Stands (state d).content at.point.state
+    stands = stands_as at.same found.1
+
+    -- after the mount a stop leaves it alone
+    alone : LeavesOne (state (seen v).log.device) (drop_nameless at.point.state)
+    alone c left =
+        let same : drop_nameless at.point.state ≡ at.point.state = nothing_dropped (state d).content at.point.state stands in
+        subst (Stands c) (sym same) (rw (durable kept c left) stands)
+
+    abbrev ran : RanAt state (seen v) new lines answers at.point
+    ran = rans at.point at.at
+
+    running : Runs state (seen v) at.point.state
+    running = at.at.running at.running
+
+    -- the volume knows the checkpoint by which the content stands
+    same_checkpoint : running.checkpoint ≡ stands.checkpoint
+    same_checkpoint = Some-injective (sym (settled state running.is.holds).newest ∙ ap newest untouched.content ∙ stands.found)
+
+    abbrev Leaves : Content → Type 0
+    Leaves = StandsForSome (at.point ∷ ran.points)
+
+    -- what a stop meanwhile leaves, by what one before might have left
+    moments_by : (P : Content → Type 0) → AllLeft (state d) P → LeavesOnly (state d) (state new.log.device) (λ c. P c ⊎ Leaves c)
+    moments_by P was = joined (state d).may_leave Leaves
+        (λ c. P c ⊎ Leaves c) moment (ran.moments alone)
+        (λ c left. inl (was c left)) (λ c some. inr some)
+
+    -- where that was pending in an earlier run, so is the state at the beginning
+    module _ (before : List Point) (calls : List Call) (given : List Answer) (was : LeavesPrefix (state d) before calls given) where
+      pending : StandsForPrefix (state d).content before calls given
+      pending = was (state d).content (lawful.present (carries.kept_before kept))
+
+      goes_on_from : Continues (state d) (state new.log.device) before calls given at.point ran.points
+      goes_on_from = record {
+        began = (pending.0, pending.1, single_state (state d).content at.point.state (drop_nameless pending.0) stands pending.2);
+        moments = moments_by (λ c. StandsForPrefix c before calls given) was;
+      }
+
+    uses_by : UsesVolume (state d) (state new.log.device) lines answers
+    uses_by = record {
+      first = at.point;
+      points = ran.points;
+      segments = segments_of (seen v);
+      stands = stands;
+      same_segments = sym running.is.holds.segments ∙ ap (λ (k : CheckpointValue). k.segments) same_checkpoint;
+      same_number = at.at.number ∙ sym running.is.holds.number ∙ ap (λ (k : CheckpointValue). k.number) same_checkpoint;
+      running = at.at.halted ∙ at.running;
+      run = ran.run;
+      unstuck = runs.unstuck;
+      failures_before = at.at.failures ∙ no_failure;
+      failures_after = ran.at.failures;
+      number_after = numbered state new ran.at;
+      moments = moments_by (state d).may_leave (λ c left. left);
+      pending = ran.pending alone;
+      continues = goes_on_from;
+    }
+
   pub uses_volume : RunsLines state (seen v) new lines answers → (state new.log.device).keeps_model
       → UsesVolume (state d) (state new.log.device) lines answers
-  uses_volume runs keeps = uses_by state d lawful v new lines answers finds durable untouched carries moment no_failure runs keeps
-      (λ p is. runs.model p keeps is)
+  uses_volume runs keeps = uses_by runs keeps (λ p is. runs.model p keeps is)
 
   pub uses_told : {clocks : List ℕ} → TellsLines state (seen v) new lines answers clocks → (state new.log.device).keeps_model
       → UsesTold (state d) (state new.log.device) lines answers clocks
   unfolding uses_by
   uses_told tells keeps =
       let rans : ((p : Point) → IsAt state (seen v) p → RanAt state (seen v) new lines answers p) = λ p is. (tells.told p keeps is).ran in
-      let mounted = at state d lawful v new lines answers finds durable untouched carries moment no_failure tells.runs keeps rans in
+      let mounted = at tells.runs keeps rans in
       record {
-        uses = uses_by state d lawful v new lines answers finds durable untouched carries moment no_failure tells.runs keeps rans;
+        uses = uses_by tells.runs keeps rans;
         since = (tells.told mounted.point keeps mounted.at).kept
-            (alone state d lawful v new lines answers finds durable untouched carries moment no_failure tells.runs keeps rans);
+            (alone tells.runs keeps rans);
       }

@@ -1,14 +1,13 @@
 -- Calls that change nothing, over files: what is told of each log map answers them, and a fault refuses them. How a call comes to the
 -- object of a path.
 use Rattle.lfs_fs.proofs.Prelude.{◌≡◌, ℕ, Bool, true, false, List, sym, subst, Answer, Call, Refuse, changes, cleans, commits}
-use Rattle.lfs_fs.proofs.Prelude.{never_for_device, takes_no_memory, CheckpointValue, DeviceState, IsLawful, LogMap, Step, State, Tree, At}
-use Rattle.lfs_fs.proofs.Prelude.{Resolve, LogFault, Store, files_of, WalkFault, HasHeader, HasObject, Tells, TellsFault, TellsRefusal}
-use Rattle.lfs_fs.proofs.Prelude.{EntryFault, FailsWhere, FsError, Fs, error_of_entry, error_of_log, error_of_walk, ReachesObject}
-use Rattle.lfs_fs.proofs.Prelude.{refusal_of, Begins, seen, IsIn, Mounted, Serves, segments_of, no_header_none}
+use Rattle.lfs_fs.proofs.Prelude.{never_for_device, takes_no_memory, DeviceState, IsLawful, LogMap, Step, State, Tree, At, Resolve}
+use Rattle.lfs_fs.proofs.Prelude.{LogFault, Store, files_of, WalkFault, HasHeader, HasObject, Tells, TellsFault, TellsRefusal, EntryFault}
+use Rattle.lfs_fs.proofs.Prelude.{FailsWhere, FsError, Fs, error_of_entry, error_of_log, error_of_walk, ReachesObject, refusal_of, Begins}
+use Rattle.lfs_fs.proofs.Prelude.{seen, Mounted, Serves, segments_of, no_header_none}
 use Rattle.lfs_model.specs.Refusal.{NoMemory}
 use Rattle.lfs_files.specs.declared.fault.LogFault.TheVariants as log
 use Rattle.lfs_files.specs.declared.header.Header.{Header}
-use Rattle.lfs_files.specs.Files as files
 use Rattle.lfs_path.specs.declared.walk_fault.WalkFault.TheVariants as walk
 use Rattle.lfs_path.specs.Reaching.{EndsResolve, ResolvesTo}
 use Rattle.lfs_path.specs.Trees.{HasTree}
@@ -16,12 +15,13 @@ use Rattle.lfs_entries.specs.declared.fault.EntryFault.TheVariants as fault
 use Rattle.lfs_entries.specs.Telling as telling
 use Rattle.lfs_fs.specs.Reading.{FindsObject, RefusesPath}
 use Rattle.lfs_fs.proofs.calls.AnyDevice.{IsOrdinary}
-use Rattle.lfs_fs.proofs.calls.Files.{Explains, IsBegun, Rose, begun_after, fault_serves, only, rose_where, told, unanswered, was}
-use Rattle.lfs_fs.proofs.calls.Files.{with_store}
+use Rattle.lfs_fs.proofs.calls.Files.{Explains, IsBegun, Rose, begun_after, explains_where, fault_serves, has_in, read_still, risen}
+use Rattle.lfs_fs.proofs.calls.Files.{unanswered, was, with_store}
+pub use Rattle.lfs_fs.proofs.calls.Files.{In, ReadsTo}
 use Rattle.lfs_fs.proofs.calls.Reads.{memory_serves}
 use Rattle.lfs_fs.proofs.calls.StoreCalls.{ends_refused}
 use Rattle.lfs_fs.proofs.paths.Later.{later_refused}
-use Rattle.lfs_fs.proofs.paths.Places.{begun_ready, begun_still}
+use Rattle.lfs_fs.proofs.paths.Places.{begun_ready, begun_still, path_read}
 use Rattle.lfs_fs.proofs.paths.Walks.{tree_of_volume}
 use Rattle.lfs_fs.proofs.read.Ends.{step_serves}
 use Rattle.lfs_steps.proofs.volume.Nodes.{resolved_there}
@@ -35,14 +35,6 @@ pub record IsQuiet (call : Call) : Type 0 where
   pub kept : commits call ≡ false
 
 module _ {D : Type 0} (state : D → DeviceState) where
-  -- What holds of each state that the volume may be in, where the device keeps the model until then.
-  abbrev pub In : Mounted D → Fs D → (LogMap → State → Type 0) → Type 0
-  In v f P = (k : CheckpointValue) (m0 m : LogMap) (s : State) → (state (seen f).log.device).keeps_model → IsIn state v k m0 m s → P m s
-
-  -- a volume's files are read
-  abbrev pub ReadsTo : Fs D → Store D → Type 0
-  ReadsTo f store = files.Reads (files_of state f.store) (files_of state store)
-
   -- a fault of what reads them, for such a reason, refuses the call
   abbrev pub Fails : Mounted D → Fs D → Store D → Call → (EntryFault → Type 0) → Type 0
   Fails v f store call Why = (e : EntryFault) → (e ≡ fault.Log log.Halted → (files_of state f.store).halted ≡ true)
@@ -74,20 +66,19 @@ module _ {D : Type 0} {state : D → DeviceState} (lawful : (d : D) → IsLawful
     new = with_store f store
 
     pub now : IsBegun state v new
-    now = begun_after state lawful v f begun store reads
+    now = begun_after f store reads lawful begun
 
     pub later : (P : LogMap → State → Type 0) → In state v f P → In state v new P
     later P each k m0 m s keeps = each k m0 m s (reads.looks.carries.kept_before keeps)
 
     pub known : {P : LogMap → Type 0} → telling.InEach (files_of state f.store) (files_of state store) P → In state v new (λ m s. P m)
-    known {P = P} = told state lawful v f begun store P
+    known each k m0 m s keeps is = each m m keeps (has_in begun is)
 
     -- a call of the device failed where something is so that is so in each state
     pub rises : {P : LogMap → Type 0} → In state v f (λ m s. P m) → TellsFault (files_of state f.store) (files_of state store) P
-        → In state v new (λ m s. Rose state lawful v f begun store)
+        → In state v new (λ m s. Rose state v store)
     rises {P = P} each why k m0 m s keeps is =
-        rose_where state lawful v f begun store (only state lawful v f begun store reads).still P why k m0 m s keeps is
-        (later (λ m s. P m) each k m0 m s keeps is)
+        risen begun store (why m m keeps (has_in begun is) (later (λ m s. P m) each k m0 m s keeps is))
 
     -- so a fault of the log refuses a call
     pub log_fails : {P : LogMap → Type 0} → In state v f (λ m s. P m) → {call : Call} → never_for_device call ≡ false → (e : LogFault)
@@ -95,24 +86,19 @@ module _ {D : Type 0} {state : D → DeviceState} (lawful : (d : D) → IsLawful
         → TellsFault (files_of state f.store) (files_of state store) P
         → Serves state v (seen new) call (Refuse (refusal_of (error_of_log e)))
     log_fails {P = P} each {call = call} free e halted other why = unanswered state lawful v f begun store
-        (only state lawful v f begun store reads).still call free e halted other (rises {P = P} each why)
+        (read_still f store reads) call free e halted other (rises {P = P} each why)
 
     module _ {call : Call} (quiet : IsQuiet call) where
       abbrev pub IsWhy : EntryFault → Type 0
-      IsWhy e = In state v new (λ m s. Explains call (segments_of v) s (Rose state lawful v f begun store) e)
+      IsWhy e = In state v new (λ m s. Explains call (segments_of v) s (Rose state v store) e)
 
       pub fails : {Why : EntryFault → Type 0} → ((e : EntryFault) → Why e → IsWhy e) → Fails state v f store call Why
-      fails explains e halted other why = fault_serves state lawful v f begun store (only state lawful v f begun store reads).still call
+      fails explains e halted other why = fault_serves state lawful v f begun store (read_still f store reads) call
           quiet.free quiet.unclean quiet.memory e halted other (explains e why)
 
       pub fails_where : {P : LogMap → Type 0} → In state v f (λ m s. P m)
           → Fails state v f store call (FailsWhere (files_of state f.store) (files_of state store) P)
-      fails_where {P = P} each = fails by
-        where
-          by : (e : EntryFault) → FailsWhere (files_of state f.store) (files_of state store) P e → IsWhy e
-          by fault.NoMemory any k m0 m s keeps is = tt
-          by (fault.Log x) failed k m0 m s keeps is = rises {P = P} each failed k m0 m s keeps is
-          by other never k m0 m s keeps is = absurd never
+      fails_where {P = P} each = fails (explains_where begun store {P = P} (later (λ m s. P m) each) call)
 
 -- ---- a path is walked to its object
 module _ {D : Type 0} {state : D → DeviceState} (lawful : (d : D) → IsLawful (state d)) {old f : Fs D} (begins : Begins old f)
@@ -137,7 +123,7 @@ module _ {D : Type 0} {state : D → DeviceState} (lawful : (d : D) → IsLawful
       → RefusesPath state old (with_store f store) path follow fault
   refuses_path path follow {fault = fault} e is ends halted other call free unclean memory steps =
       later_refused lawful begun.still begins.running begins.empty
-      (only state lawful (seen old) f begun store reads) (EndsResolve path follow) free unclean memory
+      (path_read state {old = f} store reads) (EndsResolve path follow) free unclean memory
       (λ k m0 m s keeps is. steps (segments_of (seen old)) s) is
       (ends_refused state f.store store (EndsResolve path follow) e ends) halted other
 

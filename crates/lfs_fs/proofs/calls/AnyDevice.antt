@@ -1,13 +1,13 @@
 -- What holds of a call over any device, by how it ends.
 use Rattle.lfs_fs.proofs.Prelude.{◌≡◌, ◌≤◌, ◌+◌, ℕ, Bool, true, false, ◌||◌, List, length, refl, sym, ◌∙◌, ap, subst, inl, inr, arith}
-use Rattle.lfs_fs.proofs.Prelude.{IsTrue, Order, Answer, Call, Open, Create, Close, Pread, Pwrite, Truncate, Mkdir, LinkTo, Symlink}
-use Rattle.lfs_fs.proofs.Prelude.{Readlink, Unlink, Rmdir, Rename, Readdir, Fsync, Sync, Clean, Space, Version, Upgrade, Widen, ListTree}
-use Rattle.lfs_fs.proofs.Prelude.{Refuse, changes, cleans, commits, is_ok, may_write, takes_no_memory, never_for_device, DeviceState}
-use Rattle.lfs_fs.proofs.Prelude.{Refusal, Halted, Stuck, LogState, Reads, commit_orders, room_orders, TellsFew, Behaves, CommitsFew}
-use Rattle.lfs_fs.proofs.Prelude.{IsStill, Mounted, TellsAtMost, changes_handles, most_orders, segments_of}
-use Rattle.lfs_model.specs.Call.{StatOf, LstatOf}
+use Rattle.lfs_fs.proofs.Prelude.{IsTrue, Order, Answer, Call, Create, Pwrite, Truncate, Mkdir, LinkTo, Symlink, Unlink, Rmdir, Rename}
+use Rattle.lfs_fs.proofs.Prelude.{Fsync, Sync, Clean, Upgrade, Widen, Refuse, changes, cleans, commits, is_ok, may_write, takes_no_memory}
+use Rattle.lfs_fs.proofs.Prelude.{never_for_device, DeviceState, Refusal, Halted, Stuck, LogState, commit_orders, room_orders, TellsFew}
+use Rattle.lfs_fs.proofs.Prelude.{Behaves, CommitsFew, IsStill, Mounted, TellsAtMost, changes_handles, most_orders, segments_of, reads_none}
+use Rattle.lfs_fs.proofs.Prelude.{◌⊎◌}
 use Rattle.lfs_model.specs.Refusal.{NoMemory}
 use Rattle.lfs_store.specs.Accepting.{HasCleanForTwo}
+use Rattle.lfs_store.specs.memory.Present.{Looks}
 
 -- ---- answers and calls
 
@@ -40,57 +40,24 @@ change_writes call change = ap (λ (b : Bool). b || commits call || cleans call)
 
 -- a call that changes something gives as many orders as where room is made
 pub change_orders : (call : Call) (segments : ℕ) → changes call ≡ true → most_orders call segments ≡ room_orders segments
-change_orders (Open p) segments change = absurd (cc)
 change_orders (Create p) segments change = refl
-change_orders (Close h) segments change = absurd (cc)
-change_orders (Pread h off n) segments change = absurd (cc)
 change_orders (Pwrite h off w) segments change = refl
 change_orders (Truncate h n) segments change = refl
 change_orders (Mkdir p) segments change = refl
 change_orders (LinkTo p q) segments change = refl
 change_orders (Symlink text p) segments change = refl
-change_orders (Readlink p) segments change = absurd (cc)
 change_orders (Unlink p) segments change = refl
 change_orders (Rmdir p) segments change = refl
 change_orders (Rename p q) segments change = refl
-change_orders (StatOf p) segments change = absurd (cc)
-change_orders (LstatOf p) segments change = absurd (cc)
-change_orders (Readdir p) segments change = absurd (cc)
-change_orders (Fsync h) segments change = absurd (cc)
-change_orders Sync segments change = absurd (cc)
-change_orders Clean segments change = absurd (cc)
-change_orders Space segments change = absurd (cc)
-change_orders Version segments change = absurd (cc)
 change_orders Upgrade segments change = refl
 change_orders (Widen p) segments change = refl
-change_orders ListTree segments change = absurd (cc)
+change_orders other segments change = absurd (cc)
 
 -- a call that may be refused because a call of the device failed commits nothing
 pub commits_none : (call : Call) → never_for_device call ≡ false → commits call ≡ false
-commits_none (Open p) free = refl
-commits_none (Create p) free = refl
-commits_none (Close h) free = refl
-commits_none (Pread h off n) free = refl
-commits_none (Pwrite h off w) free = refl
-commits_none (Truncate h n) free = refl
-commits_none (Mkdir p) free = refl
-commits_none (LinkTo p q) free = refl
-commits_none (Symlink text p) free = refl
-commits_none (Readlink p) free = refl
-commits_none (Unlink p) free = refl
-commits_none (Rmdir p) free = refl
-commits_none (Rename p q) free = refl
-commits_none (StatOf p) free = refl
-commits_none (LstatOf p) free = refl
-commits_none (Readdir p) free = refl
 commits_none (Fsync h) free = absurd (cc)
 commits_none Sync free = absurd (cc)
-commits_none Clean free = refl
-commits_none Space free = refl
-commits_none Version free = refl
-commits_none Upgrade free = refl
-commits_none (Widen p) free = refl
-commits_none ListTree free = refl
+commits_none other free = refl
 
 -- ---- calls
 
@@ -123,52 +90,34 @@ module _ {D : Type 0} (state : D → DeviceState) where
       → IsBounded old new Clean
   clean_bounded old new few told = record { few = few; told = told; one_commit = λ unclean clean. absurd (cc) }
 
-  -- a volume that was halted
-  pub halted_behaves : (v : Mounted D) (call : Call) → v.log.halted ≡ true → Behaves state v v call (Refuse Halted)
-  halted_behaves v call was = record {
-    refused = λ r e. refl;
-    handles = λ e. refl;
-    first_halted = λ e. inl was;
-    quiet = λ e. record { content = refl; crash = λ c left. left };
-    number = λ e. refl;
-    few = omega arith;
-    memory = λ takes e. absurd (cc);
-    stuck = λ e. absurd (cc);
-    told = tells_none v.log v.log (most_orders call (segments_of v)) refl;
-    one_commit = λ unclean clean. tells_none v.log v.log commit_orders refl;
-  }
-
-  -- nothing but reads, and memory was refused
-  pub memory_behaves : (old new : Mounted D) (call : Call) → IsStill state old new → takes_no_memory call ≡ false
-      → Behaves state old new call (Refuse NoMemory)
-  memory_behaves old new call still free = record {
-    refused = λ r e. still.table;
-    handles = λ e. still.table;
-    first_halted = λ e. absurd (cc);
-    quiet = λ e. still.reads.looks.untouched;
-    number = λ e. still.reads.number;
-    few = (let same = still.reads.number in omega (arith, same));
-    memory = λ takes e. absurd (not_both takes free);
-    stuck = λ e. absurd (cc);
-    told = tells_none old.log new.log (most_orders call (segments_of old)) still.reads.looks.told;
-    one_commit = λ unclean clean. tells_none old.log new.log commit_orders still.reads.looks.told;
-  }
-
   module _ {old new : Mounted D} (call : Call) (a : Answer) where
-    -- nothing but reads
-    pub still_behaves : IsStill state old new → IsOrdinary a → Behaves state old new call a
-    still_behaves still ordinary = record {
-      refused = λ r e. still.table;
-      handles = λ e. still.table;
-      first_halted = λ e. absurd (not_halted a ordinary e);
-      quiet = λ e. still.reads.looks.untouched;
-      number = λ e. still.reads.number;
-      few = (let same = still.reads.number in omega (arith, same));
-      memory = λ takes e. absurd (not_memory ordinary e);
-      stuck = λ e. absurd (not_stuck ordinary e);
-      told = tells_none old.log new.log (most_orders call (segments_of old)) still.reads.looks.told;
-      one_commit = λ unclean clean. tells_none old.log new.log commit_orders still.reads.looks.told;
-    }
+    -- nothing is written
+    module _ (looks : Looks (state old.log.device) (state new.log.device)) (number : new.log.number ≡ old.log.number) where
+      unwritten : ((r : Refusal) → a ≡ Refuse r → new.table ≡ old.table) → (changes_handles call ≡ false → new.table ≡ old.table)
+          → (a ≡ Refuse Halted → (old.log.halted ≡ true) ⊎ IsTrue (may_write call))
+          → (takes_no_memory call ≡ true → a ≡ Refuse NoMemory → ⊥) → (a ≡ Refuse Stuck → ⊥) → Behaves state old new call a
+      unwritten refused handles first_halted memory stuck = record {
+        refused = refused;
+        handles = handles;
+        first_halted = first_halted;
+        quiet = λ e. looks.untouched;
+        number = λ e. number;
+        few = omega arith;
+        memory = memory;
+        stuck = stuck;
+        told = tells_none old.log new.log (most_orders call (segments_of old)) looks.told;
+        one_commit = λ unclean clean. tells_none old.log new.log commit_orders looks.told;
+      }
+
+      -- the open files stay
+      pub kept_behaves : new.table ≡ old.table → IsOrdinary a → Behaves state old new call a
+      kept_behaves table ordinary = unwritten (λ r e. table) (λ e. table) (λ e. absurd (not_halted a ordinary e))
+          (λ takes. not_memory ordinary) (not_stuck ordinary)
+
+      -- a file is opened or closed
+      pub opens_behaves : changes_handles call ≡ true → is_ok a ≡ true → Behaves state old new call a
+      opens_behaves moves ok = unwritten (λ r e. absurd (ok_refuses_none ok e)) (λ e. absurd (not_both moves e))
+          (λ e. absurd (ok_refuses_none ok e)) (λ takes. ok_refuses_none ok) (ok_refuses_none ok)
 
     -- a call that may write, and leaves the open files
     pub write_behaves : IsTrue (may_write call) → new.table ≡ old.table → (a ≡ Refuse Stuck → ⊥)
@@ -186,34 +135,29 @@ module _ {D : Type 0} (state : D → DeviceState) where
       one_commit = bounded.one_commit;
     }
 
-    -- a call that opens or closes a file
-    module _ (moves : changes_handles call ≡ true) (ok : is_ok a ≡ true) where
-      -- it only reads
-      pub opens_behaves : Reads state old.log new.log → Behaves state old new call a
-      opens_behaves reads = record {
-        refused = λ r e. absurd (ok_refuses_none ok e);
-        handles = λ e. absurd (not_both moves e);
-        first_halted = λ e. absurd (ok_refuses_none ok e);
-        quiet = λ e. reads.looks.untouched;
-        number = λ e. reads.number;
-        few = (let same = reads.number in omega (arith, same));
-        memory = λ takes e. absurd (ok_refuses_none ok e);
-        stuck = λ e. absurd (ok_refuses_none ok e);
-        told = tells_none old.log new.log (most_orders call (segments_of old)) reads.looks.told;
-        one_commit = λ unclean clean. tells_none old.log new.log commit_orders reads.looks.told;
-      }
+    -- one that opens a file
+    pub makes_behaves : changes_handles call ≡ true → is_ok a ≡ true → IsTrue (may_write call) → IsBounded old new call
+        → Behaves state old new call a
+    makes_behaves moves ok may bounded = record {
+      refused = λ r e. absurd (ok_refuses_none ok e);
+      handles = λ e. absurd (not_both moves e);
+      first_halted = λ e. inr may;
+      quiet = λ e. absurd (not_both may e);
+      number = λ e. absurd (not_both may e);
+      few = bounded.few;
+      memory = λ takes. ok_refuses_none ok;
+      stuck = ok_refuses_none ok;
+      told = bounded.told;
+      one_commit = bounded.one_commit;
+    }
 
-      -- it may write
-      pub makes_behaves : IsTrue (may_write call) → IsBounded old new call → Behaves state old new call a
-      makes_behaves may bounded = record {
-        refused = λ r e. absurd (ok_refuses_none ok e);
-        handles = λ e. absurd (not_both moves e);
-        first_halted = λ e. inr may;
-        quiet = λ e. absurd (not_both may e);
-        number = λ e. absurd (not_both may e);
-        few = bounded.few;
-        memory = λ takes e. absurd (ok_refuses_none ok e);
-        stuck = λ e. absurd (ok_refuses_none ok e);
-        told = bounded.told;
-        one_commit = bounded.one_commit;
-      }
+  -- a volume that was halted
+  pub halted_behaves : (v : Mounted D) (call : Call) → v.log.halted ≡ true → Behaves state v v call (Refuse Halted)
+  halted_behaves v call was = unwritten call (Refuse Halted) (reads_none state v.log).looks refl (λ r e. refl) (λ e. refl) (λ e. inl was)
+      (λ takes e. cc) (λ e. cc)
+
+  -- nothing but reads, and memory was refused
+  pub memory_behaves : (old new : Mounted D) (call : Call) → IsStill state old new → takes_no_memory call ≡ false
+      → Behaves state old new call (Refuse NoMemory)
+  memory_behaves old new call still free = unwritten call (Refuse NoMemory) still.reads.looks still.reads.number (λ r e. still.table)
+      (λ e. still.table) (λ e. absurd (cc)) (λ takes e. not_both takes free) (λ e. cc)

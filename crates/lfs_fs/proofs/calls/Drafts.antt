@@ -1,21 +1,14 @@
 -- The ends of calls that draft and save, from the records of the store to the call as a step of the model.
-use Rattle.lfs_fs.proofs.Prelude.{◌≡◌, ◌≤◌, ◌<◌, ◌^◌, ℕ, Bool, true, false, ◌&&◌, refl, sym, ◌∙◌, subst, inr, arith, Call, Answer, Refuse}
-use Rattle.lfs_fs.proofs.Prelude.{commits, CheckpointValue, StandsForOn, DeviceState, IsLawful, Carries, LeavesOnly, IsLogMap, Refusal}
-use Rattle.lfs_fs.proofs.Prelude.{Halted, Point, StepsOr, acknowledges, LogMap, State, drop_nameless, LeavesOne, dropped, IsLogOf, Accepts}
-use Rattle.lfs_fs.proofs.Prelude.{Commits, Declines, HoldsNext, with_draft, Holds, AreTotals, BlockTotals, Draft, Behaves, IsAt, IsIn}
-use Rattle.lfs_fs.proofs.Prelude.{Mounted, Runs, Serves, segments_of, IsMapOf}
+use Rattle.lfs_fs.proofs.Prelude.{◌≡◌, ◌≤◌, ◌<◌, ◌^◌, ℕ, true, false, refl, sym, ◌∙◌, subst, inr, arith, Call, Answer, Refuse}
+use Rattle.lfs_fs.proofs.Prelude.{CheckpointValue, StandsForOn, DeviceState, IsLawful, Carries, LeavesOnly, IsLogMap, Refusal, Halted}
+use Rattle.lfs_fs.proofs.Prelude.{Point, StepsOr, acknowledges, LogMap, State, drop_nameless, LeavesOne, dropped, IsLogOf, Accepts, Commits}
+use Rattle.lfs_fs.proofs.Prelude.{Declines, HoldsNext, with_draft, Holds, AreTotals, BlockTotals, Draft, Behaves, IsAt, IsIn, Mounted, Runs}
+use Rattle.lfs_fs.proofs.Prelude.{Serves, segments_of, IsMapOf}
 use Rattle.lfs_store.specs.StoreState.{Fits}
 use Rattle.lfs_fs.proofs.volume.Map.{map_of_volume, runs_over}
 use Rattle.lfs_steps.proofs.volume.Stops.{stands_dropped}
-use Rattle.lfs_fs.proofs.calls.Exits.{goes_on_at, map_dropped, point_of}
-
--- a refusal is never acknowledged
-pub not_acknowledged : (call : Call) (r : Refusal) → acknowledges call (Refuse r) ≡ true → ⊥
-not_acknowledged call r e = no_commit (commits call) e
-  where
-    no_commit : (b : Bool) → (b && false) ≡ true → ⊥
-    no_commit true e = absurd (cc)
-    no_commit false e = absurd (cc)
+use Rattle.lfs_fs.proofs.calls.Exits.{goes_on_at, map_dropped, point_of, AtEach}
+pub use Rattle.lfs_fs.proofs.calls.Exits.{not_acknowledged}
 
 module _ {D : Type 0} (state : D → DeviceState) where
   -- What holds of each state that the volume may be in.
@@ -45,8 +38,7 @@ module _ {D : Type 0} (state : D → DeviceState) where
       pub saves : acknowledges call a ≡ true → LeavesOne (state new.log.device) (drop_nameless next)
 
     pub runs_on : {a : Answer} → (a ≡ Refuse Halted → ⊥) → Behaves state old new call a → new.log.halted ≡ false
-        → ((p : Point) → (state new.log.device).keeps_model → IsAt state old p → (k : CheckpointValue) (m0 m : LogMap)
-        → IsIn state old k m0 m p.state → EndsAt a p k m0 m)
+        → AtEach state old new (EndsAt a)
         → Serves state old new call a
     runs_on {a} fine behaves running each = record {
       carries = carries;
@@ -57,8 +49,8 @@ module _ {D : Type 0} (state : D → DeviceState) where
       model = λ p keeps at. (
           let r = at.running was in
           let end = each p keeps at r.checkpoint r.saved r.present r.is in
-          goes_on_at state new keeps lawful after carries r.is call a p at refl was running later
-          behaves fine end.runs end.steps end.moment end.saves);
+          goes_on_at state new keeps lawful after carries call p at r.is was later end.moment running behaves fine end.runs end.steps
+          end.saves);
     }
 
     -- ---- a draft is staged
@@ -73,8 +65,7 @@ module _ {D : Type 0} (state : D → DeviceState) where
         pub counted : AreTotals (with_draft d m) new.log.totals
         pub steps : StepsOr (segments_of old) call p a (point_of state new next)
 
-      pub accepts_by : Behaves state old new call a → ((p : Point) → (state new.log.device).keeps_model → IsAt state old p
-          → (k : CheckpointValue) (m0 m : LogMap) → IsIn state old k m0 m p.state → Drafts p m) → Serves state old new call a
+      pub accepts_by : Behaves state old new call a → AtEach state old new (λ p k m0 m. Drafts p m) → Serves state old new call a
       accepts_by behaves each = runs_on fine behaves (done.halted ∙ was) (λ p keeps at k m0 m is. (
           let drafts = each p keeps at k m0 m is in
           let log = map_dropped state new keeps lawful after carries is in record {
@@ -128,9 +119,9 @@ module _ {D : Type 0} (state : D → DeviceState) where
       not_halted : Refuse r ≡ Refuse Halted → ⊥
       not_halted e = fine (cc)
 
-      pub declines_by : Behaves state old new call (Refuse r) → ((p : Point) → (state new.log.device).keeps_model → IsAt state old p
-          → (k : CheckpointValue) (m0 m : LogMap) → IsIn state old k m0 m p.state
-          → Fits d m × StepsOr (segments_of old) call p (Refuse r) (point_of state new p.state)) → Serves state old new call (Refuse r)
+      pub declines_by : Behaves state old new call (Refuse r)
+          → AtEach state old new (λ p k m0 m. Fits d m × StepsOr (segments_of old) call p (Refuse r) (point_of state new p.state))
+          → Serves state old new call (Refuse r)
       declines_by behaves each = runs_on not_halted behaves (declines.halted ∙ was) (λ p keeps at k m0 m is. (
           let both = each p keeps at k m0 m is in
           let log = map_dropped state new keeps lawful after carries is in record {

@@ -1,13 +1,20 @@
 -- Calls that only read, a call that opens a file, and calls that a fault ends, as steps of the model.
 use Rattle.lfs_fs.proofs.Prelude.{◌≡◌, ◌+◌, ◌*◌, ℕ, Bool, true, false, ◌&&◌, refl, inl, inr, Answer, Call, Refuse, Room, Space, changes}
 use Rattle.lfs_fs.proofs.Prelude.{cleans, commits, is_ok, takes_no_memory, DeviceState, IsLawful, Refusal, Step, TotalsOfTree, IsStill}
-use Rattle.lfs_fs.proofs.Prelude.{Mounted, Serves, segments_of}
+use Rattle.lfs_fs.proofs.Prelude.{Mounted, Serves, segments_of, acknowledges, ap, LogMap, State, CheckpointValue, IsIn, Worn, ◌<◌, ◌≤◌, ◌^◌}
+use Rattle.lfs_fs.proofs.Prelude.{arith}
 use Rattle.lfs_model.specs.Refusal.{NoMemory}
 use Rattle.lfs_fs.proofs.calls.AnyDevice.{IsOrdinary, memory_behaves}
-use Rattle.lfs_fs.proofs.calls.Steps.{never_worn, refused_not_worn, space_step}
+use Rattle.lfs_fs.proofs.calls.Steps.{never_worn, refused_not_worn, space_step, not_worn}
 use Rattle.lfs_fs.proofs.calls.Drafts.{InEach, not_acknowledged}
 use Rattle.lfs_fs.proofs.volume.Map.{headers_of_volume, map_of_volume}
 use Rattle.lfs_fs.proofs.calls.Exits.{served_by, served_still}
+use Rattle.lfs_model.specs.Run.{WouldBeOk}
+
+-- What holds of each state that the volume may be in, where the device keeps the model to the end.
+abbrev Each : {D : Type 0} → (D → DeviceState) → Mounted D → Mounted D → (State → Type 0) → Type 0
+Each state old new P = (k : CheckpointValue) (m0 m : LogMap) (s : State) → (state new.log.device).keeps_model → IsIn state old k m0 m s
+    → P s
 
 -- ---- faults
 
@@ -21,22 +28,31 @@ module _ {D : Type 0} {state : D → DeviceState} {old new : Mounted D} {call : 
 
   -- a refusal of the model's, where nothing has changed
   pub refused_serves : {r : Refusal} → IsOrdinary (Refuse r) → cleans call ≡ false
-      → InEach state old (λ m s. Step (segments_of old) s call (Refuse r) s) → Serves state old new call (Refuse r)
+      → Each state old new (λ s. Step (segments_of old) s call (Refuse r) s) → Serves state old new call (Refuse r)
   refused_serves {r} ordinary unclean steps =
       served_still state call lawful still was ordinary (λ p keeps here k m0 m is. (
-      let step = steps k m0 m p.state (still.reads.looks.carries.kept_before keeps) is in
+      let step = steps k m0 m p.state keeps is in
       inl (step, refused_not_worn (segments_of old) p step unclean))) (not_acknowledged call r)
+
+  -- a change that changes nothing is made below the last number,
+  pub done_serves : {a : Answer} → IsOrdinary a → (acknowledges call a ≡ true → ⊥) → old.log.number < 2 ^ 62
+      → Each state old new (λ s. Step (segments_of old) s call a s) → Serves state old new call a
+  done_serves ordinary none low steps = served_still state call lawful still was ordinary (λ p keeps here k m0 m is.
+      inl (steps k m0 m p.state keeps is, not_worn (segments_of old) call p (let n = here.number in omega (arith, n, low)))) none
+
+  -- and none is from there on
+  pub worn_serves : changes call ≡ true → 2 ^ 62 ≤ old.log.number → Each state old new (λ s. WouldBeOk (segments_of old) s call)
+      → Serves state old new call (Refuse Worn)
+  worn_serves change high would = served_still state call lawful still was tt (λ p keeps here k m0 m is.
+      inr (Worn, refl, ((let n = here.number in omega (arith, n, high)), inr (change, would k m0 m p.state keeps is)), refl))
+      (not_acknowledged call Worn)
 
   -- an answer of the model's to a call that changes nothing, and commits nothing
   pub told_serves : {a : Answer} → IsOrdinary a → changes call ≡ false → cleans call ≡ false → commits call ≡ false
       → InEach state old (λ m s. Step (segments_of old) s call a s) → Serves state old new call a
   told_serves {a} ordinary leaves unclean free steps = served_still state call {a = a} lawful still was ordinary (λ p keeps here k m0 m is.
       inl (steps k m0 m p.state (still.reads.looks.carries.kept_before keeps) is, never_worn (segments_of old) call p leaves unclean))
-      (λ e. (let no = free in absurd (none (commits call) free e)))
-    where
-      none : (b : Bool) → b ≡ false → (b && is_ok a) ≡ true → ⊥
-      none true off e = cc
-      none false off e = cc
+      (λ e. let no : acknowledges call a ≡ false = ap (λ (b : Bool). b && is_ok a) free in cc)
 
 -- ---- space
 

@@ -100,18 +100,8 @@ module _ {N : ℕ} (m : LogMap) (s : State) (is : IsMapOf N m s) where
         needs : need (written N s h at w) ≡ blocks + 7 * others + 720
         needs = written_need m m' s h n is opens head there w writes end totals shaped counted
 
-        pwrite_full : 47 * N < blocks + 7 * others + 720 → Step N s (Pwrite h at w) (Refuse NoSpace) s
-        pwrite_full lacks = write_no_space N s h at w n opens few some end (let same = needs in omega (arith, same, lacks))
-
-        module _ (room : blocks + 7 * others + 720 ≤ 47 * N) where
-          fits_in : need (written N s h at w) ≤ 47 * N
-          fits_in = let same = needs in omega (arith, same, room)
-
-          pwrite_step : Step N s (Pwrite h at w) (Count (length w)) (with_tree s (written N s h at w))
-          pwrite_step = write_done N s h at w n opens few some end fits_in
-
-          pwrite_map : AreBytes w → IsMapOf N m' (with_tree s (written N s h at w))
-          pwrite_map bytes = written_map m m' s h n is opens head there w writes end bytes fits_in
+        fits_in : blocks + 7 * others + 720 ≤ 47 * N → need (written N s h at w) ≤ 47 * N
+        fits_in room = let same = needs in omega (arith, same, room)
 
         -- with room it is done, and without refused
         pub pwrite_ends : (47 * N < blocks + 7 * others + 720
@@ -120,4 +110,8 @@ module _ {N : ℕ} (m : LogMap) (s : State) (is : IsMapOf N m s) where
             → Step N s (Pwrite h at w) (Count (length w)) (with_tree s (written N s h at w)))
             × (AreBytes w → blocks + 7 * others + 720 ≤ 47 * N
             → IsMapOf N m' (with_tree s (written N s h at w)))
-        pwrite_ends = (pwrite_full, pwrite_step, λ bytes room. pwrite_map room bytes)
+        pwrite_ends = (
+          λ lacks. write_no_space N s h at w n opens few some end (let same = needs in omega (arith, same, lacks)),
+          λ room. write_done N s h at w n opens few some end (fits_in room),
+          λ bytes room. written_map m m' s h n is opens head there w writes end bytes (fits_in room),
+        )

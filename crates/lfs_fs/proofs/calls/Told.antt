@@ -1,54 +1,45 @@
 -- The ends of a call that finishes a draft, by what is told of it.
 use Rattle.lfs_fs.proofs.Prelude.{◌≡◌, ℕ, true, false, Result, Ok, Err, refl, ap, IfErr, OnOk, Answer, Call, Done, Refuse, changes, cleans}
-use Rattle.lfs_fs.proofs.Prelude.{is_ok, never_for_device, takes_no_memory, DeviceState, IsLawful, Handles, FilesState, Draft, Store}
-use Rattle.lfs_fs.proofs.Prelude.{StagedLog, files_of, GrowsDirectory, EntryFault, FsError, Fs, error_of_entry, Finishes, refusal_of}
-use Rattle.lfs_fs.proofs.Prelude.{answer_by, seen, Behaves, Mounted, Serves, segments_of}
-use Rattle.lfs_files.specs.Files as files
+use Rattle.lfs_fs.proofs.Prelude.{is_ok, never_for_device, takes_no_memory, DeviceState, IsLawful, Handles, FilesState, Store, files_of}
+use Rattle.lfs_fs.proofs.Prelude.{GrowsDirectory, EntryFault, FsError, Fs, error_of_entry, Finishes, refusal_of, answer_by, seen, Behaves}
+use Rattle.lfs_fs.proofs.Prelude.{Mounted, Serves, segments_of}
 use Rattle.lfs_entries.specs.declared.fault.EntryFault.TheVariants as fault
 use Rattle.lfs_entries.specs.Telling.{DraftsOnly, FailsAt}
 use Rattle.lfs_fs.proofs.calls.AnyDevice.{IsBounded}
-use Rattle.lfs_fs.proofs.calls.Files.{EndsWith, Explains, InEach, IsBegun, Makes, Rose, finish_ends, finish_opens, finish_turned, gives_up}
-use Rattle.lfs_fs.proofs.calls.Files.{rose_where, still_ready, with_store}
+use Rattle.lfs_fs.proofs.calls.Files.{EndsWith, Explains, In, IsBegun, MakesNext, RedraftsTo, Rose, finish_ends, finish_opens}
+use Rattle.lfs_fs.proofs.calls.Files.{finish_turned, gives_up, has_in, risen, still_ready, with_store}
+use Rattle.lfs_fs.proofs.write.Ends.{with_open}
 
--- a volume with these open files
-abbrev pub with_open : {D : Type 0} → Fs D → Handles → Mounted D
-with_open f table = record { log = (seen f).log; table = table }
+-- what is told of a draft that has P and Q where it is whole, and grows by so many headers and blocks at most
+abbrev pub DraftTold : {S D : Type 0} → FilesState S D → FilesState S D → ℕ → ℕ → Type 0 → Type 0 → Result (Unit {0}) EntryFault → Type 0
+DraftTold s s' headers blocks P Q draft = record {
+  only : DraftsOnly s s' draft;
+  done : OnOk draft P;
+  small : OnOk draft (GrowsDirectory s s' headers blocks);
+  counted : OnOk draft Q;
+  failed : IfErr draft (FailsAt s s');
+}
 
-module _ {D : Type 0} (state : D → DeviceState) (lawful : (d : D) → IsLawful (state d)) (v : Mounted D) (f : Fs D)
-    (begun : IsBegun state v f) (store : Store D) where
-  abbrev s : FilesState StagedLog Draft
-  s = files_of state f.store
+module _ {D : Type 0} {state : D → DeviceState} (lawful : (d : D) → IsLawful (state d)) {v : Mounted D} {f : Fs D}
+    (begun : IsBegun state v f) (store : Store D) (redrafts : RedraftsTo state f store) where
+  abbrev Told : ℕ → ℕ → Type 0 → Type 0 → Result (Unit {0}) EntryFault → Type 0
+  Told = DraftTold (files_of state f.store) (files_of state store)
 
-  abbrev s' : FilesState StagedLog Draft
-  s' = files_of state store
-
-  -- what is told of a draft that has P and Q where it is whole, and grows by so many headers and blocks at most
-  abbrev pub DraftTold : ℕ → ℕ → Type 0 → Type 0 → Result (Unit {0}) EntryFault → Type 0
-  DraftTold headers blocks P Q draft = record {
-    only : DraftsOnly s s' draft;
-    done : OnOk draft P;
-    small : OnOk draft (GrowsDirectory s s' headers blocks);
-    counted : OnOk draft Q;
-    failed : IfErr draft (FailsAt s s');
-  }
-
-  module _ (redrafts : files.Redrafts s s') (call : Call) (change : changes call ≡ true) (free : never_for_device call ≡ false)
+  module _ (call : Call) (change : changes call ≡ true) (free : never_for_device call ≡ false)
       (memory : takes_no_memory call ≡ false) (unclean : cleans call ≡ false) (headers blocks : ℕ) {P Q : Type 0}
-      (makes : P → Q → InEach state lawful v f begun store (Makes state lawful v f begun store redrafts call change free memory unclean))
+      (makes : P → Q → In state v (with_store f store) (MakesNext state v (with_store f store) call))
       (new : Fs D) (rest : new.handles ≡ f.handles) where
     -- the draft isn't whole
-    failed : (why : EntryFault) → DraftTold headers blocks P Q (Err why) → (result : Result (Unit {0}) FsError)
+    failed : (why : EntryFault) → Told headers blocks P Q (Err why) → (result : Result (Unit {0}) FsError)
         → Finishes state (with_store f store) new (Err why) result → Serves state v (seen new) call (answer_by (λ _. Done) result)
     failed why draft result finishes =
         gives_up state lawful v f begun store (still_ready state lawful v f begun store redrafts) call free unclean memory
         finishes (λ e. draft.only.halted (ap Err e)) (λ e. draft.only.other (ap Err e)) (explains why draft.failed) Done
       where
-        explains : (why : EntryFault) → FailsAt s s' why → InEach state lawful v f begun store
-            (λ m s. Explains call (segments_of v) s (Rose state lawful v f begun store) why)
+        explains : (why : EntryFault) → FailsAt (files_of state f.store) (files_of state store) why
+            → In state v (with_store f store) (λ m s. Explains call (segments_of v) s (Rose state v store) why)
         explains fault.NoMemory fails k m0 m st keeps is = tt
-        explains (fault.Log why) fails k m0 m st keeps is =
-            rose_where state lawful v f begun store (still_ready state lawful v f begun store redrafts) (λ m. Unit {0})
-            (λ m m' keeps has u. fails m m' keeps has) k m0 m st keeps is tt
+        explains (fault.Log why) fails k m0 m st keeps is = risen begun store (fails m m keeps (has_in begun is))
         explains other fails k m0 m st keeps is = absurd fails
 
     abbrev pub EndsSo : Answer → Handles → Type 0
@@ -56,7 +47,7 @@ module _ {D : Type 0} (state : D → DeviceState) (lawful : (d : D) → IsLawful
         → EndsWith state lawful v f begun store redrafts call change free memory unclean (makes p q) new rest a a table
 
     -- the open files stay
-    pub told_ends : EndsSo Done v.table → (draft : Result (Unit {0}) EntryFault) → DraftTold headers blocks P Q draft
+    pub told_ends : EndsSo Done v.table → (draft : Result (Unit {0}) EntryFault) → Told headers blocks P Q draft
         → (result : Result (Unit {0}) FsError) → Finishes state (with_store f store) new draft result
         → Serves state v (seen new) call (answer_by (λ _. Done) result)
     told_ends ends (Ok u) draft result finishes = finish_ends state lawful v f begun store redrafts call change free memory unclean
@@ -64,7 +55,7 @@ module _ {D : Type 0} (state : D → DeviceState) (lawful : (d : D) → IsLawful
     told_ends ends (Err why) draft result finishes = failed why draft result finishes
 
     -- or the call was to open the file: it is refused,
-    pub told_turned : (draft : Result (Unit {0}) EntryFault) → DraftTold headers blocks P Q draft → (e : FsError)
+    pub told_turned : (draft : Result (Unit {0}) EntryFault) → Told headers blocks P Q draft → (e : FsError)
         → Finishes state (with_store f store) new draft (Err e) → Serves state v (seen new) call (Refuse (refusal_of e))
     told_turned (Ok u) draft e finishes = finish_turned state lawful v f begun store redrafts call change free memory unclean
         (makes draft.done draft.counted) new rest Done e finishes.refused
@@ -74,7 +65,7 @@ module _ {D : Type 0} (state : D → DeviceState) (lawful : (d : D) → IsLawful
     pub told_opens : (a : Answer) → is_ok a ≡ true → (table : Handles) → EndsSo a table
         → (IsBounded state v (with_open new table) call → Behaves state v (with_open new table) call a)
         → (draft : Result (Unit {0}) EntryFault)
-        → DraftTold headers blocks P Q draft → (u : Unit {0}) → Finishes state (with_store f store) new draft (Ok u)
+        → Told headers blocks P Q draft → (u : Unit {0}) → Finishes state (with_store f store) new draft (Ok u)
         → Serves state v (with_open new table) call a
     told_opens a ok table ends behaves (Ok done) draft u finishes =
         finish_opens state lawful v f begun store redrafts call change free memory unclean (makes draft.done draft.counted) new rest a ok

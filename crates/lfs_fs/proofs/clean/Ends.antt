@@ -12,6 +12,9 @@ use Rattle.lfs_store.specs.cleaner.Room.{FailsRoom, LacksRoom, MakesRoom}
 use Rattle.lfs_store.proofs.Acceptings.{room_holds}
 use Rattle.lfs_fs.specs.declared.error.FsError.TheVariants as error
 use Rattle.lfs_fs.proofs.calls.AnyDevice.{clean_bounded, write_behaves}
+use Rattle.lfs_fs.proofs.Prelude.{Err, Ok, Result}
+use Rattle.lfs_store.specs.Outcomes.{RoomMade}
+use Rattle.lfs_fs.proofs.calls.Files.{with_store}
 use Rattle.lfs_fs.proofs.calls.Steps.{not_worn}
 use Rattle.lfs_fs.proofs.calls.Drafts.{IsRest, counted_still, runs_on}
 use Rattle.lfs_fs.proofs.volume.Map.{map_of_volume, runs_over}
@@ -20,22 +23,17 @@ use Rattle.lfs_fs.proofs.clean.Room.{has_room}
 use Rattle.lfs_fs.proofs.calls.Exits.{map_dropped, point_of, served_still}
 use Rattle.lfs_fs.proofs.write.Ends.{halts_serves, still_none}
 
-module _ {D : Type 0} (state : D → DeviceState) (lawful : (d : D) → IsLawful (state d)) where
+module _ {D : Type 0} {state : D → DeviceState} (lawful : (d : D) → IsLawful (state d)) where
   -- one pass gives the device no more than where room is made
   pub once_tells : (old new : LogState D) → IsSegmentCount old.segments
       → TellsAtMost state old new (once_orders old.segments)
       → TellsAtMost state old new (room_orders old.segments)
-  once_tells old new count tells =
-      let within = once_within count in
-      more (once_orders old.segments) (room_orders old.segments) within tells
-    where
-      more : (few many : ℕ) → few ≤ many → TellsAtMost state old new few → TellsAtMost state old new many
-      more few many le tells = omega (arith, le, tells)
+  once_tells old new count tells = let within = once_within count in omega (arith, within, tells)
 
   -- past the last number nothing is cleaned
-  pub worn_serves : (v : Mounted D) → v.log.halted ≡ false → {fault : FsError} → fault ≡ error.Worn → 2 ^ 62 ≤ v.log.number
+  pub worn_serves : {v : Mounted D} → v.log.halted ≡ false → {fault : FsError} → fault ≡ error.Worn → 2 ^ 62 ≤ v.log.number
       → Serves state v v Clean (Refuse (refusal_of fault))
-  worn_serves v was is high = subst (λ (e : FsError). Serves state v v Clean (Refuse (refusal_of e))) (sym is)
+  worn_serves {v} was is high = rw is
       (served_still state Clean {a = Refuse Worn} (lawful v.log.device) (still_none state lawful v) was tt (λ p keeps here k m0 m is.
       inr (Worn, refl, ((let q = here.number in omega (arith, q, high)), inl refl), refl))
       (λ e. cc))
@@ -90,36 +88,24 @@ module _ {D : Type 0} (state : D → DeviceState) (lawful : (d : D) → IsLawful
           absurd (cannot k m0 m keeps (has_room (lawful old.log.device) low k m0 m is)))
 
   -- ---- the call
-  module _ (old : Fs D) (store : Store D) (was : (seen old).log.halted ≡ false) (totals : (volume_of store).totals ≡ (seen old).log.totals)
-      (low : (seen old).log.number < 2 ^ 62)
+  module _ (old : Fs D) (store : Store D) (was : (seen old).log.halted ≡ false) {result : Result (Unit {0}) LogFault}
+      (made : RoomMade state old.store store result) (low : (seen old).log.number < 2 ^ 62)
       (tells : TellsAtMost state (seen old).log (volume_of store) (room_orders (segments_of (seen old)))) where
     abbrev new : Fs D
-    new = record { alloc = old.alloc; store = store; handles = old.handles }
+    new = with_store old store
 
     rest : IsRest state (seen old) (seen new)
-    rest = record { totals = totals; table = refl }
+    rest = record { totals = made.keeps.totals; table = refl }
 
-    pub cleaned_serves : MakesRoom state (seen old).log (volume_of store)
-        → Serves state (seen old) (seen new) Clean Done
-    cleaned_serves room = clean_done_serves (seen old) (seen new) was rest low tells room
+    pub cleaned_serves : result ≡ Ok tt → Serves state (seen old) (seen new) Clean Done
+    cleaned_serves is = clean_done_serves (seen old) (seen new) was rest low tells (rw is at made.done)
 
-    clean_fault : (fault : LogFault) → (fault ≡ log.Full → LacksRoom state (seen old).log (volume_of store))
-        → (fault ≡ log.Device → FailsRoom state (seen old).log (volume_of store))
-        → (fault ≡ log.Halted → HaltsLater state (seen old).log (volume_of store) (most_checkpoints (seen old).log))
+    pub clean_fails : {fault : LogFault} → result ≡ Err fault
         → Serves state (seen old) (seen new) Clean (Refuse (refusal_of (error_of_log fault)))
-    clean_fault log.Full full device halted =
-        let lacks = full refl in clean_full_serves (seen old) (seen new) was rest low tells lacks.makes lacks.never
-    clean_fault log.Device full device halted =
-        let fails = device refl in clean_failed_serves (seen old) (seen new) was rest low tells fails.makes fails.fault
-    clean_fault log.Halted full device halted =
-        halts_serves state lawful (seen old) Clean was refl refl
-        (few_checkpoints (seen old).log) (λ few. clean_bounded state (seen old) (seen new) few tells) (halted refl)
-
-    pub clean_fails : (fault : LogFault) {e : FsError} → e ≡ error_of_log fault
-        → (fault ≡ log.Full → LacksRoom state (seen old).log (volume_of store))
-        → (fault ≡ log.Device → FailsRoom state (seen old).log (volume_of store))
-        → (fault ≡ log.Halted → HaltsLater state (seen old).log (volume_of store) (most_checkpoints (seen old).log))
-        → Serves state (seen old) (seen new) Clean (Refuse (refusal_of e))
-    clean_fails fault is full device halted =
-        subst (λ (x : FsError). Serves state (seen old) (seen new) Clean (Refuse (refusal_of x))) (sym is)
-        (clean_fault fault full device halted)
+    clean_fails {fault = log.Full} is =
+        let lacks = made.full is in clean_full_serves (seen old) (seen new) was rest low tells lacks.makes lacks.never
+    clean_fails {fault = log.Device} is =
+        let fails = made.device is in clean_failed_serves (seen old) (seen new) was rest low tells fails.makes fails.fault
+    clean_fails {fault = log.Halted} is =
+        halts_serves state lawful (seen old) Clean was refl refl (few_checkpoints (seen old).log)
+        (λ few. clean_bounded state (seen old) (seen new) few tells) (made.halted is (λ halted. cc))

@@ -1,20 +1,19 @@
 -- A further name that a call drafted, as a step of the model.
 use Rattle.lfs_fs.proofs.Prelude.{◌≡◌, ◌≤◌, ◌*◌, ℕ, List, Result, refl, sym, ◌∙◌, ap, arith, Done, LinkTo, DeviceState, IsLawful, need}
-use Rattle.lfs_fs.proofs.Prelude.{with_tree, FilesState, Draft, Store, StagedLog, files_of, totals_of_tree, drafted_of, Last, EntryFault}
-use Rattle.lfs_fs.proofs.Prelude.{FsError, Fs, need_of, Finishes, answer_by, seen, Mounted, Serves, segments_of, IsLink, need_shaped}
+use Rattle.lfs_fs.proofs.Prelude.{with_tree, FilesState, Draft, Store, StagedLog, files_of, totals_of_tree, Last, EntryFault, FsError, Fs}
+use Rattle.lfs_fs.proofs.Prelude.{need_of, Finishes, answer_by, seen, Mounted, Serves, segments_of, IsLink, need_shaped}
 use Rattle.lfs_model.proofs.Keeps.{link_keeps}
 use Rattle.lfs_files.specs.declared.header.Header.{Header}
-use Rattle.lfs_files.specs.Files as files
-use Rattle.lfs_entries.specs.NewNames.{CountsName, DraftsName, HasFurther}
-use Rattle.lfs_fs.proofs.calls.Files.{InEach, IsBegun, Makes, apart_now, counted_now, fits_now, has_now, with_store}
+use Rattle.lfs_entries.specs.NewNames.{CountsName, DraftsName}
+use Rattle.lfs_fs.proofs.calls.Files.{In, IsBegun, MakesNext, RedraftsTo, apart_now, counted_now, fits_now, has_in, with_store}
 use Rattle.lfs_steps.proofs.link.Maps.{few_links, linked_map, linked_shape, linked_tree, takes}
 use Rattle.lfs_steps.proofs.link.Steps.{link_done, link_no_space, linked}
 use Rattle.lfs_fs.proofs.calls.Told.{DraftTold, told_ends}
 
 module _ {D : Type 0} (state : D → DeviceState) (lawful : (d : D) → IsLawful (state d)) (v : Mounted D) (f : Fs D)
-    (begun : IsBegun state v f) (store : Store D) (redrafts : files.Redrafts (files_of state f.store) (files_of state store))
+    (begun : IsBegun state v f) (store : Store D) (redrafts : RedraftsTo state f store)
     (a b : List ℕ) (da d : ℕ) (l : Last) (head : Header) (n : ℕ) (object : Header)
-    (may : InEach state lawful v f begun store (λ m s. IsLink (segments_of v) m s a b da d l head n object)) where
+    (may : In state v (with_store f store) (λ m s. IsLink (segments_of v) m s a b da d l head n object)) where
   abbrev N : ℕ
   N = segments_of v
 
@@ -28,12 +27,12 @@ module _ {D : Type 0} (state : D → DeviceState) (lawful : (d : D) → IsLawful
   after = with_store f store
 
   makes : DraftsName s s' d head n object l.name.now → CountsName s s' n object
-      → InEach state lawful v f begun store (Makes state lawful v f begun store redrafts (LinkTo a b) refl refl refl refl)
+      → In state v after (MakesNext state v after (LinkTo a b))
   makes drafts counts k m0 m st keeps is =
       let g = may k m0 m st keeps is in
       let at = g.enters.at in
-      let here : s.has m m = has_now state lawful v f begun is in
-      let made : HasFurther s' m m d head n object l.name.now = drafts.has m m keeps here in
+      let here = has_in begun is in
+      let made = drafts.has m m keeps here in
       let shape = linked_shape g made.links made.names in
       let counted = counts m m made.map keeps here made.has at.map.map g.names.there shape.map (counted_now state lawful v f begun is) in
       let needs : need (linked N st a b n d) ≡ need_of after
@@ -55,9 +54,9 @@ module _ {D : Type 0} (state : D → DeviceState) (lawful : (d : D) → IsLawful
       }
 
   pub link_ends : (new : Fs D) → new.handles ≡ f.handles → (draft : Result (Unit {0}) EntryFault)
-      → DraftTold state lawful v f begun store 2 2 (DraftsName s s' d head n object l.name.now) (CountsName s s' n object) draft
+      → DraftTold s s' 2 2 (DraftsName s s' d head n object l.name.now) (CountsName s s' n object) draft
       → (result : Result (Unit {0}) FsError) → Finishes state after new draft result
       → Serves state v (seen new) (LinkTo a b) (answer_by (λ _. Done) result)
   unfolding makes
-  link_ends new rest = told_ends state lawful v f begun store redrafts (LinkTo a b) refl refl refl refl 2 2 makes new rest
+  link_ends new rest = told_ends lawful begun store redrafts (LinkTo a b) refl refl refl refl 2 2 makes new rest
       (λ drafts counts k m0 m st keeps is. (refl, is.handles))

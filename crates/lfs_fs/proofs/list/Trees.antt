@@ -38,9 +38,9 @@ module _ {D : Type 0} {state : D → DeviceState} (lawful : (d : D) → IsLawful
   -- all are there
   pub tree_gives : a ≡ 4096 → Serves state v (seen f) ListTree (Rows (map row_of rows))
   tree_gives last = answers lawful so.begun quiet tt
-      (λ k m0 m s keeps is. subst (λ (x : List ModelRow). Step (segments_of v) s ListTree (Rows x) s)
-      (sym (sym (append-nil (map row_of rows)) ∙ ap (λ (l : List ModelRow). map row_of rows ++ l) (sym (rows_end s.tree a last))
-      ∙ so.tells k m0 m s keeps is))
+      (λ k m0 m s keeps is.
+      rw (sym (append-nil (map row_of rows)) ∙ ap (λ (l : List ModelRow). map row_of rows ++ l) (sym (rows_end s.tree a last))
+      ∙ so.tells k m0 m s keeps is)
       (tree_done (segments_of v) s))
 
   module _ (store : Store D) (reads : ReadsTo state f store) where

@@ -17,11 +17,11 @@ use Rattle.lfs_fs.proofs.calls.Exits.{point_of}
 module _ {old new : DeviceState} (looks : Looks old new) where
   -- the tables lead to what is still there
   pub tables_there : {t : Tables} → (new.keeps_model → HasTree old.content t) → new.keeps_model → HasTables new.content t
-  tables_there {t} has keeps = subst (λ (c : Content). HasTables c t) (sym looks.untouched.content) (has keeps).tables
+  tables_there {t} has keeps = rw looks.untouched.content (has keeps).tables
 
   -- and all of it is durable
   pub only_there : (new.keeps_model → Only old.content new) → new.keeps_model → Only new.content new
-  only_there durable keeps = subst (λ (c : Content). Only c new) (sym looks.untouched.content) (durable keeps)
+  only_there durable keeps = rw looks.untouched.content (durable keeps)
 
 -- a content stands for the tree of its log map
 state_found : {c : Content} (t : Tables) → HasTree c t → (s : State) × Stands c s
@@ -47,18 +47,14 @@ module _ {D : Type 0} (state : D → DeviceState) (d : D) {d' : D} (lawful : IsL
     (mounts : Mounts state d' (seen v).log) (counts : MountsTotals state d' (seen v).log (seen v).log.totals)
     (durable : (state d').keeps_model → Only (state d).content (state d')) where
   mounts_first : Mounts state d (seen v).log
-  mounts_first =
-      subst (λ (c : Content). (m : LogMap) → (state (seen v).log.device).keeps_model → (is : StandsLog c m)
-      → Holds state (seen v).log is.checkpoint m m) looks.untouched.content mounts
+  mounts_first = rw looks.untouched.content at mounts
 
   counts_first : MountsTotals state d (seen v).log (seen v).log.totals
-  counts_first =
-      subst (λ (c : Content). (m : LogMap) → (state (seen v).log.device).keeps_model → StandsLog c m → AreTotals m (seen v).log.totals)
-      looks.untouched.content counts
+  counts_first = rw looks.untouched.content at counts
 
   -- all that was there is durable
   pub durable_now : (state (seen v).log.device).keeps_model → Only (state d).content (state (seen v).log.device)
-  durable_now = subst (λ (x : D). (state x).keeps_model → Only (state d).content (state x)) (sym same) durable
+  durable_now = rw same durable
 
   module _ (saved : (seen v).log.saved ≡ true) (closed : v.handles ≡ []) where
     -- the volume is in the state that the content stands for
@@ -75,7 +71,7 @@ module _ {D : Type 0} (state : D → DeviceState) (d : D) {d' : D} (lawful : IsL
     -- and it stands for one
     pub finds_state : {t : Tables} → ((state d').keeps_model → HasTree (state d).content t) → FindsState state d v
     finds_state {t} has keeps =
-        let found = state_found t (has (subst (λ (x : D). (state x).keeps_model) same keeps)) in
+        let found = state_found t (has (rw same at keeps)) in
         (found.0, found.1, mounts_fs found.0 keeps found.1)
 
 -- ---- where memory is refused behind the walk

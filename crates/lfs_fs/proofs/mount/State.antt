@@ -33,10 +33,10 @@ module _ {D : Type 0} (state : D → DeviceState) (d : D) (v : Mounted D) (mount
   found_in closed counted saved = record {
     holds = found_holds;
     map = found_map;
-    log = subst (λ (n : ℕ). IsLogOf n is.log s) (sym same_segments) (mounted_log (state d).content all s is);
+    log = rw same_segments (mounted_log (state d).content all s is);
     handles = is.closed ∙ sym closed;
     counted = counted;
-    acknowledged = subst (λ (n : ℕ). IsTree n is.log) (sym same_segments) is.tree.tree;
+    acknowledged = rw same_segments is.tree.tree;
     ready = λ e. absurd (let s = saved in cc);
   }
 
@@ -48,5 +48,5 @@ module _ {D : Type 0} (state : D → DeviceState) (d : D) (v : Mounted D) (mount
     number = refl;
     failures = refl;
     running = λ e. record { checkpoint = is.checkpoint; saved = is.log; present = is.log; is = found_in closed counted saved };
-    leaves = λ c left. (s, subst (λ x. Stands x s) (sym (only c left)) is);
+    leaves = λ c left. (s, rw (only c left) is);
   }

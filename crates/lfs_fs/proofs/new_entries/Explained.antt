@@ -1,8 +1,8 @@
 -- What the rule of a new entry takes, and why it takes none, as the model sees it in one state.
-use Rattle.lfs_fs.proofs.Prelude.{not, ◌&&◌, ◌≡◌, ℕ, Bool, false, List, length, Option, Some, None, ◌∙◌, ap, subst, ⊎_elim, arith, Call}
-use Rattle.lfs_fs.proofs.Prelude.{IsName, LogMap, State, FilesState, Last, is_dots, HasHeader, TellsFault, EntryFault, IsHolder, LooksUp}
-use Rattle.lfs_fs.proofs.Prelude.{RefusesEntry, TakesEntry, InEach, ChecksNew, new_dots, IsReached, dots_is, free_is, full_is, long_is}
-use Rattle.lfs_fs.proofs.Prelude.{piece_is, short_is, slash_is, there_is}
+use Rattle.lfs_fs.proofs.Prelude.{◌<◌, not, ◌&&◌, ◌≡◌, ℕ, Bool, false, List, length, Option, Some, None, ◌∙◌, ap, subst, ⊎_elim, arith}
+use Rattle.lfs_fs.proofs.Prelude.{Call, IsName, LogMap, State, FilesState, Last, is_dots, EntryFault, LooksUp, RefusesEntry, TakesEntry}
+use Rattle.lfs_fs.proofs.Prelude.{ChecksNew, new_dots, IsReached, dots_is, free_is, full_is, long_is, piece_is, short_is, slash_is}
+use Rattle.lfs_fs.proofs.Prelude.{there_is, holder}
 use Rattle.lfs_model.specs.Step.{is_long}
 use Rattle.lfs_model.specs.PathText.{slash}
 use Rattle.lfs_model.specs.Tree.{name_len}
@@ -16,7 +16,7 @@ use Rattle.lfs_steps.proofs.paths.Named.{dir}
 use Rattle.lfs_steps.proofs.volume.Directories.{limit_in_directory}
 
 module _ {S D : Type 0} (a b : FilesState S D) {N : ℕ} {m : LogMap} {s : State} {p : List ℕ} {d : ℕ} {l : Last}
-    (g : IsReached N m s p d l) (see : (P : LogMap → Type 0) → InEach a b P → P m) (is_mkdir : Bool) where
+    (g : IsReached N m s p d l) (keeps : b.device.keeps_model) (has : a.has m m) (is_mkdir : Bool) where
   -- a slash behind the name, where none may be
   slashed : (slash p && not is_mkdir) ≡ (l.slash && not is_mkdir)
   slashed = ap (λ (x : Bool). x && not is_mkdir) (slash_is g)
@@ -24,7 +24,7 @@ module _ {S D : Type 0} (a b : FilesState S D) {N : ℕ} {m : LogMap} {s : State
   -- ---- it takes an entry
   module _ (head : Header) (takes : TakesEntry a b d l.name.now l.slash is_mkdir head) where
     new_looks : LooksUp m d l.name.now head None
-    new_looks = see (λ x. LooksUp x d l.name.now head None) takes.looks
+    new_looks = takes.looks m m keeps has
 
     pub is_taken : IsTaken s p d is_mkdir
     is_taken = record {
@@ -37,7 +37,7 @@ module _ {S D : Type 0} (a b : FilesState S D) {N : ℕ} {m : LogMap} {s : State
 
   -- ---- it takes none
   looks_at : {found : Option ℕ} (gives : Gives a b d l.name.now found) → LooksUp m d l.name.now gives.head found
-  looks_at {found} gives = see (λ x. LooksUp x d l.name.now gives.head found) gives.looks
+  looks_at gives = gives.looks m m keeps has
 
   not_long : {found : Option ℕ} → Gives a b d l.name.now found → is_long s.tree d p ≡ false
   not_long {found} gives = short_is g gives.head (looks_at gives).header gives.short
@@ -50,7 +50,7 @@ module _ {S D : Type 0} (a b : FilesState S D) {N : ℕ} {m : LogMap} {s : State
       (limit_in_directory N m s g.map d (dir g) gives.head (looks_at gives).header) g.bytes g.walk (dots_is g ∙ named)
       (let same = ap length (piece_is g) in let short = gives.short in omega (arith, same, short)))
 
-  pub new_explained : (rose : Type 0) → (TellsFault a b (IsHolder d) → rose) → {call : Call} → ChecksNew N s p d call is_mkdir
+  pub new_explained : (rose : Type 0) → (a.device.failures < b.device.failures → rose) → {call : Call} → ChecksNew N s p d call is_mkdir
       → (why : EntryFault) → RefusesEntry a b d l.name.now l.slash is_mkdir why → Explains call N s rose why
   new_explained rose rises checks fault.Exist why = ⊎_elim
       (λ dots. new_dots checks (dots_is g ∙ dots))
@@ -59,7 +59,7 @@ module _ {S D : Type 0} (a b : FilesState S D) {N : ℕ} {m : LogMap} {s : State
       let found = Some some.1.number in
       new_there checks (dots_is g ∙ some.0) (not_long gives) (there_is g (looks_at gives))) why
   new_explained rose rises checks fault.NameTooLong why =
-      new_long checks (dots_is g ∙ why.0) (long_is g why.1.head (see (HasHeader d why.1.head) why.1.header) why.1.long)
+      new_long checks (dots_is g ∙ why.0) (long_is g why.1.head (why.1.header m m keeps has) why.1.long)
   new_explained rose rises checks fault.Inval why = absurd (why.1.none (is_named why.0 why.1.gives))
   new_explained rose rises checks fault.NoEntry why =
       new_slash checks (dots_is g ∙ why.0) (not_long why.2) (there_is g (looks_at why.2)) (slashed ∙ why.1)
@@ -67,5 +67,5 @@ module _ {S D : Type 0} (a b : FilesState S D) {N : ℕ} {m : LogMap} {s : State
       let gives = why.2.gives in
       new_full checks (dots_is g ∙ why.0) (not_long gives) (there_is g (looks_at gives)) (slashed ∙ why.1)
       (full_is g gives.head (looks_at gives).header why.2.full)
-  new_explained rose rises checks (fault.Log f) why = rises why
+  new_explained rose rises checks (fault.Log f) why = rises (why m m keeps has (holder g))
   new_explained rose rises checks other why = absurd why

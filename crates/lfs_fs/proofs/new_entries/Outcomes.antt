@@ -5,13 +5,11 @@ use Rattle.lfs_fs.proofs.Prelude.{makes_directory, Fs, error_of_entry, BeginsAt,
 use Rattle.lfs_fs.proofs.Prelude.{Asked, NewCall, checks_new, links_are}
 use Rattle.lfs_model.specs.Refusal as refusals
 use Rattle.lfs_files.specs.declared.header.Header.{Header}
-use Rattle.lfs_files.specs.Files as files
 use Rattle.lfs_store.specs.log.LogState.{HasAll}
 use Rattle.lfs_fs.proofs.calls.AnyDevice.{IsOrdinary}
 use Rattle.lfs_fs.proofs.calls.Exits.{still_in}
-use Rattle.lfs_fs.proofs.calls.Files as calls
-use Rattle.lfs_fs.proofs.calls.Files.{refused_after, with_store}
-use Rattle.lfs_fs.proofs.new_entries.Rule.{InEach, RuleTold, at, begun, enters, read, rule_refused, still}
+use Rattle.lfs_fs.proofs.calls.Files.{In, RedraftsTo, read_still, refused_after, with_store}
+use Rattle.lfs_fs.proofs.new_entries.Rule.{RuleTold, at, begun, enters, read, rule_refused}
 use Rattle.lfs_steps.proofs.new_entries.Steps.{new_no_number, new_own}
 use Rattle.lfs_steps.proofs.volume.Directories.{least_number, no_least}
 use Rattle.lfs_fs.proofs.volume.Map.{map_of_volume, version_of_volume}
@@ -25,25 +23,22 @@ module _ {D : Type 0} {state : D → DeviceState} (lawful : (d : D) → IsLawful
   pub entry_refused : (why : EntryFault) → RuleTold (files_of state f.store) (files_of state store) d l of.is_mkdir (Err why)
       → Serves state (seen old) (seen (with_store f store)) of.call (Refuse (refusal_of (error_of_entry why)))
   entry_refused why rule =
-      rule_refused state lawful begins store rule.only.reads of.uncommitted of.unclean of.remembering of.is_mkdir
-      (λ k m0 m s keeps is.
-      checks_new of s (version_of_volume is) (at state lawful begins store rule.only.reads k m0 m s keeps is).walk) why rule
+      rule_refused begins lawful store of.uncommitted of.unclean of.remembering of.is_mkdir
+      (λ k m0 m s keeps is. checks_new of s (version_of_volume is) (at begins store rule.only.reads k m0 m s keeps is).walk) why rule
 
   -- it does
   module _ (head : Header) (rule : RuleTold (files_of state f.store) (files_of state store) d l of.is_mkdir (Ok head)) where
-    abbrev reads : files.Reads (files_of state f.store) (files_of state store)
-    reads = rule.only.reads
+    entering : In state (seen old) (with_store f store) (λ m s. Enters N m s path d l of.is_mkdir head)
+    entering = enters begins store of.is_mkdir head rule
 
-    entering : InEach state lawful begins store reads (λ m s. Enters N m s path d l of.is_mkdir head)
-    entering = enters state lawful begins store reads of.is_mkdir head rule
+    pub entry_asked : {P : State → Type 0} → Asked d f.handles head.links P → {k : CheckpointValue} {m0 m : LogMap} {s : State}
+        → IsIn state (seen old) k m0 m s → Enters N m s path d l of.is_mkdir head → P s
+    entry_asked so {s = s} is g = so s (is.handles ∙ sym begins.reached.still.table) (links_are g.at head g.looks.header)
 
-    asked : (P : State → Type 0) → Asked d f.handles head.links P → InEach state lawful begins store reads (λ m s. P s)
-    asked P so k m0 m s keeps is =
-        let g = entering k m0 m s keeps is in so s (is.handles ∙ sym begins.reached.still.table) (links_are g.at head g.looks.header)
-
-    refused : (r : refusals.Refusal) → IsOrdinary (Refuse r) → InEach state lawful begins store reads (λ m s. Step N s of.call (Refuse r) s)
+    refused : (r : refusals.Refusal) → IsOrdinary (Refuse r)
+        → In state (seen old) (with_store f store) (λ m s. Step N s of.call (Refuse r) s)
         → Serves state (seen old) (seen (with_store f store)) of.call (Refuse r)
-    refused = refused_after state lawful (seen old) f (begun state lawful begins store reads) store (still state lawful begins store reads)
+    refused = refused_after state lawful (seen old) f (begun begins) store (read_still f store rule.only.reads)
         of.call of.uncommitted of.unclean of.remembering
 
     -- the call is refused for its own reason
@@ -51,24 +46,24 @@ module _ {D : Type 0} {state : D → DeviceState} (lawful : (d : D) → IsLawful
         → Serves state (seen old) (seen (with_store f store)) of.call (Refuse of.why)
     own_refused ordinary own = refused of.why ordinary (λ k m0 m s keeps is.
         let g = entering k m0 m s keeps is in
-        new_own of s (version_of_volume is) g.at.walk g.taken (asked (λ s. of.own s ≡ true) own k m0 m s keeps is))
+        new_own of s (version_of_volume is) g.at.walk g.taken (entry_asked own is g))
 
     holds_in : (k : CheckpointValue) (m0 m : LogMap) (s : State) → IsIn state (seen old) k m0 m s → Holds state (volume_of store) k m0 m
     holds_in k m0 m s is =
-        (still_in state (read state lawful begins store reads).still is).holds
+        (still_in state (read state lawful begins store rule.only.reads).still is).holds
 
     -- no number is free
     pub number_refused : Asked d f.handles head.links (λ s. of.own s ≡ false) → HasAll state (volume_of store)
         → Serves state (seen old) (seen (with_store f store)) of.call (Refuse refusals.NoNumber)
     number_refused allowed all = refused refusals.NoNumber tt (λ k m0 m s keeps is.
         let g = entering k m0 m s keeps is in
-        new_no_number of s (version_of_volume is) g.at.walk g.taken (asked (λ s. of.own s ≡ false) allowed k m0 m s keeps is)
+        new_no_number of s (version_of_volume is) g.at.walk g.taken (entry_asked allowed is g)
         (no_least N m s (map_of_volume is) (all k m0 m (holds_in k m0 m s is))))
 
     -- the call makes the object
     pub may_make : (makes_directory of.kind ≡ true → head.links < MOST_LINKS) → (n : ℕ) → IsVacant state (volume_of store) n
-        → (drafted : Store D) → files.Redrafts (files_of state store) (files_of state drafted)
-        → calls.InEach state lawful (seen old) (with_store f store) (read state lawful begins store reads) drafted (IsNew of l head n)
+        → (drafted : Store D) → RedraftsTo state (with_store f store) drafted
+        → In state (seen old) (with_store f drafted) (IsNew of l head n)
     may_make few n vacant drafted redrafts k m0 m s after is =
         let holds = holds_in k m0 m s is in
         record {

@@ -1,12 +1,12 @@
 -- The refusals of a call that takes an old entry: a path without a piece, and those of the rule.
 use Rattle.lfs_fs.proofs.Prelude.{◌≡◌, ◌||◌, ℕ, Bool, true, false, List, Some, None, ap, Call, Refuse, takes_no_memory, DeviceState}
-use Rattle.lfs_fs.proofs.Prelude.{IsLawful, last_dots, Store, files_of, Last, EntryFault, IsHolder, RefusesOld, Fs, error_of_entry, Reaches}
-use Rattle.lfs_fs.proofs.Prelude.{refusal_of, IsReady, seen, Mounted, Serves, segments_of, old_dots, holder}
+use Rattle.lfs_fs.proofs.Prelude.{IsLawful, last_dots, Store, files_of, Last, EntryFault, RefusesOld, Fs, error_of_entry, Reaches}
+use Rattle.lfs_fs.proofs.Prelude.{refusal_of, IsReady, seen, Mounted, Serves, segments_of, old_dots}
 use Rattle.lfs_model.specs.Refusal as refusals
 use Rattle.lfs_files.specs.declared.fault.LogFault.TheVariants as log
-use Rattle.lfs_files.specs.Files as files
 use Rattle.lfs_entries.specs.declared.fault.EntryFault.TheVariants as fault
-use Rattle.lfs_fs.proofs.calls.Files.{IsBegun, Rose, begun_at, fault_serves, nameless, only, reached_in, rose_where, told, with_store}
+use Rattle.lfs_fs.proofs.calls.Files.{IsBegun, ReadsTo, Rose, begun_at, fault_serves, has_in, nameless, reached_in, read_still, risen}
+use Rattle.lfs_fs.proofs.calls.Files.{with_store}
 use Rattle.lfs_fs.proofs.old_entries.Explained.{old_explained}
 use Rattle.lfs_steps.proofs.old_entries.Steps.{OldCall}
 
@@ -19,7 +19,7 @@ module _ {D : Type 0} {state : D → DeviceState} (lawful : (d : D) → IsLawful
 
   -- the rule takes no entry
   module _ {l : Last} (reached : Reaches state v f path d (Some l)) (ready : IsReady f) (store : Store D)
-      (reads : files.Reads (files_of state f.store) (files_of state store)) where
+      (reads : ReadsTo state f store) where
     begun : IsBegun state v f
     begun = begun_at state reached ready
 
@@ -27,11 +27,8 @@ module _ {D : Type 0} {state : D → DeviceState} (lawful : (d : D) → IsLawful
         → (why ≡ fault.Log log.Full → ⊥) → RefusesOld (files_of state f.store) (files_of state store) d l.name.now l.slash why
         → Serves state v (seen (with_store f store)) call (Refuse (refusal_of (error_of_entry why)))
     entry_refused why halted other refuses =
-        fault_serves state lawful v f begun store (only state lawful v f begun store reads).still call of.uncommitted of.unclean memory why
+        fault_serves state lawful v f begun store (read_still f store reads) call of.uncommitted of.unclean memory why
         halted other (λ k m0 m s keeps is. (
-        let g = reached_in state lawful v f begun reached (reads.looks.carries.kept_before keeps) is in
-        old_explained (files_of state f.store) (files_of state store) g (λ P all. told state lawful v f begun store P all k m0 m s keeps is)
-        (Rose state lawful v f begun store)
-        (λ fails. rose_where state lawful v f begun store (only state lawful v f begun store reads).still (IsHolder d) fails k m0 m s keeps
-        is (holder g))
+        let g = reached_in reached k m0 m s (reads.looks.carries.kept_before keeps) is in
+        old_explained (files_of state f.store) (files_of state store) g keeps (has_in begun is) (Rose state v store) (risen begun store)
         call (of.checks s is.log.sound g.walk) why refuses))

@@ -1,36 +1,29 @@
 -- The ends of a close, and of a sync through a handle, as steps of the model.
-use Rattle.lfs_fs.proofs.Prelude.{◌≡◌, ◌≤◌, ◌<◌, ◌+◌, ◌/◌, ◌^◌, ◌==◌, ◌&&◌, ℕ, true, false, Some, refl, sym, ◌∙◌, ap, subst, inl, inr}
-use Rattle.lfs_fs.proofs.Prelude.{⊎_elim, arith, eq-eqb, nat_cmp, find, Answer, Call, Close, Done, Fsync, Refuse, Sync, is_ok}
-use Rattle.lfs_fs.proofs.Prelude.{CheckpointValue, DeviceState, IsLawful, IsLogMap, Refusal, NoEntry, NotDir, IsDir, Inval, NameTooLong}
-use Rattle.lfs_fs.proofs.Prelude.{Busy, BadHandle, TooManyOpen, FileTooBig, NoSpace, Device, Halted, Stuck, Worn, IsExcused, Point, StepsOr}
-use Rattle.lfs_fs.proofs.Prelude.{acknowledges, LogMap, Step, Handles, State, names, opened, without, IsTree, LogFault, Store, BlockTotals}
-use Rattle.lfs_fs.proofs.Prelude.{without_file, Holds, Reads, HasClean, AreTotals, commit_orders, volume_of, files_of, HasHeader, HasObject}
-use Rattle.lfs_fs.proofs.Prelude.{Tells, TellsFault, held_still, reads_none, FsError, Fs, error_of_log, refusal_of, GivesNone, seen}
-use Rattle.lfs_fs.proofs.Prelude.{Behaves, IsAt, IsIn, IsStill, Mounted, Serves, ServesAt, changes_handles, most_orders, segments_of}
-use Rattle.lfs_fs.proofs.Prelude.{close_goes, close_stays, closed, rest, IsMapOf, opened_file}
+use Rattle.lfs_fs.proofs.Prelude.{◌≡◌, ◌≤◌, ◌<◌, ◌==◌, ◌&&◌, ℕ, true, false, Some, refl, sym, ◌∙◌, ap, subst, inl, inr, ⊎_elim, arith}
+use Rattle.lfs_fs.proofs.Prelude.{eq-eqb, nat_cmp, find, Answer, Close, Done, Fsync, Refuse, Sync, CheckpointValue, DeviceState, IsLawful}
+use Rattle.lfs_fs.proofs.Prelude.{IsLogMap, Refusal, Device, Halted, Stuck, Worn, IsExcused, Point, StepsOr, LogMap, Step, Handles, State}
+use Rattle.lfs_fs.proofs.Prelude.{names, opened, without, LogFault, Store, BlockTotals, without_file, Holds, Reads, AreTotals, volume_of}
+use Rattle.lfs_fs.proofs.Prelude.{files_of, HasHeader, HasObject, Tells, TellsFault, held_still, reads_none, FsError, Fs, error_of_log}
+use Rattle.lfs_fs.proofs.Prelude.{refusal_of, GivesNone, seen, IsAt, IsIn, IsStill, Mounted, Serves, ServesAt, segments_of, close_goes}
+use Rattle.lfs_fs.proofs.Prelude.{close_stays, closed, rest, opened_file}
 use Rattle.lfs_model.specs.Entry.{Header}
 use Rattle.lfs_model.specs.Memory.{is_nameless, is_unlinked}
-use Rattle.lfs_model.specs.Refusal.{Exist, NotEmpty, Loop, Perm}
-use Rattle.lfs_model.specs.Refusal.{TooManyLinks, NoNumber, DirFull, NoMemory}
+use Rattle.lfs_model.specs.Refusal.{NoMemory}
 use Rattle.lfs_files.specs.declared.fault.LogFault.TheVariants as log
 use Rattle.lfs_files.specs.declared.header.Header as headers
 use Rattle.lfs_store.specs.memory.Present.{as_header}
-use Rattle.lfs_store.specs.log.LogState.{Alters, IsKept, IsReadFault, IsRemoved}
+use Rattle.lfs_store.specs.log.LogState.{IsKept, IsReadFault, IsRemoved}
 use Rattle.lfs_store.specs.Recounting.{CountsGone}
 use Rattle.lfs_store.proofs.Recounted.{kept_more, removed_more}
 use Rattle.lfs_store.proofs.of_log.LogReads.{fault_more}
 use Rattle.lfs_fs.proofs.calls.Answers.{In, ReadsTo, known, log_fails}
-use Rattle.lfs_fs.proofs.calls.Files.{IsBegun, only, with_store}
-use Rattle.lfs_fs.proofs.calls.AnyDevice.{IsOrdinary, not_halted, not_memory, not_stuck, ok_refuses_none, tells_none}
+use Rattle.lfs_fs.proofs.calls.Files.{IsBegun, read_still, with_store}
+use Rattle.lfs_fs.proofs.calls.AnyDevice.{kept_behaves, opens_behaves, write_behaves}
 use Rattle.lfs_fs.proofs.calls.Steps.{never_worn}
 use Rattle.lfs_fs.proofs.open_files.ClosedMaps.{closed_map, gone_map, names_by}
-use Rattle.lfs_steps.proofs.open_files.CloseSteps.{close_bad_handle, fsync_bad_handle, fsync_done}
-use Rattle.lfs_steps.proofs.open_files.CloseSteps.{named_stays}
-use Rattle.lfs_steps.proofs.open_files.CloseSteps.{open_stays}
-use Rattle.lfs_fs.proofs.calls.Drafts.{runs_on}
+use Rattle.lfs_steps.proofs.open_files.CloseSteps.{close_bad_handle, fsync_bad_handle, fsync_done, named_stays, open_stays}
 use Rattle.lfs_fs.proofs.volume.Map.{map_of_volume, shape_of_volume}
-use Rattle.lfs_fs.proofs.calls.Exits.{point_of}
-use Rattle.lfs_fs.proofs.open_files.TableEnds.{quiet, table_serves}
+use Rattle.lfs_fs.proofs.open_files.TableEnds.{altered_serves, table_serves}
 use Rattle.lfs_fs.proofs.write.Exits.{unopened}
 
 -- ---- fsync
@@ -55,23 +48,7 @@ fsync_excused N h p q Device e = e
 fsync_excused N h p q Halted e = e
 fsync_excused N h p q Stuck e = e
 fsync_excused N h p q Worn e = absurd (never_worn N Sync p refl refl e)
-fsync_excused N h p q NoEntry e = absurd e
-fsync_excused N h p q NotDir e = absurd e
-fsync_excused N h p q IsDir e = absurd e
-fsync_excused N h p q Exist e = absurd e
-fsync_excused N h p q NotEmpty e = absurd e
-fsync_excused N h p q Inval e = absurd e
-fsync_excused N h p q NameTooLong e = absurd e
-fsync_excused N h p q Loop e = absurd e
-fsync_excused N h p q Perm e = absurd e
-fsync_excused N h p q Busy e = absurd e
-fsync_excused N h p q BadHandle e = absurd e
-fsync_excused N h p q TooManyOpen e = absurd e
-fsync_excused N h p q TooManyLinks e = absurd e
-fsync_excused N h p q FileTooBig e = absurd e
-fsync_excused N h p q NoSpace e = absurd e
-fsync_excused N h p q NoNumber e = absurd e
-fsync_excused N h p q DirFull e = absurd e
+fsync_excused N h p q other e = absurd e
 
 fsync_steps : (N h n : ℕ) (p : Point) (a : Answer) (q : Point) → find nat_cmp h p.state.handles ≡ Some n → StepsOr N Sync p a q
     → StepsOr N (Fsync h) p a q
@@ -108,101 +85,9 @@ module _ {D : Type 0} {state : D → DeviceState} {old new : Mounted D} (was : o
     segments = sync.segments;
     orderly = sync.orderly;
     halts = sync.halts;
-    behaves = record {
-      refused = sync.behaves.refused;
-      handles = sync.behaves.handles;
-      first_halted = sync.behaves.first_halted;
-      quiet = sync.behaves.quiet;
-      number = sync.behaves.number;
-      few = sync.behaves.few;
-      memory = sync.behaves.memory;
-      stuck = sync.behaves.stuck;
-      told = sync.behaves.told;
-      one_commit = sync.behaves.one_commit;
-    };
+    behaves = write_behaves state (Fsync h) a refl (sync.behaves.handles refl) sync.behaves.stuck sync.behaves.memory
+        record { few = sync.behaves.few; told = sync.behaves.told; one_commit = sync.behaves.one_commit };
     model = λ p keeps at. fsync_at p at (sync.model p keeps at);
-  }
-
--- ---- calls that change no more than memory
-
-module _ {D : Type 0} {state : D → DeviceState} (lawful : (d : D) → IsLawful (state d)) (old new : Mounted D) (was : old.log.halted ≡ false)
-    (alters : Alters state old.log new.log 0 false) (call : Call) (a : Answer) where
-  -- What such a call makes of a state that the volume is in.
-  pub record Alterations (p : Point) (k : CheckpointValue) (m0 : LogMap) : Type 0 where
-    pub next : State
-    pub present : LogMap
-    pub saved : new.log.saved ≡ old.log.saved
-    pub holds : Holds state new.log k m0 present
-    pub map : IsMapOf (segments_of old) present next
-    pub handles : next.handles ≡ new.table
-    pub counted : AreTotals present new.log.totals
-    pub steps : StepsOr (segments_of old) call p a (point_of state new next)
-
-  clean_kept : HasClean old.log → HasClean new.log
-  clean_kept clean =
-      subst (λ (x : ℕ). x / 8 + 8 ≤ new.log.clean) (sym alters.segments)
-      (subst (λ (c : ℕ). old.log.segments / 8 + 8 ≤ c) (sym alters.clean) clean)
-
-  pub altered_serves : Behaves state old new call a → (a ≡ Refuse Halted → ⊥) → (acknowledges call a ≡ true → ⊥)
-      → ((p : Point) → (state new.log.device).keeps_model → IsAt state old p → (k : CheckpointValue) (m0 m : LogMap)
-      → IsIn state old k m0 m p.state → Alterations p k m0) → Serves state old new call a
-  altered_serves behaves fine none each =
-      runs_on state old new call (lawful old.log.device) (lawful new.log.device) alters.looks.carries alters.segments was
-      (let same = alters.number in omega (arith, same)) fine behaves (alters.halted ∙ was) (λ p keeps here k m0 m is. (
-      let does = each p keeps here k m0 m is in record {
-        next = does.next;
-        runs = record {
-          checkpoint = k;
-          saved = m0;
-          present = does.present;
-          is = record {
-            holds = does.holds;
-            map = does.map.map;
-            log = (subst (λ (l : ℕ). IsMapOf l does.present does.next) (sym alters.segments) does.map).log;
-            handles = does.handles;
-            counted = does.counted;
-            acknowledged = subst (λ (l : ℕ). IsTree l m0) (sym alters.segments) is.acknowledged;
-            ready = λ e. (
-                let r = is.ready (sym does.saved ∙ e) in (
-                  clean_kept r.0,
-                  subst (λ (l : ℕ). new.log.number ≤ 2 ^ 62 + l / 8) (sym alters.segments)
-                      (subst (λ (x : ℕ). x ≤ 2 ^ 62 + segments_of old / 8) (sym alters.number) r.1),
-                ));
-          };
-        };
-        steps = does.steps;
-        moment = quiet old new (lawful old.log.device) (lawful new.log.device) was alters.looks k m0 m is;
-        saves = λ e. absurd (none e);
-      }))
-
-  -- one that opens or closes a file
-  pub closes_behaves : changes_handles call ≡ true → is_ok a ≡ true → Behaves state old new call a
-  closes_behaves moves ok = record {
-    refused = λ r e. absurd (ok_refuses_none ok e);
-    handles = λ e. absurd (let both : true ≡ false = sym moves ∙ e in cc);
-    first_halted = λ e. absurd (ok_refuses_none ok e);
-    quiet = λ e. alters.looks.untouched;
-    number = λ e. alters.number;
-    few = (let same = alters.number in omega (arith, same));
-    memory = λ takes e. absurd (ok_refuses_none ok e);
-    stuck = λ e. absurd (ok_refuses_none ok e);
-    told = tells_none state old.log new.log (most_orders call (segments_of old)) alters.looks.told;
-    one_commit = λ unclean clean. tells_none state old.log new.log commit_orders alters.looks.told;
-  }
-
-  -- one that leaves the open files
-  pub kept_behaves : new.table ≡ old.table → IsOrdinary a → Behaves state old new call a
-  kept_behaves table ordinary = record {
-    refused = λ r e. table;
-    handles = λ e. table;
-    first_halted = λ e. absurd (not_halted a ordinary e);
-    quiet = λ e. alters.looks.untouched;
-    number = λ e. alters.number;
-    few = (let same = alters.number in omega (arith, same));
-    memory = λ takes e. absurd (not_memory ordinary e);
-    stuck = λ e. absurd (not_stuck ordinary e);
-    told = tells_none state old.log new.log (most_orders call (segments_of old)) alters.looks.told;
-    one_commit = λ unclean clean. tells_none state old.log new.log commit_orders alters.looks.told;
   }
 
 -- ---- close
@@ -232,8 +117,8 @@ module _ {D : Type 0} {state : D → DeviceState} (lawful : (d : D) → IsLawful
           → (names s.tree n == 0 && opened (without nat_cmp h s.handles) n == 0) ≡ false)
           → Serves state old new (Close h) Done
       close_keeps reads stays =
-          table_serves old new (lawful old.log.device) (lawful new.log.device) was (Close h) Done reads refl refl
-          (λ e. cc) (λ p keeps here k m0 m is. record {
+          table_serves old new (lawful old.log.device) (lawful new.log.device) was (Close h) Done
+          reads refl refl (λ e. cc) (λ p keeps here k m0 m is. record {
             next = closed (segments_of old) p.state h p.state.tree;
             map = closed_map m (map_of_volume is) h n (opened_in p.state is.handles) (stays k m0 m p.state keeps is);
             handles = closed_handles p.state is.handles;
@@ -252,8 +137,9 @@ module _ {D : Type 0} {state : D → DeviceState} (lawful : (d : D) → IsLawful
             → IsLogMap (without_file n m) → AreTotals m old.log.totals → AreTotals (without_file n m) new.log.totals)
             → Serves state old new (Close h) Done
         close_removes gone counted =
-            altered_serves lawful old new was gone.alters (Close h) Done (closes_behaves lawful old new was gone.alters
-            (Close h) Done refl refl) (λ e. cc) (λ e. cc) (λ p keeps here k m0 m is. (
+            altered_serves old new (lawful old.log.device) (lawful new.log.device) was (Close h) Done gone.alters
+            (opens_behaves state (Close h) Done gone.alters.looks gone.alters.number refl refl) (λ e. cc) (λ e. cc)
+            (λ p keeps here k m0 m is. (
             let map = map_of_volume is in
             let open_is = opened_in p.state is.handles in
             let header = there k m0 m p.state keeps is in
@@ -277,8 +163,9 @@ module _ {D : Type 0} {state : D → DeviceState} (lawful : (d : D) → IsLawful
     pub close_fails : IsKept state old.log new.log → IsReadFault state old.log new.log → new.log.totals ≡ old.log.totals
         → new.table ≡ old.table → Serves state old new (Close h) (Refuse Device)
     close_fails kept fault totals table =
-        altered_serves lawful old new was kept.alters (Close h) (Refuse Device) (kept_behaves lawful old new was
-        kept.alters (Close h) (Refuse Device) table tt) (λ e. cc) (λ e. cc) (λ p keeps here k m0 m is. record {
+        altered_serves old new (lawful old.log.device) (lawful new.log.device) was (Close h) (Refuse Device) kept.alters
+        (kept_behaves state (Close h) (Refuse Device) kept.alters.looks kept.alters.number table tt) (λ e. cc) (λ e. cc)
+        (λ p keeps here k m0 m is. record {
           next = p.state;
           present = m;
           saved = kept.saved;
@@ -315,7 +202,7 @@ module _ {D : Type 0} (state : D → DeviceState) (lawful : (d : D) → IsLawful
     mid = with_store old read
 
     still : IsStill state (seen old) (seen mid)
-    still = (only state lawful (seen old) old begun read reads).still
+    still = read_still old read reads
 
     -- the file is there
     object : In state (seen old) old (λ m s. HasObject n m)

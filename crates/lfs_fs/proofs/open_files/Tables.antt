@@ -3,7 +3,7 @@ use Rattle.lfs_fs.proofs.Prelude.{◌≡◌, ◌≢◌, refl, sym, ap, subst, �
 use Rattle.lfs_fs.proofs.Prelude.{None, Option, length, get_or, eqb, arith, inl, inr, replicate, append-nil, T, slice_set, refill}
 use Rattle.lfs_fs.proofs.Prelude.{length-set, take_all, nat_cmp, cases_lt, nat_tests, find, put, is_sorted, FileNumber, Handles}
 use Rattle.lfs_fs.proofs.Prelude.{least_handle, cmp_same, cmp_other, number_in}
-use Rattle.std.proofs.lemmas.List.{drop_all, get_or_read_under}
+use Rattle.std.proofs.lemmas.List.{drop_all, get_or_past, get_or_read_under}
 use Rattle.std.specs.declared.cmp.Ordering.TheVariants.{Less, Equal, Greater}
 use Rattle.std.specs.Cmp.{nat_cmp_is}
 use Rattle.std.specs.FinMap.Entries.{below_all}
@@ -44,14 +44,8 @@ unfolding handles_of
 find_handle h fs = let at : 0 + h ≡ h = omega arith in
     subst (λ (k : ℕ). find nat_cmp k (handles_from 0 fs) ≡ number_in (get_or fs h None)) at (find_from 0 h fs)
 
-get_past : (fs : Places) (i : ℕ) → length fs ≤ i → get_or fs i None ≡ None
-get_past [] zero h = refl
-get_past [] (suc i) h = refl
-get_past (f ∷ fs) zero h = absurd (omega arith)
-get_past (f ∷ fs) (suc i) h = get_past fs i (omega arith)
-
 pub find_past : (h : ℕ) (fs : Places) → length fs ≤ h → find nat_cmp h (handles_of fs) ≡ None
-find_past h fs past = find_handle h fs ∙ ap number_in (get_past fs h past)
+find_past h fs past = find_handle h fs ∙ ap number_in (get_or_past fs h None past)
 
 -- a handle is a place of the table
 pub within_table : (h n : ℕ) (fs : Places) → find nat_cmp h (handles_of fs) ≡ Some n → h < length fs
@@ -87,7 +81,7 @@ least_is {h} fs taken free = least_at 0 h fs taken free ∙ omega arith
 
 -- all places are taken: the least one is past them
 pub least_past : (fs : Places) → ((k : ℕ) → k < length fs → get_or fs k None ≢ None) → least_handle (handles_of fs) ≡ length fs
-least_past fs taken = least_is fs taken (get_past fs (length fs) (omega arith))
+least_past fs taken = least_is fs taken (get_or_past fs (length fs) None (omega arith))
 
 -- ---- a file put at a place
 

@@ -48,7 +48,7 @@ module _ {D : Type 0} {state : D → DeviceState} (lawful : (d : D) → IsLawful
       → Reaches state v next p d piece
   later_reaches counted p bytes {d} last walks = record {
     still = still_next;
-    empty = subst (λ (x : Draft). IsEmpty x) (sym only.draft) empty;
+    empty = rw only.draft empty;
     drafted = only.drafted ∙ counted ∙ sym only.still.reads.totals;
     bytes = bytes;
     last = last;
@@ -68,7 +68,6 @@ module _ {D : Type 0} {state : D → DeviceState} (lawful : (d : D) → IsLawful
       → (fault ≡ walk.Log log.Full → ⊥)
       → Serves state v (seen next) call (Refuse (refusal_of e))
   later_refused W {call} free unclean memory steps {fault} is ends halted other =
-      subst (λ (f : FsError). Serves state v (seen next) call (Refuse (refusal_of f))) (sym is)
-      (walk_ends (lawful v.log.device) still_next was (draft_of mid.store)
+      rw is (walk_ends (lawful v.log.device) still_next was (draft_of mid.store)
       empty W call free unclean memory steps fault (λ on. sym still.reads.halted ∙ halted on) other
       (refused_after state v.log (seen next).log still.reads (draft_of mid.store) W fault ends))

@@ -21,7 +21,7 @@ module _ {D : Type 0} (state : D → DeviceState) where
   pub ready_after : {old new : Fs D} → IsReady old → OnlyReads state old new → IsReady new
   ready_after ready reads = record {
     running = reads.still.reads.halted ∙ ready.running;
-    empty = subst (λ (d : Draft). IsEmpty d) (sym reads.draft) ready.empty;
+    empty = rw reads.draft ready.empty;
   }
 
   -- a store that was read for the walk of a path
@@ -63,9 +63,9 @@ module _ {D : Type 0} {state : D → DeviceState} (lawful : (d : D) → IsLawful
 
   module _ (call : Call) (free : never_for_device call ≡ false) (unclean : cleans call ≡ false) (memory : takes_no_memory call ≡ false)
       (steps : IsRefusedBy call) where
-    path_fails : (fault : FsError) → BeginsOnly state old new path fault
+    pub path_fails : {fault : FsError} → BeginsOnly state old new path fault
         → Serves state (seen old) (seen new) call (Refuse (refusal_of fault))
-    path_fails fault only =
+    path_fails only =
         later_refused lawful (begun_still state only.begun only.begins) only.begins.running
         only.begins.empty only.reads (EndsParent path) free unclean memory steps only.fails.is only.fails.ends
         only.fails.halted only.fails.other
@@ -78,9 +78,8 @@ module _ {D : Type 0} {state : D → DeviceState} (lawful : (d : D) → IsLawful
     nowhere_serves nameless fault none named = ⊎_elim
         (λ halts. halted_serves state call (lawful (seen old).log.device) halts.1 halts.2 halts.0)
         (λ began. ⊎_elim
-        (λ only. path_fails fault only)
-        (λ lacks. subst (λ (f : FsError). Serves state (seen old) (seen new) call (Refuse (refusal_of f))) (sym lacks.0)
-        (named lacks.1.0 lacks.1.1.0 lacks.1.1.1.running))
+        path_fails
+        (λ lacks. rw lacks.0 (named lacks.1.0 lacks.1.1.0 lacks.1.1.1.running))
         began)
         none
 

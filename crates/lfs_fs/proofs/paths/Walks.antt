@@ -23,7 +23,7 @@ module _ {D : Type 0} {state : D → DeviceState} {v : Mounted D} {k : Checkpoin
 
   -- with nothing drafted it is the same
   pub walked_drafted : (d : Draft) → IsEmpty d → HasTree (with_draft d m)
-  walked_drafted d none = subst (λ (x : LogMap). HasTree x) (sym (empty_draft d m none).0) tree_of_volume
+  walked_drafted d none = rw (empty_draft d m none).0 tree_of_volume
 
   pub tree_drafted : (d : Draft) → IsEmpty d → tree_in (with_draft d m) ≡ s.tree
   tree_drafted d none = ap (λ (x : LogMap). tree_in x) (empty_draft d m none).0 ∙ sym is.log.is
@@ -34,8 +34,7 @@ module _ {D : Type 0} {state : D → DeviceState} {old new : Mounted D} (lawful 
   -- a walk of the log map is one of the state
   pub walked : (e : End) → WalksTo state old.log new.log d W e → (k : CheckpointValue) (m0 m : LogMap) {s : State}
       → (state new.log.device).keeps_model → IsIn state old k m0 m s → W s.tree e
-  walked e walks k m0 m {s} keeps is = subst (λ (t : Tree). W t e) (tree_drafted is d none)
-      (walks k m0 m keeps is.holds (walked_drafted is d none))
+  walked e walks k m0 m {s} keeps is = rw (← tree_drafted is d none) (walks k m0 m keeps is.holds (walked_drafted is d none))
 
   -- a walk without an end refuses the call
   module _ (call : Call) (free : never_for_device call ≡ false) (unclean : cleans call ≡ false) (memory : takes_no_memory call ≡ false)

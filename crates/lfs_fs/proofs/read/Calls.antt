@@ -17,8 +17,7 @@ use Rattle.lfs_fs.proofs.calls.Answers.{known, now, object_there, rises}
 use Rattle.lfs_fs.proofs.calls.Files.{IsBegun, with_store}
 use Rattle.lfs_fs.proofs.calls.Steps.{pread_clipped, stat_step}
 use Rattle.lfs_steps.proofs.open_files.Steps.{read_bad_handle, read_too_much}
-use Rattle.lfs_fs.proofs.paths.Steps.{readdir_done, readdir_no_directory, readlink_done, readlink_no_link, stat_changes, stat_cleans}
-use Rattle.lfs_fs.proofs.paths.Steps.{stat_commits, stat_may_fail, stat_memory}
+use Rattle.lfs_fs.proofs.paths.Steps.{readdir_done, readdir_no_directory, readlink_done, readlink_no_link}
 use Rattle.lfs_fs.proofs.read.Shown.{all_listable, directory, link, listing_is, other_directory, other_link, text_is, told_by}
 use Rattle.lfs_fs.proofs.volume.Map.{headers_of_volume, map_of_volume}
 
@@ -28,13 +27,8 @@ pread_quiet : (h off count : ℕ) → IsQuiet (Pread h off count)
 pread_quiet h off count = record { free = refl; memory = refl; leaves = refl; unclean = refl; kept = refl }
 
 pub stat_quiet : (follow : Bool) (path : List ℕ) → IsQuiet (stat_call follow path)
-stat_quiet follow path = record {
-  free = stat_may_fail follow path;
-  memory = stat_memory follow path;
-  leaves = stat_changes follow path;
-  unclean = stat_cleans follow path;
-  kept = stat_commits follow path;
-}
+stat_quiet true path = record { free = refl; memory = refl; leaves = refl; unclean = refl; kept = refl }
+stat_quiet false path = record { free = refl; memory = refl; leaves = refl; unclean = refl; kept = refl }
 
 readlink_quiet : (path : List ℕ) → IsQuiet (Readlink path)
 readlink_quiet path = record { free = refl; memory = refl; leaves = refl; unclean = refl; kept = refl }
@@ -55,8 +49,7 @@ module _ {D : Type 0} {state : D → DeviceState} (lawful : (d : D) → IsLawful
     pub pread_without : {h off count : ℕ} (e : FsError) → GivesNone f.handles h e
         → Serves state (seen old) (seen f) (Pread h off count) (Refuse (refusal_of e))
     pread_without {h = h} {off = off} {count = count} e none =
-        subst (λ (x : FsError). Serves state (seen old) (seen f) (Pread h off count) (Refuse (refusal_of x)))
-        (sym none.0) (answers lawful begun (pread_quiet h off count) {a = Refuse BadHandle} tt (λ k m0 m s keeps is.
+        rw none.0 (answers lawful begun (pread_quiet h off count) {a = Refuse BadHandle} tt (λ k m0 m s keeps is.
         read_bad_handle (segments_of (seen old)) s h off count (handle_is h k m0 m s keeps is ∙ none.1)))
 
     module _ (h : ℕ) {n : ℕ} (opens : find nat_cmp h f.handles ≡ Some n) where
@@ -103,8 +96,7 @@ module _ {D : Type 0} {state : D → DeviceState} (lawful : (d : D) → IsLawful
         let map_is = map_of_volume is in
         let headers = headers_of_volume is in
         let at = known lawful is_begun store reads read.header k m0 m s keeps is in
-        subst (λ (x : List ℕ). Step (segments_of v) s (Readlink path) (Text x) s)
-        (text_is map_is headers at text read.link (known lawful is_begun store reads read.is k m0 m s keeps is))
+        rw (← text_is map_is headers at text read.link (known lawful is_begun store reads read.is k m0 m s keeps is))
         (readlink_done (segments_of v) s path n (reached.walk k m0 m s (reads.looks.carries.kept_before keeps) is)
         (link map_is headers at read.link)))
 
@@ -139,8 +131,7 @@ module _ {D : Type 0} {state : D → DeviceState} (lawful : (d : D) → IsLawful
           let headers = headers_of_volume is in
           let before = reads.looks.carries.kept_before keeps in
           let there = looked.header k m0 m s before is in
-          subst (λ (x : List call.DirectoryEntry). Step (segments_of v) s (Readdir path) (Entries x) s)
-          (sym (listing_is map_is headers there dir entries (known lawful looked.begun store reads listed k m0 m s keeps is)))
+          rw (listing_is map_is headers there dir entries (known lawful looked.begun store reads listed k m0 m s keeps is))
           (readdir_done (segments_of v) s path n (looked.walk k m0 m s before is) (directory map_is headers there dir)))
 
       pub readdir_fails : Fails state v f store (Readdir path)

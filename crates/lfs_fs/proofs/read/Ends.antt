@@ -24,9 +24,7 @@ module _ {D : Type 0} (state : D → DeviceState) where
       → (seen old).log.halted ≡ true → fault ≡ error.Halted
       → Serves state (seen old) (seen new) call (Refuse (refusal_of fault))
   halted_serves {old} {new} call lawful same halted is =
-      subst (λ (f : FsError). Serves state (seen old) (seen new) call (Refuse (refusal_of f))) (sym is)
-      (subst (λ (v : Fs D). Serves state (seen old) (seen v) call (Refuse Halted)) (sym same)
-      (served_halted state (seen old) call lawful halted))
+      rw is (rw same (served_halted state (seen old) call lawful halted))
 
   -- one that began does what it does then
   pub begun_serves : {old mid : Fs D} {new : Mounted D} {call : Call} {a : Answer} → Begins old mid → Serves state (seen mid) new call a
@@ -42,31 +40,15 @@ module _ {D : Type 0} (state : D → DeviceState) where
       → r.need ≡ (drafted_of mid.store).data_blocks + 7 * (drafted_of mid.store).meta_blocks + 720
       → r.limit ≡ 47 * (seen mid).log.segments → Serves state (seen old) (seen mid) Space (room_of r)
   begun_space {old} {mid} lawful begun r stored above need limit = begun_serves begun
-      (subst (λ (a : Answer). Serves state (seen mid) (seen mid) Space a) (λ i. Room (stored_is i) (above_is i) (need_is i) (sym limit i))
+      (rw (stored, above, need, limit, begun.drafted)
       (space_serves state lawful (still_none (seen mid)) (begun_running begun) totals_of_tree))
-    where
-      blocks : (drafted_of mid.store).data_blocks ≡ (seen mid).log.totals.data_blocks
-      blocks = ap (λ t. t.data_blocks) begun.drafted
-
-      others : (drafted_of mid.store).meta_blocks ≡ (seen mid).log.totals.meta_blocks
-      others = ap (λ t. t.meta_blocks) begun.drafted
-
-      stored_is : (seen mid).log.totals.data_blocks ≡ r.data_blocks
-      stored_is = sym (stored ∙ blocks)
-
-      above_is : (seen mid).log.totals.meta_blocks ≡ r.meta_blocks
-      above_is = sym (above ∙ others)
-
-      need_is : (seen mid).log.totals.data_blocks + 7 * (seen mid).log.totals.meta_blocks + 720 ≡ r.need
-      need_is = omega (arith, need, blocks, others)
 
   pub begun_version : {old mid : Fs D} → IsLawful (state (seen mid).log.device) → Begins old mid → {version : ℕ}
       → version ≡ (seen mid).log.version → Serves state (seen old) (seen mid) Version (FormatVersion version)
   begun_version {old} {mid} lawful begun {version} told = begun_serves begun
       (told_serves {call = Version} lawful (still_none (seen mid)) (begun_running begun)
       {a = FormatVersion version} tt refl refl refl (λ k m0 m s keeps is.
-      subst (λ (n : ℕ). Step (segments_of (seen mid)) s Version (FormatVersion n) s)
-      (version_of_volume is ∙ sym told) (version_done (segments_of (seen mid)) s)))
+      rw (← version_of_volume is ∙ sym told) (version_done (segments_of (seen mid)) s)))
 
 -- ---- ends after which nothing has changed
 

@@ -32,9 +32,8 @@ use Rattle.lfs_steps.proofs.volume.Directories.{directory_formed, names_in_direc
 told_are : {T X : Type 0} (R : List ℕ × ℕ → T → Type 0) (f : T → X) (g : List ℕ × ℕ → X)
     → ((p : List ℕ × ℕ) (t : T) → R p t → f t ≡ g p) → (ps : Names) (ts : List T) → AreTold R ps ts → map f ts ≡ map g ps
 told_are R f g one [] [] all = refl
-told_are R f g one [] (t ∷ ts) all = absurd all
-told_are R f g one (p ∷ ps) [] all = absurd all
 told_are R f g one (p ∷ ps) (t ∷ ts) all = λ i. one p t all.0 i ∷ told_are R f g one ps ts all.1 i
+told_are R f g one ps ts all = absurd all
 
 -- names in order that give objects when they are looked up
 all_there : (m : LogMap) (ps : Names) → ((name : List ℕ) (n : ℕ) → find byte_cmp name ps ≡ Some n → HasObject n m)

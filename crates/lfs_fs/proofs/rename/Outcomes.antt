@@ -8,26 +8,21 @@ use Rattle.lfs_fs.proofs.Prelude.{ReachesBoth, IsReady, answer_by, seen, IsStill
 use Rattle.lfs_fs.proofs.Prelude.{conditions, rename_stops, need_shaped}
 use Rattle.lfs_model.specs.Refusal as refusals
 use Rattle.lfs_files.specs.declared.fault.LogFault.TheVariants as log
-use Rattle.lfs_files.specs.Files as files
 use Rattle.lfs_path.specs.Laws.{SaysLast}
 use Rattle.lfs_entries.specs.declared.fault.EntryFault.TheVariants as fault
 use Rattle.lfs_entries.specs.Moving.{CountsMove, DraftsMove, HasNames}
 use Rattle.lfs_fs.specs.declared.error.FsError.TheVariants as error
 use Rattle.lfs_fs.proofs.calls.AnyDevice.{IsOrdinary}
-use Rattle.lfs_fs.proofs.calls.Exits.{point_of, served_still}
-use Rattle.lfs_fs.proofs.calls.Drafts.{not_acknowledged}
 use Rattle.lfs_fs.proofs.calls.Files as calls
-use Rattle.lfs_fs.proofs.calls.Files.{Explains, IsBegun, Makes, apart_now, begun_after, begun_at, counted_now, fault_serves, finish_ends}
-use Rattle.lfs_fs.proofs.calls.Files.{fits_now, gives_up, has_now, only, reached_in, refused_after, rose_where, still_after, still_ready}
-use Rattle.lfs_fs.proofs.calls.Files.{told}
-use Rattle.lfs_fs.proofs.calls.Files.{with_store}
-use Rattle.lfs_fs.proofs.calls.Steps.{not_worn, worn}
-use Rattle.lfs_fs.proofs.paths.Looks.{only_none}
+use Rattle.lfs_fs.proofs.calls.Files.{In, IsBegun, MakesNext, ReadsTo, RedraftsTo, Rose, apart_now, begun_after, begun_at, counted_now}
+use Rattle.lfs_fs.proofs.calls.Files.{drafted_ends, explains_where, fault_serves, fits_now, has_in, reached_in, read_still, risen}
+use Rattle.lfs_fs.proofs.calls.Files.{still_after, with_store}
 use Rattle.lfs_fs.proofs.rename.Drafts.{moved_map}
 use Rattle.lfs_steps.proofs.rename.Fits.{has_move, has_names, takes_move}
 use Rattle.lfs_steps.proofs.rename.Maps.{renamed, tree_after}
 use Rattle.lfs_fs.proofs.rename.Refusals.{AreReached, passes, rename_explained, renames, same_step}
 use Rattle.lfs_steps.proofs.rename.Steps.{rename_done, rename_lacks}
+use Rattle.lfs_fs.proofs.calls.Reads.{done_serves, refused_serves, worn_serves}
 
 module _ {D : Type 0} (state : D → DeviceState) (lawful : (d : D) → IsLawful (state d)) (v : Mounted D) (f : Fs D) (a : List ℕ) (da : ℕ)
     (from : Option Last) (b chain : List ℕ) (to : Option Last) (reached : ReachesBoth state v f a da from b chain to)
@@ -45,7 +40,7 @@ module _ {D : Type 0} (state : D → DeviceState) (lawful : (d : D) → IsLawful
   refused : {r : Refusal} → IsOrdinary (Refuse r) → ((s : State) → StopsAt (conditions N s a b da (here chain)) (Refuse r))
       → Serves state v (seen f) (Rename a b) (Refuse r)
   refused {r} ordinary at =
-      refused_after state lawful v f begun f.store (only_none state f).still (Rename a b) refl refl refl r ordinary
+      refused_serves {call = Rename a b} (lawful v.log.device) reached.first.still was ordinary refl
       (λ k m0 m s keeps is. rename_stops N s a b da (here chain) (reached.first.walk k m0 m s keeps is)
       (reached.second.walk k m0 m s keeps is) (at s))
 
@@ -80,19 +75,19 @@ module _ {D : Type 0} (state : D → DeviceState) (lawful : (d : D) → IsLawful
 
       -- ---- both end in names, which were looked up
       module _ (plain : is_dots l.name.now ≡ false) (other_plain : is_dots o.name.now ≡ false) (store : Store D)
-          (reads : files.Reads (files_of state f.store) (files_of state store)) where
+          (reads : ReadsTo state f store) where
         abbrev now : Fs D
         now = with_store f store
 
         still : IsStill state (seen f) (seen now)
-        still = (only state lawful v f begun store reads).still
+        still = read_still f store reads
 
-        here_in : calls.InEach state lawful v f begun store (λ m s. AreReached N m s a b da chain l o)
+        here_in : In state v now (λ m s. AreReached N m s a b da chain l o)
         here_in k m0 m s keeps is =
             let before = reads.looks.carries.kept_before keeps in
             record {
-              first = reached_in state lawful v f begun (subst (Reaches state v f a da) is_from reached.first) before is;
-              second = reached_in state lawful v f begun (subst (Reaches state v f b (here chain)) is_to reached.second) before is;
+              first = reached_in (subst (Reaches state v f a da) is_from reached.first) k m0 m s before is;
+              second = reached_in (subst (Reaches state v f b (here chain)) is_to reached.second) k m0 m s before is;
               directories = reached.directories k m0 m s before is;
               plain = plain;
               other_plain = other_plain;
@@ -105,47 +100,31 @@ module _ {D : Type 0} (state : D → DeviceState) (lawful : (d : D) → IsLawful
         checks_refused {why} refuses halted other =
             fault_serves state lawful v f begun store still (Rename a b) refl refl refl why halted other
             (λ k m0 m s keeps is. rename_explained (files_of state f.store) (files_of state store) (here_in k m0 m s keeps is)
-            (λ P all. told state lawful v f begun store P all k m0 m s keeps is)
-            (calls.Rose state lawful v f begun store)
-            (λ P holds fails. rose_where state lawful v f begun store still P fails k m0 m s keeps is holds) why refuses)
+            keeps (has_in begun is) (Rose state v store) (risen begun store) why refuses)
 
         -- ---- both names give one object
         module _ (same : HasBothNames (files_of state f.store) (files_of state store) da l.name.now l.slash chain o.name.now o.slash) where
-          stays : calls.InEach state lawful v f begun store (λ m s. Step N s (Rename a b) Done s)
+          stays : In state v now (λ m s. Step N s (Rename a b) Done s)
           stays k m0 m s keeps is = same_step (files_of state f.store) (files_of state store) (here_in k m0 m s keeps is)
-              (λ P all. told state lawful v f begun store P all k m0 m s keeps is) same
+              keeps (has_in begun is) same
 
           pub same_ends : (r : Result (Unit {0}) FsError) → OnOk r ((volume_of store).number < 2 ^ 62)
               → OnErr r (2 ^ 62 ≤ (volume_of store).number)
               → IfErr r (λ e. e ≡ error.Worn) → Serves state v (seen now) (Rename a b) (answer_by (λ _. Done) r)
-          same_ends (Ok u) young aged is = served_still state (Rename a b) {a = Done} (lawful v.log.device)
-              (still_after state lawful v f begun store still) was tt
-              (λ p keeps at k m0 m inside. inl (
-                stays k m0 m p.state keeps inside,
-                not_worn N (Rename a b) p
-                    (let number = at.number in let all = (still_after state lawful v f begun store still).reads.number in
-                    omega (arith, number, all, young)),
-              ))
-              (λ e. cc)
+          same_ends (Ok u) young aged is =
+              done_serves (lawful v.log.device) (still_after state lawful v f begun store still) was tt (λ e. cc)
+              (let all = (still_after state lawful v f begun store still).reads.number in omega (arith, all, young)) stays
           same_ends (Err e) young aged is = subst (λ (x : FsError). Serves state v (seen now) (Rename a b) (Refuse (refusal_of x))) (sym is)
-              (served_still state (Rename a b) {a = Refuse refusals.Worn} (lawful v.log.device)
-              (still_after state lawful v f begun store still) was tt
-              (λ p keeps at k m0 m inside. inr (
-                refusals.Worn,
-                refl,
-                worn N p (point_of state (seen now) p.state)
-                    (let number = at.number in let all = (still_after state lawful v f begun store still).reads.number in
-                    omega (arith, number, all, aged)) refl (stays k m0 m p.state keeps inside) refl,
-                refl,
-              ))
-              (not_acknowledged (Rename a b) refusals.Worn))
+              (worn_serves {call = Rename a b} (lawful v.log.device) (still_after state lawful v f begun store still) was refl
+              (let all = (still_after state lawful v f begun store still).reads.number in omega (arith, all, aged))
+              (λ k m0 m s keeps inside. (Done, s, stays k m0 m s keeps inside, refl)))
 
         -- ---- the draft
         module _ {source : Source} {dest : Target}
             (checks : ChecksRename (files_of state f.store) (files_of state store) da l.name.now l.slash chain o.name.now o.slash source
             dest) {is_open : Bool} (held : is_open ≡ true → IsOpen f.handles dest.replaced)
             (shut : is_open ≡ false → IsShut f.handles dest.replaced)
-            (next : Store D) (redrafts : files.Redrafts (files_of state store) (files_of state next)) where
+            (next : Store D) (redrafts : RedraftsTo state now next) where
           abbrev d1 : ℕ
           d1 = source.directory.value
 
@@ -153,27 +132,26 @@ module _ {D : Type 0} (state : D → DeviceState) (lawful : (d : D) → IsLawful
           d2 = dest.directory.value
 
           begun_now : IsBegun state v now
-          begun_now = begun_after state lawful v f begun store reads
+          begun_now = begun_after f store reads lawful begun
 
-          renames_in : calls.InEach state lawful v f begun store (λ m s. IsRename N m s a b l o source dest)
+          renames_in : In state v now (λ m s. IsRename N m s a b l o source dest)
           renames_in k m0 m s keeps is = renames (files_of state f.store) (files_of state store) (here_in k m0 m s keeps is)
-              (λ P all. told state lawful v f begun store P all k m0 m s keeps is) checks
+              keeps (has_in begun is) checks
 
           -- it is made
           module _ (drafts : DraftsMove (files_of state store) (files_of state next) source dest is_open)
               (counts : CountsMove (files_of state store) (files_of state next) source dest) where
-            makes : calls.InEach state lawful v now begun_now next
-                (Makes state lawful v now begun_now next redrafts (Rename a b) refl refl refl refl)
+            makes : In state v (with_store now next) (MakesNext state v (with_store now next) (Rename a b))
             makes k m0 m s keeps is =
                 let kept = redrafts.looks.carries.kept_before keeps in
                 let g = renames_in k m0 m s kept is in
-                let pass = passes (files_of state f.store) (files_of state store) (here_in k m0 m s kept is)
-                (λ P all. told state lawful v f begun store P all k m0 m s kept is) checks in
-                let has = has_now state lawful v now begun_now is in
+                let pass = passes (files_of state f.store) (files_of state store) (here_in k m0 m s kept is) kept
+                (has_in begun is) checks in
+                let has = has_in begun_now is in
                 let moved = drafts.has m m keeps has (has_move g) in
-                let table : s.handles ≡ f.handles = is.handles ∙ sym begun.still.table in
-                let map = moved_map g is_open (λ on. subst (λ (hs : Handles). IsOpen hs dest.replaced) (sym table) (held on))
-                (λ off. subst (λ (hs : Handles). IsShut hs dest.replaced) (sym table) (shut off)) moved in
+                let table = sym (is.handles ∙ sym begun.still.table) in
+                let map = moved_map g is_open (λ on. subst (λ (hs : Handles). IsOpen hs dest.replaced) table (held on))
+                (λ off. subst (λ (hs : Handles). IsShut hs dest.replaced) table (shut off)) moved in
                 let counted = counts m m moved.map keeps has moved.has (has_move g) (g.shaped.long d1) map.shape.map
                 (counted_now state lawful v now begun_now is) in
                 let needs : need (tree_after s a b d1 d2) ≡ need_of (with_store now next) = ap need (sym map.tree)
@@ -205,20 +183,9 @@ module _ {D : Type 0} (state : D → DeviceState) (lawful : (d : D) → IsLawful
               → (IsErrOf drafted (fault.Log log.Full) → ⊥)
               → Serves state v (seen new) (Rename a b) (answer_by (λ _. Done) result)
           unfolding makes
-          move_ends new rest (Ok done) result finishes drafts counts failed halted other =
-              finish_ends state lawful v now begun_now next redrafts (Rename a b) refl refl refl refl
-              (makes drafts counts) new rest Done refl
-              (λ k m0 m s keeps is. (refl, is.handles)) finishes
-          move_ends new rest (Err why) result finishes drafts counts failed halted other =
-              gives_up state lawful v now begun_now next (still_ready state lawful v now begun_now next redrafts)
-              (Rename a b) refl refl refl finishes (λ same. halted (ap Err same)) (λ same. other (ap Err same)) (explains why failed) Done
-            where
-              explains : (why : EntryFault) → FailsWhere (files_of state store) (files_of state next) (HasNames source dest) why
-                  → calls.InEach state lawful v now begun_now next
-                  (λ m s. Explains (Rename a b) N s (calls.Rose state lawful v now begun_now next) why)
-              explains fault.NoMemory failed k m0 m s keeps is = tt
-              explains (fault.Log log) failed k m0 m s keeps is =
-                  rose_where state lawful v now begun_now next (still_ready state lawful v now begun_now next redrafts)
-                  (HasNames source dest) failed k m0 m s keeps is
-                  (has_names (renames_in k m0 m s (redrafts.looks.carries.kept_before keeps) is))
-              explains other failed k m0 m s keeps is = absurd failed
+          move_ends new rest drafted result finishes drafts counts =
+              drafted_ends state lawful v now begun_now next redrafts (Rename a b) refl refl refl refl makes new rest Done refl
+              (λ p q k m0 m s keeps is. (refl, is.handles))
+              (explains_where begun_now next {P = HasNames source dest}
+              (λ k m0 m s keeps is. has_names (renames_in k m0 m s (redrafts.looks.carries.kept_before keeps) is)) (Rename a b))
+              drafted result finishes drafts counts

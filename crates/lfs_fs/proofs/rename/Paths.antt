@@ -8,7 +8,7 @@ use Rattle.lfs_files.specs.declared.fault.LogFault.TheVariants as log
 use Rattle.lfs_files.specs.Files as files
 use Rattle.lfs_path.specs.declared.walk_fault.WalkFault.TheVariants as walk
 use Rattle.lfs_path.specs.Trees.{HasTree}
-use Rattle.lfs_fs.proofs.calls.Files.{IsBegun, begun_at, has_now, still_after, with_store}
+use Rattle.lfs_fs.proofs.calls.Files.{IsBegun, begun_at, has_in, still_after, with_store}
 use Rattle.lfs_fs.proofs.calls.StoreCalls.{ends_parent, ends_refused}
 use Rattle.lfs_fs.proofs.paths.Later.{later_reaches, later_refused}
 use Rattle.lfs_fs.proofs.paths.Places.{path_read}
@@ -50,7 +50,7 @@ module _ {D : Type 0} {state : D → DeviceState} (lawful : (d : D) → IsLawful
     second = later_reaches lawful reached.still was reached.empty only reached.drafted b bytes
         last (ends_parent state f.store store b chain {d = here chain} refl tells);
     directories = λ k m0 m s keeps is. subst (λ (t : Tree). IsChain t chain) (sym is.log.is)
-        (tells m m keeps (has_now state lawful v f begun is) (tree_of_volume is)).directories;
+        (tells m m keeps (has_in begun is) (tree_of_volume is)).directories;
   }
 
   -- the second isn't walked to its end

@@ -1,26 +1,26 @@
 -- What a rename's rule says of one state: why the model refuses the call there, or that nothing but the need of space may.
-use Rattle.lfs_fs.proofs.Prelude.{◌≡◌, ◌≢◌, ◌||◌, ◌&&◌, not, ℕ, Bool, true, false, List, length, Option, Some, None, eqb, refl, sym, ◌∙◌}
-use Rattle.lfs_fs.proofs.Prelude.{ap, subst, inl, inr, arith, ◌==◌, eq-eqb, nat_tests, Answer, Done, Refuse, Rename, IsName, LogMap, Step}
-use Rattle.lfs_fs.proofs.Prelude.{name, State, is_dir, links, names, node, FilesState, Last, is_dots, HasHeader, TellsFault, IsChain, here}
-use Rattle.lfs_fs.proofs.Prelude.{Object, EntryFault, Source, Target, is_directory, IsHolder, LooksAt, LooksUp, ChecksRename, HasBothNames}
-use Rattle.lfs_fs.proofs.Prelude.{RefusesRename, InEach, at_most, not_at_most, IsReached, dots_is, entry_is, free_is, full_is, gives_is}
-use Rattle.lfs_fs.proofs.Prelude.{has_piece, holder, kind_is, last_dots_is, links_are, long_is, piece_is, short_is, slash_is, target_is}
-use Rattle.lfs_fs.proofs.Prelude.{there_is, IsRename, StopsAt, conditions, rename_stops, shape_of}
+use Rattle.lfs_fs.proofs.Prelude.{◌<◌, ◌≡◌, ◌≢◌, ◌||◌, ◌&&◌, not, ℕ, Bool, true, false, List, length, Option, Some, None, eqb, refl, sym}
+use Rattle.lfs_fs.proofs.Prelude.{◌∙◌, ap, subst, inl, inr, arith, ◌==◌, eq-eqb, nat_tests, Answer, Done, Refuse, Rename, IsName, LogMap}
+use Rattle.lfs_fs.proofs.Prelude.{Step, name, State, is_dir, links, names, node, FilesState, Last, is_dots, IsChain, here, Object}
+use Rattle.lfs_fs.proofs.Prelude.{EntryFault, Source, Target, is_directory, LooksAt, LooksUp, ChecksRename, HasBothNames, RefusesRename}
+use Rattle.lfs_fs.proofs.Prelude.{at_most, not_at_most, IsReached, dots_is, entry_is, free_is, full_is, gives_is, has_piece, holder}
+use Rattle.lfs_fs.proofs.Prelude.{kind_is, last_dots_is, links_are, long_is, piece_is, short_is, slash_is, target_is, there_is, IsRename}
+use Rattle.lfs_fs.proofs.Prelude.{StopsAt, conditions, rename_stops, shape_of}
 use Rattle.std.proofs.lemmas.Bool.{eqb-true}
 use Rattle.lfs_model.specs.Refusal as refusals
 use Rattle.lfs_model.specs.Step.{is_there, is_within}
 use Rattle.lfs_model.proofs.Shrinking.{named_counts}
 use Rattle.lfs_files.specs.Headers.{as_header}
 use Rattle.lfs_entries.specs.declared.fault.EntryFault.TheVariants as fault
-use Rattle.lfs_entries.specs.Renaming.{FindsSource, FindsTarget, GivesName, IsAbove, IsNotAbove}
-use Rattle.lfs_entries.specs.Renaming.{RefusesNext, RefusesSource, of_first, of_second, of_target, of_within}
+use Rattle.lfs_entries.specs.Renaming.{FindsSource, FindsTarget, GivesName, IsAbove, IsNotAbove, RefusesNext, RefusesSource, of_first}
+use Rattle.lfs_entries.specs.Renaming.{of_second, of_target, of_within}
 use Rattle.lfs_entries.specs.Replacing.{FitsFound, RefusesFound, RefusesReplaced, RefusesRoom}
 use Rattle.lfs_fs.proofs.calls.Files.{Explains}
 use Rattle.lfs_steps.proofs.paths.ChainTrees.{above_within, apart_not_within}
 use Rattle.lfs_steps.proofs.paths.LastNames.{piece_is_name}
-use Rattle.lfs_steps.proofs.rename.Steps.{AreNamed, MayBeNamed, NamesSource, NamesTarget, PassesAll, before_space}
-use Rattle.lfs_steps.proofs.rename.Steps.{passes_new, passes_replaced, stops_done, stops_empty, stops_full, stops_is_dir}
-use Rattle.lfs_steps.proofs.rename.Steps.{stops_links, stops_next, stops_not_dir, stops_slash, stops_source, stops_within, stops_within_new}
+use Rattle.lfs_steps.proofs.rename.Steps.{AreNamed, MayBeNamed, NamesSource, NamesTarget, PassesAll, before_space, passes_new}
+use Rattle.lfs_steps.proofs.rename.Steps.{passes_replaced, stops_done, stops_empty, stops_full, stops_is_dir, stops_links, stops_next}
+use Rattle.lfs_steps.proofs.rename.Steps.{stops_not_dir, stops_slash, stops_source, stops_within, stops_within_new}
 use Rattle.lfs_steps.proofs.rename.Views.{has_entries, no_entries}
 
 other_way : (x y : ℕ) (b : Bool) → eqb x y ≡ b → eqb y x ≡ b
@@ -39,7 +39,7 @@ pub record AreReached (N : ℕ) (m : LogMap) (s : State) (a b : List ℕ) (da : 
   pub other_plain : is_dots o.name.now ≡ false
 
 module _ {S D : Type 0} (f f' : FilesState S D) {N : ℕ} {m : LogMap} {s : State} {a b : List ℕ} {da : ℕ} {chain : List ℕ} {l o : Last}
-    (g : AreReached N m s a b da chain l o) (see : (P : LogMap → Type 0) → InEach f f' P → P m) where
+    (g : AreReached N m s a b da chain l o) (keeps : f'.device.keeps_model) (has_map : f.has m m) where
   abbrev db : ℕ
   db = here chain
 
@@ -52,6 +52,9 @@ module _ {S D : Type 0} (f f' : FilesState S D) {N : ℕ} {m : LogMap} {s : Stat
     names = λ i. (last_dots_is g.first ∙ g.plain) i || (last_dots_is g.second ∙ g.other_plain) i;
   }
 
+  step : {x : Answer} → Stops x → Step N s (Rename a b) x s
+  step = rename_stops N s a b da db g.first.walk g.second.walk
+
   -- ---- the first name gives an object
   module _ {source : Source} (finds : FindsSource f f' da l.name.now l.slash source) where
     abbrev n : ℕ
@@ -61,7 +64,7 @@ module _ {S D : Type 0} (f f' : FilesState S D) {N : ℕ} {m : LogMap} {s : Stat
     on = is_directory source.object.header.kind
 
     looks_a : LooksAt m da l.name.now source.holder (Some source.object)
-    looks_a = see (λ x. LooksAt x da l.name.now source.holder (Some source.object)) finds.looks
+    looks_a = finds.looks m m keeps has_map
 
     source_is : NamesSource N s a b da db n on
     source_is = record {
@@ -88,7 +91,7 @@ module _ {S D : Type 0} (f f' : FilesState S D) {N : ℕ} {m : LogMap} {s : Stat
     -- ---- the second may be its name
     module _ {dest : Target} (also : FindsTarget f f' db o.name.now o.slash source.object.header.kind dest) where
       looks_b : LooksAt m db o.name.now dest.holder dest.replaced
-      looks_b = see (λ x. LooksAt x db o.name.now dest.holder dest.replaced) also.looks
+      looks_b = also.looks m m keeps has_map
 
       may : MayBeNamed N s a b da db on
       may = record {
@@ -122,12 +125,12 @@ module _ {S D : Type 0} (f f' : FilesState S D) {N : ℕ} {m : LogMap} {s : Stat
           module _ (apart : IsNotAbove chain n) where
             replaced_explained : (rose : Type 0) (why : EntryFault) → RefusesReplaced source.object.header.kind r.header why
                 → Explains (Rename a b) N s rose why
-            replaced_explained rose fault.IsDir why = rename_stops N s a b da db g.first.walk g.second.walk
-                (stops_is_dir named source_is may dest_is not_same (within_not apart) why.0 why.1)
-            replaced_explained rose fault.NotDir why = rename_stops N s a b da db g.first.walk g.second.walk
-                (stops_not_dir named source_is may dest_is not_same (within_not apart) why.0 why.1)
-            replaced_explained rose fault.NotEmpty why = rename_stops N s a b da db g.first.walk g.second.walk
-                (stops_empty named source_is may dest_is not_same (within_not apart) why.0 why.1 (has_entries g.second.map r.header
+            replaced_explained rose fault.IsDir why =
+                step (stops_is_dir named source_is may dest_is not_same (within_not apart) why.0 why.1)
+            replaced_explained rose fault.NotDir why =
+                step (stops_not_dir named source_is may dest_is not_same (within_not apart) why.0 why.1)
+            replaced_explained rose fault.NotEmpty why =
+                step (stops_empty named source_is may dest_is not_same (within_not apart) why.0 why.1 (has_entries g.second.map r.header
                 (g.second.headers r.number.value (as_header r.header) looks_r.there) looks_r.there kind_r why.0 why.2))
             replaced_explained rose other why = absurd why
 
@@ -153,12 +156,10 @@ module _ {S D : Type 0} (f f' : FilesState S D) {N : ℕ} {m : LogMap} {s : Stat
         module _ (apart : IsNotAbove chain n) where
           room_explained : (rose : Type 0) → source.directory.value ≢ dest.directory.value → (why : EntryFault)
               → RefusesRoom source.object.header.kind dest.holder why → Explains (Rename a b) N s rose why
-          room_explained rose ne fault.DirFull why = rename_stops N s a b da db g.first.walk g.second.walk
-              (stops_full named source_is may new (within_not apart)
+          room_explained rose ne fault.DirFull why = step (stops_full named source_is may new (within_not apart)
               (differs da db (λ same. ne (finds.directory ∙ same ∙ sym also.directory)))
               (full_is g.second dest.holder looks_none.header why))
-          room_explained rose ne fault.TooManyLinks why = rename_stops N s a b da db g.first.walk g.second.walk
-              (stops_links named source_is may new (within_not apart)
+          room_explained rose ne fault.TooManyLinks why = step (stops_links named source_is may new (within_not apart)
               (differs da db (λ same. ne (finds.directory ∙ same ∙ sym also.directory)))
               (free_is g.second dest.holder looks_none.header why.0) why.1
               (at_most 1000 (links s.tree db)
@@ -173,15 +174,12 @@ module _ {S D : Type 0} (f f' : FilesState S D) {N : ℕ} {m : LogMap} {s : Stat
               let few = (fits (elsewhere ne)).links dir in omega (arith, same, few)))
 
   -- ---- why it is refused
-  module _ (rose : Type 0) (rises : (P : LogMap → Type 0) → P m → TellsFault f f' P → rose) where
-    step : {x : Answer} → Stops x → Step N s (Rename a b) x s
-    step at = rename_stops N s a b da db g.first.walk g.second.walk at
-
+  module _ (rose : Type 0) (rises : f.device.failures < f'.device.failures → rose) where
     first_explained : (why : EntryFault) → RefusesSource f f' da l.name.now l.slash why → Explains (Rename a b) N s rose why
     first_explained fault.NameTooLong why = step (stops_source named
-        (inl (long_is g.first why.head (see (HasHeader da why.head) why.header) why.long, refl)))
+        (inl (long_is g.first why.head (why.header m m keeps has_map) why.long, refl)))
     first_explained fault.NoEntry why =
-        let looks : LooksUp m da l.name.now why.head None = see (λ x. LooksUp x da l.name.now why.head None) why.looks in
+        let looks = why.looks m m keeps has_map in
         step (stops_source named (inr (
           short_is g.first why.head looks.header why.short,
           inl (ap not (there_is g.first looks), refl),
@@ -189,33 +187,33 @@ module _ {S D : Type 0} (f f' : FilesState S D) {N : ℕ} {m : LogMap} {s : Stat
     first_explained fault.NotDir why =
         let head = why.entry.holder in
         let x = why.entry.object in
-        let looks : LooksAt m da l.name.now head (Some x) = see (λ y. LooksAt y da l.name.now head (Some x)) why.looks in
+        let looks = why.looks m m keeps has_map in
         step (stops_source named (inr (
           short_is g.first head looks.looks.header why.short,
-          inr ( ap not (there_is g.first looks.looks),
+          inr (
+            ap not (there_is g.first looks.looks),
             inl (
               (λ i. slash_is g.first i && not (gives_is g.first looks.looks x.header looks.there i)) ∙ why.is,
               refl,
             ),
           ),
         )))
-    first_explained (fault.Log why) fails = rises (IsHolder da) (holder g.first) fails
+    first_explained (fault.Log why) fails = rises (fails m m keeps has_map (holder g.first))
     first_explained other why = absurd why
 
     module _ {source : Source} (finds : FindsSource f f' da l.name.now l.slash source) where
       next_explained : (why : EntryFault) → RefusesNext f f' db o.name.now o.slash source.object.header.kind why
           → Explains (Rename a b) N s rose why
       next_explained fault.NameTooLong why = step (stops_next named (source_is finds)
-          (inl (long_is g.second why.head (see (HasHeader db why.head) why.header) why.long, refl)))
+          (inl (long_is g.second why.head (why.header m m keeps has_map) why.long, refl)))
       next_explained fault.NotDir why =
           let gives = why.1.1 in
-          let looks : LooksUp m db o.name.now gives.head why.1.0 = see (λ x. LooksUp x db o.name.now gives.head why.1.0) gives.looks in
+          let looks = gives.looks m m keeps has_map in
           step (stops_slash named (source_is finds) (short_is g.second gives.head looks.header gives.short)
           (ap (λ (x : Bool). x && not (is_directory source.object.header.kind)) (slash_is g.second) ∙ why.0))
-      next_explained (fault.Log why) fails = rises (IsHolder db) (holder g.second)
-          (fails (λ len short. subst (IsName len) (piece_is g.second)
+      next_explained (fault.Log why) fails = rises (fails (λ len short. subst (IsName len) (piece_is g.second)
           (piece_is_name N s g.second.map.log.sound b db g.second.walk (dots_is g.second ∙ g.other_plain) len
-          (let same = ap length (piece_is g.second) in omega (arith, same, short)))))
+          (let same = ap length (piece_is g.second) in omega (arith, same, short)))) m m keeps has_map (holder g.second))
       next_explained other why = absurd why
 
       module _ {dest : Target} (also : FindsTarget f f' db o.name.now o.slash source.object.header.kind dest)
@@ -249,9 +247,8 @@ module _ {S D : Type 0} (f f' : FilesState S D) {N : ℕ} {m : LogMap} {s : Stat
       by : (found : Option Object) → has.target.replaced ≡ found → GivesName found has.source.object.number.value ≡ true
           → Step N s (Rename a b) Done s
       by None none is = absurd (let wrong : false ≡ true = is in cc)
-      by (Some r) some is = rename_stops N s a b da db g.first.walk g.second.walk
-          (stops_done named (source_is has.both.first) (may has.both.first has.both.second) (dest_is has.both.first has.both.second r some)
-          (other_way r.number.value has.source.object.number.value true is))
+      by (Some r) some is = step (stops_done named (source_is has.both.first) (may has.both.first has.both.second)
+          (dest_is has.both.first has.both.second r some) (other_way r.number.value has.source.object.number.value true is))
 
   -- ---- nothing but the need of space may refuse it
   module _ {source : Source} {dest : Target} (checks : ChecksRename f f' da l.name.now l.slash chain o.name.now o.slash source dest) where

@@ -1,26 +1,23 @@
 -- The call rmdir as a step of the model: what the rule of an empty directory takes, why it takes none, and the name that goes.
-use Rattle.lfs_fs.proofs.Prelude.{◌≡◌, ◌<◌, ◌*◌, ℕ, Bool, true, false, List, [], length, Option, Some, None, Result, refl, sym, ◌∙◌, ap}
-use Rattle.lfs_fs.proofs.Prelude.{nat_lt, arith, IfErr, IsErrOf, OnOk, unwrap_or, Kind, Done, Refuse, Rmdir, DeviceState, IsLawful, LogMap}
-use Rattle.lfs_fs.proofs.Prelude.{Step, Dir, File, Names, Node, State, is_dir, names_in, names_of, node, slot_len, node_by, FilesState}
-use Rattle.lfs_fs.proofs.Prelude.{Store, files_of, Last, HasHeader, TellsFault, Entry, EntryFault, is_directory, IsHolder, LooksAt, LooksUp}
-use Rattle.lfs_fs.proofs.Prelude.{CountsDrop, DraftsDrop, HasOld, FailsWhere, InEach, FsError, Fs, error_of_entry, Finishes, Reaches}
-use Rattle.lfs_fs.proofs.Prelude.{refusal_of, IsReady, answer_by, seen, Mounted, Serves, segments_of, MayGo, gone, IsReached, gives_is}
-use Rattle.lfs_fs.proofs.Prelude.{has_piece, holder, kind_is, last_dots_is, long_is, short_is, target_is, there_is, IsShaped}
-use Rattle.lfs_fs.proofs.Prelude.{node_by_header}
+use Rattle.lfs_fs.proofs.Prelude.{◌≡◌, ◌<◌, ◌*◌, ℕ, Bool, true, false, List, [], length, Option, Some, Result, refl, sym, ◌∙◌, ap, nat_lt}
+use Rattle.lfs_fs.proofs.Prelude.{arith, IfErr, IsErrOf, OnOk, unwrap_or, Kind, Done, Refuse, Rmdir, DeviceState, IsLawful, LogMap, Step}
+use Rattle.lfs_fs.proofs.Prelude.{Dir, File, Names, Node, State, is_dir, names_in, names_of, node, slot_len, node_by, FilesState, Store}
+use Rattle.lfs_fs.proofs.Prelude.{files_of, Last, Entry, EntryFault, is_directory, LooksAt, CountsDrop, DraftsDrop, HasOld, FailsWhere}
+use Rattle.lfs_fs.proofs.Prelude.{FsError, Fs, error_of_entry, Finishes, Reaches, refusal_of, IsReady, answer_by, seen, Mounted, Serves}
+use Rattle.lfs_fs.proofs.Prelude.{segments_of, MayGo, gone, IsReached, gives_is, has_piece, holder, kind_is, last_dots_is, long_is}
+use Rattle.lfs_fs.proofs.Prelude.{short_is, target_is, there_is, IsShaped, node_by_header}
 use Rattle.lfs_model.specs.declared.Kind.TheVariants as kind
 use Rattle.lfs_model.specs.Step.{target}
 use Rattle.lfs_model.proofs.KeepsNames.{rmdir_keeps}
 use Rattle.lfs_files.specs.declared.fault.LogFault.TheVariants as log
 use Rattle.lfs_files.specs.declared.header.Header.{Header}
-use Rattle.lfs_files.specs.Files as files
 use Rattle.lfs_files.specs.Headers.{as_header}
 use Rattle.lfs_path.proofs.of_dirs.SlotsKept.{empty_directory}
 use Rattle.lfs_entries.specs.declared.fault.EntryFault.TheVariants as fault
 use Rattle.lfs_entries.specs.OldEntries.{HasEmpty, RefusesEmpty}
 use Rattle.lfs_steps.proofs.calls.Checks.{below, not_below}
-use Rattle.lfs_fs.proofs.calls.Files as calls
-use Rattle.lfs_fs.proofs.calls.Files.{Explains, IsBegun, Rose, begun_after, begun_at, fault_serves, only, reached_in, rose_where, told}
-use Rattle.lfs_fs.proofs.calls.Files.{with_store}
+use Rattle.lfs_fs.proofs.calls.Files.{Explains, In, IsBegun, ReadsTo, RedraftsTo, Rose, begun_after, begun_at, fault_serves, has_in}
+use Rattle.lfs_fs.proofs.calls.Files.{reached_in, read_still, risen, with_store}
 use Rattle.lfs_fs.proofs.old_entries.Drops.{drop_ends}
 use Rattle.lfs_fs.proofs.old_entries.Explained.{plain_so}
 use Rattle.lfs_steps.proofs.paths.Named.{range_n}
@@ -88,39 +85,35 @@ module _ {S D : Type 0} {a b : FilesState S D} {N : ℕ} {m : LogMap} {s : State
 -- ---- it isn't
 
 module _ {S D : Type 0} (a b : FilesState S D) {N : ℕ} {m : LogMap} {s : State} {p : List ℕ} {d : ℕ} {l : Last}
-    (g : IsReached N m s p d l) (see : (P : LogMap → Type 0) → InEach a b P → P m) (rose : Type 0)
-    (rises : TellsFault a b (IsHolder d) → rose) where
-  at_entry : (e : Entry) → InEach a b (λ x. LooksAt x d l.name.now e.holder (Some e.object))
-      → LooksAt m d l.name.now e.holder (Some e.object)
-  at_entry e looks = see (λ x. LooksAt x d l.name.now e.holder (Some e.object)) looks
-
+    (g : IsReached N m s p d l) (keeps : b.device.keeps_model) (has : a.has m m) (rose : Type 0)
+    (rises : a.device.failures < b.device.failures → rose) where
   pub empty_explained : (why : EntryFault) → RefusesEmpty a b d l.name.now why → Explains (Rmdir p) N s rose why
   empty_explained fault.Inval why = rmdir_dots N s p d g.walk (has_piece g) (last_dots_is g ∙ why)
   empty_explained fault.NameTooLong why =
       rmdir_long N s p d g.walk (has_piece g) (last_dots_is g ∙ why.0)
-      (long_is g why.1.head (see (HasHeader d why.1.head) why.1.header) why.1.long)
+      (long_is g why.1.head (why.1.header m m keeps has) why.1.long)
   empty_explained fault.NoEntry why =
-      let at : LooksUp m d l.name.now why.1.head None = see (λ x. LooksUp x d l.name.now why.1.head None) why.1.looks in
+      let at = why.1.looks m m keeps has in
       rmdir_missing N s p d g.walk (has_piece g) (last_dots_is g ∙ why.0) (short_is g why.1.head at.header why.1.short) (there_is g at)
   empty_explained fault.NotDir why =
       let e = why.1.entry in
-      let at = at_entry e why.1.looks in
+      let at = why.1.looks m m keeps has in
       rmdir_plain N s p d g.walk (has_piece g) (last_dots_is g ∙ why.0) (short_is g e.holder at.looks.header why.1.short)
       (there_is g at.looks) (gives_is g at.looks e.object.header at.there ∙ plain_so e.object.header.kind why.1.is)
   empty_explained fault.NotEmpty why =
       let e = why.1.entry in
-      let at = at_entry e why.1.looks in
+      let at = why.1.looks m m keeps has in
       rmdir_full N s p d g.walk (has_piece g) (last_dots_is g ∙ why.0) (short_is g e.holder at.looks.header why.1.short)
       (there_is g at.looks) (gives_is g at.looks e.object.header at.there ∙ ap is_directory why.1.is.0)
       (some_there g e at why.1.is.0 why.1.is.1)
-  empty_explained (fault.Log f) why = rises why
+  empty_explained (fault.Log f) why = rises (why m m keeps has (holder g))
   empty_explained other why = absurd why
 
 -- ---- the call
 
 module _ {D : Type 0} {state : D → DeviceState} (lawful : (d : D) → IsLawful (state d)) {v : Mounted D} {f : Fs D} {path : List ℕ} {d : ℕ}
     {l : Last} (reached : Reaches state v f path d (Some l)) (ready : IsReady f) (store : Store D)
-    (reads : files.Reads (files_of state f.store) (files_of state store)) where
+    (reads : ReadsTo state f store) where
   begun : IsBegun state v f
   begun = begun_at state reached ready
 
@@ -128,25 +121,22 @@ module _ {D : Type 0} {state : D → DeviceState} (lawful : (d : D) → IsLawful
       → (why ≡ fault.Log log.Full → ⊥) → RefusesEmpty (files_of state f.store) (files_of state store) d l.name.now why
       → Serves state v (seen (with_store f store)) (Rmdir path) (Refuse (refusal_of (error_of_entry why)))
   empty_refused why halted other refuses =
-      fault_serves state lawful v f begun store (only state lawful v f begun store reads).still (Rmdir path) refl refl refl why halted other
-      (λ k m0 m s keeps is. (
-      let g = reached_in state lawful v f begun reached (reads.looks.carries.kept_before keeps) is in
-      empty_explained (files_of state f.store) (files_of state store) g (λ P all. told state lawful v f begun store P all k m0 m s keeps is)
-      (Rose state lawful v f begun store)
-      (λ fails. rose_where state lawful v f begun store (only state lawful v f begun store reads).still (IsHolder d) fails k m0 m s keeps is
-      (holder g))
-      why refuses))
+      fault_serves state lawful v f begun store (read_still f store reads) (Rmdir path) refl refl refl why halted other
+      (λ k m0 m s keeps is.
+      empty_explained (files_of state f.store) (files_of state store)
+      (reached_in reached k m0 m s (reads.looks.carries.kept_before keeps) is) keeps (has_in begun is) (Rose state v store)
+      (risen begun store) why refuses)
 
   module _ {e : Entry} (has : HasEmpty (files_of state f.store) (files_of state store) d l.name.now e) (next : Store D)
-      (redrafts : files.Redrafts (files_of state store) (files_of state next)) where
+      (redrafts : RedraftsTo state (with_store f store) next) where
     read : IsBegun state v (with_store f store)
-    read = begun_after state lawful v f begun store reads
+    read = begun_after f store reads lawful begun
 
-    may : calls.InEach state lawful v (with_store f store) read next (λ m s. MayGo (segments_of v) m s path d l e (Rmdir path))
+    may : In state v (with_store f next) (λ m s. MayGo (segments_of v) m s path d l e (Rmdir path))
     may k m0 m s keeps is =
         let kept = redrafts.looks.carries.kept_before keeps in
-        may_rmdir has (reached_in state lawful v f begun reached (reads.looks.carries.kept_before kept) is) (shape_of_volume is)
-        (told state lawful v f begun store (λ x. LooksAt x d l.name.now e.holder (Some e.object)) has.finds.looks k m0 m s kept is)
+        may_rmdir has (reached_in reached k m0 m s (reads.looks.carries.kept_before kept) is) (shape_of_volume is)
+        (has.finds.looks m m kept (has_in begun is))
 
     pub rmdir_ends : (new : Fs D) → new.handles ≡ f.handles → (drafted : Result (Unit {0}) EntryFault) (result : Result (Unit {0}) FsError)
         → Finishes state (with_store f next) new drafted result

@@ -26,15 +26,14 @@ module _ {D : Type 0} (state : D → DeviceState) (old new : Mounted D) (lawful 
       one_more false n = omega arith
 
       later : old.log.number ≤ new.log.number
-      later = subst (λ (n : ℕ). old.log.number ≤ n) (sym done.number) (one_more old.log.saved old.log.number)
+      later = rw done.number (one_more old.log.saved old.log.number)
 
       one_most : (b : Bool) (n k : ℕ) → cond b n (n + 1) ≤ n + k + 1
       one_most true n k = omega arith
       one_most false n k = omega arith
 
       few : CommitsFew old new
-      few = subst (λ (n : ℕ). n ≤ old.log.number + segments_of old / 8 + 1) (sym done.number)
-          (one_most old.log.saved old.log.number (segments_of old / 8))
+      few = rw done.number (one_most old.log.saved old.log.number (segments_of old / 8))
 
 -- ---- drafts
 

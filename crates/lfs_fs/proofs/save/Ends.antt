@@ -7,6 +7,9 @@ use Rattle.lfs_store.specs.log.LogState.{Halts}
 use Rattle.lfs_store.proofs.of_cleaner.Rooms.{halts_at_once}
 use Rattle.lfs_fs.proofs.calls.AnyDevice.{sync_bounded}
 use Rattle.lfs_fs.proofs.save.Declined.{sync_serves}
+use Rattle.lfs_fs.proofs.Prelude.{Device, Err, LogState, Ok, Result}
+use Rattle.lfs_store.specs.Outcomes.{Committed}
+use Rattle.lfs_fs.proofs.calls.Files.{with_store}
 use Rattle.lfs_fs.proofs.save.Room.{full_serves}
 use Rattle.lfs_fs.proofs.write.Ends.{halts_serves}
 
@@ -14,31 +17,20 @@ pub not_halted : {D : Type 0} (f : Fs D) → (seen f).log.halted ≡ false → (
 not_halted f was halted = cc
 
 module _ {D : Type 0} {state : D → DeviceState} (lawful : (d : D) → IsLawful (state d)) (old : Fs D) (store : Store D)
-    (was : (seen old).log.halted ≡ false) (totals : (volume_of store).totals ≡ (seen old).log.totals)
-    (tells : TellsAtMost state (seen old).log (volume_of store) commit_orders) where
+    (was : (seen old).log.halted ≡ false) {result : Result (Unit {0}) LogFault} (ends : Committed state old.store store result) where
   abbrev new : Fs D
-  new = record { alloc = old.alloc; store = store; handles = old.handles }
+  new = with_store old store
 
-  pub sync_done_serves : Commits state (seen old).log (volume_of store) → Serves state (seen old) (seen new) Sync Done
-  sync_done_serves done = sync_serves state (seen old) (seen new) (lawful (seen old).log.device) (lawful (volume_of store).device)
-      (record { totals = totals; table = refl }) done tells
+  pub sync_done_serves : result ≡ Ok tt → Serves state (seen old) (seen new) Sync Done
+  sync_done_serves is = sync_serves state (seen old) (seen new) (lawful (seen old).log.device) (lawful (volume_of store).device)
+      (record { totals = ends.keeps.totals; table = refl }) (rw is at ends.done) ends.told
 
-  same_seen : volume_of store ≡ (seen old).log → seen new ≡ seen old
-  same_seen same = λ i. record { log = same i; table = old.handles }
-
-  sync_fault : (fault : LogFault) → (fault ≡ log.Full → (volume_of store ≡ (seen old).log) × IsFull (seen old).log) → (fault ≡ log.Full
-      → (seen old).log.saved ≡ false) → (fault ≡ log.Halted → Halts state (seen old).log (volume_of store)) → (fault ≡ log.Device → ⊥)
+  pub sync_fails : {fault : LogFault} → result ≡ Err fault
       → Serves state (seen old) (seen new) Sync (Refuse (refusal_of (error_of_log fault)))
-  sync_fault log.Full full unsaved halted device =
-      subst (λ (v : Mounted D). Serves state (seen old) v Sync (Refuse (refusal_of (error_of_log log.Full))))
-      (sym (same_seen (full refl).0)) (full_serves state (seen old) (lawful (seen old).log.device) was (unsaved refl) (full refl).1)
-  sync_fault log.Halted full unsaved halted device = halts_serves state lawful (seen old) {new = seen new} Sync was refl refl (omega arith)
-      (λ few. sync_bounded state (seen old) (seen new) few tells) (halts_at_once state (seen old).log (volume_of store) (halted refl))
-  sync_fault log.Device full unsaved halted device = absurd (device refl)
-
-  pub sync_fails : (fault : LogFault) {e : FsError} → e ≡ error_of_log fault
-      → (fault ≡ log.Full → (volume_of store ≡ (seen old).log) × IsFull (seen old).log) → (fault ≡ log.Full → (seen old).log.saved ≡ false)
-      → (fault ≡ log.Halted → Halts state (seen old).log (volume_of store)) → (fault ≡ log.Device → ⊥)
-      → Serves state (seen old) (seen new) Sync (Refuse (refusal_of e))
-  sync_fails fault is full unsaved halted device = subst (λ (x : FsError).
-      Serves state (seen old) (seen new) Sync (Refuse (refusal_of x))) (sym is) (sync_fault fault full unsaved halted device)
+  sync_fails {fault = log.Full} is =
+      subst (λ (h : LogState D). Serves state (seen old) (record { log = h; table = old.handles }) Sync (Refuse Device))
+      (sym (ends.full is).0) (full_serves state (seen old) (lawful (seen old).log.device) was (ends.unsaved is) (ends.full is).1)
+  sync_fails {fault = log.Halted} is = halts_serves state lawful (seen old) {new = seen new} Sync was refl refl (omega arith)
+      (λ few. sync_bounded state (seen old) (seen new) few ends.told)
+      (halts_at_once state (seen old).log (volume_of store) (ends.halted is (not_halted old was)))
+  sync_fails {fault = log.Device} is = absurd (ends.other is)

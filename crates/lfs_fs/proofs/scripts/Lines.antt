@@ -38,16 +38,16 @@ module _ {D : Type 0} (state : D → DeviceState) where
     line_halted : (N : ℕ) (v : Mounted D) (line : Line) (p : Point) → IsAt state v p → v.log.halted ≡ true
         → StepsLine N v v line (Refuse Halted) p
     line_halted N v line p at was = stays N v line p at (inl (record {
-          steps = inr (Halted, refl, inl (at.halted ∙ was), refl);
-          halted = λ e. refl;
-          halts = λ e. at.halted ∙ was;
-          goes_on = λ e. refl;
-          first_halted = λ e. inl (at.halted ∙ was);
-          failures = omega arith;
-          number = omega arith;
-          few = omega arith;
-          quiet = λ e. refl;
-        }))
+      steps = inr (Halted, refl, inl (at.halted ∙ was), refl);
+      halted = λ e. refl;
+      halts = λ e. at.halted ∙ was;
+      goes_on = λ e. refl;
+      first_halted = λ e. inl (at.halted ∙ was);
+      failures = omega arith;
+      number = omega arith;
+      few = omega arith;
+      quiet = λ e. refl;
+    }))
         (not_acknowledged (call_of line) Halted)
 
     module _ (old new : Mounted D) (line : Line) (answer : Answer) where
@@ -58,13 +58,12 @@ module _ {D : Type 0} (state : D → DeviceState) where
       line_served N p same keeps at serves = elim old.log.halted as (λ b. old.log.halted ≡ b → StepsLine N old new line answer p) [
         | true ↦ λ was. (
             let none = serves.orderly was in
-            subst (λ (v : Mounted D). StepsLine N old v line answer p) (sym none.1)
-            (subst (λ (a : Answer). StepsLine N old old line a p) (sym none.0) (line_halted N old line p at was)))
+            rw none.1 (rw none.0 (line_halted N old line p at was)))
         | false ↦ λ was. (
             let served = serves.model p keeps at in record {
               next = served.next;
               at = served.at;
-              does = inl (subst (λ (n : ℕ). Answers n (call_of line) p answer served.next) (same was) served.answers);
+              does = inl (rw (same was) at served.answers);
               leaves = served.leaves;
               saves = served.saves;
             })
@@ -76,15 +75,13 @@ module _ {D : Type 0} (state : D → DeviceState) where
           → StepsLine N old new line answer p
       line_steps N {p} same keeps at (inl serves) = line_served N p same keeps at serves
       line_steps N {p} same keeps at (inr none) =
-          subst (λ (v : Mounted D). StepsLine N old v line answer p) (sym none.2)
-          (stays N old line {answer = answer} p at (inr (none.0, none.1, refl))
-          (λ e. not_acknowledged (call_of line) NoMemory (subst (λ (a : Answer). acknowledges (call_of line) a ≡ true) none.1 e)))
+          rw none.2 (stays N old line {answer = answer} p at (inr (none.0, none.1, refl))
+          (λ e. not_acknowledged (call_of line) NoMemory (rw none.1 at e)))
 
       pub line_carries : ServesLine state old new line answer → Carries (state old.log.device) (state new.log.device)
       line_carries (inl serves) = serves.carries
       line_carries (inr none) =
-          subst (λ (v : Mounted D). Carries (state old.log.device) (state v.log.device)) (sym none.2)
-          (carries_none {d = state old.log.device})
+          rw none.2 (carries_none {d = state old.log.device})
 
       -- what runs after it ran before it
       served_running : Serves state old new (call_of line) answer → new.log.halted ≡ false → old.log.halted ≡ false

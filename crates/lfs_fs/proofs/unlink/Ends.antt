@@ -6,10 +6,9 @@ use Rattle.lfs_fs.proofs.Prelude.{IsReady, answer_by, seen, Mounted, Serves, seg
 use Rattle.lfs_fs.proofs.Prelude.{kind_is, short_is, slash_is, there_is, IsShaped}
 use Rattle.lfs_model.proofs.Keeps.{unlink_keeps}
 use Rattle.lfs_files.specs.declared.fault.LogFault.TheVariants as log
-use Rattle.lfs_files.specs.Files as files
 use Rattle.lfs_entries.specs.declared.fault.EntryFault.TheVariants as fault
 use Rattle.lfs_entries.specs.OldEntries.{HasEntry}
-use Rattle.lfs_fs.proofs.calls.Files.{InEach, IsBegun, begun_after, begun_at, reached_in, told, with_store}
+use Rattle.lfs_fs.proofs.calls.Files.{In, IsBegun, ReadsTo, RedraftsTo, begun_after, begun_at, has_in, reached_in, with_store}
 use Rattle.lfs_fs.proofs.old_entries.Drops.{drop_ends}
 use Rattle.lfs_fs.proofs.old_entries.Explained.{plain_so}
 use Rattle.lfs_steps.proofs.rename.Views.{none_in}
@@ -42,20 +41,20 @@ module _ {S D : Type 0} {a b : FilesState S D} {N : ℕ} {m : LogMap} {s : State
 
 module _ {D : Type 0} {state : D → DeviceState} (lawful : (d : D) → IsLawful (state d)) {v : Mounted D} {f : Fs D} {path : List ℕ} {d : ℕ}
     {l : Last} (reached : Reaches state v f path d (Some l)) (ready : IsReady f) (store : Store D)
-    (reads : files.Reads (files_of state f.store) (files_of state store)) {e : Entry}
+    (reads : ReadsTo state f store) {e : Entry}
     (has : HasEntry (files_of state f.store) (files_of state store) d l.name.now l.slash e) (next : Store D)
-    (redrafts : files.Redrafts (files_of state store) (files_of state next)) where
+    (redrafts : RedraftsTo state (with_store f store) next) where
   begun : IsBegun state v f
   begun = begun_at state reached ready
 
   read : IsBegun state v (with_store f store)
-  read = begun_after state lawful v f begun store reads
+  read = begun_after f store reads lawful begun
 
-  may : InEach state lawful v (with_store f store) read next (λ m s. MayGo (segments_of v) m s path d l e (Unlink path))
+  may : In state v (with_store f next) (λ m s. MayGo (segments_of v) m s path d l e (Unlink path))
   may k m0 m s keeps is =
       let kept = redrafts.looks.carries.kept_before keeps in
-      may_unlink has (reached_in state lawful v f begun reached (reads.looks.carries.kept_before kept) is) (shape_of_volume is)
-      (told state lawful v f begun store (λ x. LooksAt x d l.name.now e.holder (Some e.object)) has.finds.looks k m0 m s kept is)
+      may_unlink has (reached_in reached k m0 m s (reads.looks.carries.kept_before kept) is) (shape_of_volume is)
+      (has.finds.looks m m kept (has_in begun is))
 
   pub unlink_ends : {is_open : Bool} → (is_open ≡ true → opened f.handles e.object.number.value ≢ 0)
       → (is_open ≡ false → opened f.handles e.object.number.value ≡ 0) → (new : Fs D) → new.handles ≡ f.handles

@@ -49,10 +49,10 @@ module _ {D : Type 0} {state : D → DeviceState} {old : Mounted D} (new : Mount
     is = record {
       holds = over.holds;
       map = map.map;
-      log = (subst (λ (n : ℕ). IsMapOf n m' next) (sym same) map).log;
+      log = (rw (← same) at map).log;
       handles = handles;
       counted = counted;
-      acknowledged = subst (λ (n : ℕ). IsTree n over.acknowledged) (sym same) (saved_tree over.acknowledged over.either);
+      acknowledged = rw same (saved_tree over.acknowledged over.either);
       ready = ready;
     };
   }

@@ -23,15 +23,6 @@ use Rattle.lfs_fs.proofs.widen.Upgrades.{nothing_ends}
 use Rattle.lfs_fs.proofs.write.Ends.{still_none}
 use Rattle.lfs_steps.proofs.widen.Steps.{widen_no_directory, widen_nothing, widen_old_volume}
 
--- the number of the checkpoint, as it was before reads
-pub young_before : {X E : Type 0} {a b : ℕ} → b ≡ a → (r : Result X E) → OnOk r (b < 2 ^ 62) → OnOk r (a < 2 ^ 62)
-young_before same (Ok x) young = omega (arith, same, young)
-young_before same (Err e) young = tt
-
-pub old_before : {X E : Type 0} {a b : ℕ} → b ≡ a → (r : Result X E) → OnErr r (2 ^ 62 ≤ b) → OnErr r (2 ^ 62 ≤ a)
-old_before same (Ok x) old = tt
-old_before same (Err e) old = omega (arith, same, old)
-
 -- a directory has form 0 or 1
 wide_form : (form : ℕ) → IsForm 2 kind.Directory form → form ≢ 0 → form ≡ 1
 wide_form zero is ne = absurd (ne refl)
@@ -54,7 +45,7 @@ module _ {D : Type 0} {state : D → DeviceState} (lawful : (d : D) → IsLawful
 
     -- it has form 1 already
     pub wide_already : (v.log.version ≡ 1 → ⊥) → head.form ≢ 0 → {X : Type 0} (r : Result X FsError)
-        → OnOk r (v.log.number < 2 ^ 62) → OnErr r (2 ^ 62 ≤ v.log.number) → IfErr r (λ fault. fault ≡ error.Worn)
+        → OnOk r ((seen f).log.number < 2 ^ 62) → OnErr r (2 ^ 62 ≤ (seen f).log.number) → IfErr r (λ fault. fault ≡ error.Worn)
         → Serves state v (seen f) (Widen path) (answer_by (λ _. Done) r)
     wide_already new wide =
         nothing_ends lawful looked.begun.still (was state lawful v f looked.begun) refl (λ e. cc)
@@ -65,7 +56,7 @@ module _ {D : Type 0} {state : D → DeviceState} (lawful : (d : D) → IsLawful
         widen_nothing (segments_of v) s path n (looked.walk k m0 m s keeps is) (directory map headers there dir)
         (ne_eqb s.version 1 (λ e. new (sym (version_of_volume is) ∙ e)))
         (eq-eqb (form_of (node s.tree n)) 1 (form_here map headers there dir
-        ∙ wide_form head.form (subst (λ (x : Kind). IsForm 2 x head.form) dir (headers n (as_header head) there).form) wide)))
+        ∙ wide_form head.form (rw dir at (headers n (as_header head) there).form) wide)))
 
     pub narrow_reached : (v.log.version ≡ 1 → ⊥) → head.form ≡ 0 → ReachesNarrow state v f path n head
     narrow_reached new narrow = record {
@@ -88,7 +79,7 @@ pub takes_wide : {D : Type 0} (state : D → DeviceState) {f : Fs D} → IsReady
 takes_wide state ready store n head widens =
     let few = widens.asked (ap length ready.empty.headers) (ap length ready.empty.blocks) in omega (arith, few)
 
-module _ {D : Type 0} (state : D → DeviceState) (lawful : (d : D) → IsLawful (state d)) {v : Mounted D} {f : Fs D} {path : List ℕ} {n : ℕ}
+module _ {D : Type 0} {state : D → DeviceState} (lawful : (d : D) → IsLawful (state d)) {v : Mounted D} {f : Fs D} {path : List ℕ} {n : ℕ}
     {head : Header} (at : ReachesNarrow state v f path n head) (store : Store D)
     (redrafts : files.Redrafts (files_of state f.store) (files_of state store)) where
   abbrev a : FilesState StagedLog Draft

@@ -29,7 +29,7 @@ module _ {N : ℕ} {m : LogMap} {s : State} (here : IsMapOf N m s)
   fits = headers n (as_header head) there
 
   sized : IsSize head.form kind.Directory head.size
-  sized = subst (λ (k : Kind). IsSize head.form k head.size) dir fits.size
+  sized = rw dir at fits.size
 
   few : head.size ≤ 1024 * slot_len head.form
   unfolding IsSize
@@ -48,9 +48,9 @@ module _ {N : ℕ} {m : LogMap} {s : State} (here : IsMapOf N m s)
   pub wide_fits : FitsHeader head.kind 1 head.links (slot_len 1 * slot_count head)
   unfolding IsSize
   wide_fits = let most = few_slots head.form head.size few in record {
-    known = subst (λ (k : Kind). IsForm 2 k 1) (sym dir) (omega arith);
+    known = rw dir (omega arith);
     links_few = fits.links;
-    size_fits = subst (λ (k : Kind). IsSize 1 k (slot_len 1 * slot_count head)) (sym dir) (omega arith, omega (arith, most));
+    size_fits = rw dir (omega arith, omega (arith, most));
   }
 
   is_dir_here : is_dir (node s.tree n) ≡ true
@@ -66,8 +66,7 @@ module _ {N : ℕ} {m : LogMap} {s : State} (here : IsMapOf N m s)
     two = ⊎_elim (λ (one : s.version ≡ 1). absurd (new one)) (λ (is : s.version ≡ 2). is) here.log.sound.version
 
     pub known : IsForm m.version head.kind 1
-    known = subst (λ (v : ℕ). IsForm v head.kind 1) (sym two ∙ here.log.version)
-        (subst (λ (x : Kind). IsForm 2 x 1) (sym dir) (omega arith))
+    known = rw (← here.log.version, two, dir) (omega arith)
 
     module _ {m' : LogMap} (file : WidensFile m m' n head) (names : WidensNames m m' n head) where
       was_object : IsObject m n (as_header head)
@@ -77,7 +76,7 @@ module _ {N : ℕ} {m : LogMap} {s : State} (here : IsMapOf N m s)
       now_object = record {
         number = was_object.number;
         root = was_object.root;
-        form = subst (λ (v : ℕ). IsForm v head.kind 1) (sym file.only.version) known;
+        form = rw file.only.version known;
         size = let most = few_slots head.form head.size few in omega (arith, most);
         whole = file.whole was_object.whole;
         ends = file.ends formed.whole was_object.ends;

@@ -28,27 +28,30 @@ module _ {D : Type 0} {state : D → DeviceState} (lawful : (d : D) → IsLawful
     (was : v.log.halted ≡ false) {call : Call} (change : changes call ≡ true) (none : acknowledges call Done ≡ true → ⊥)
     (step : (k : CheckpointValue) (m0 m : LogMap) (s : State) → (state new.log.device).keeps_model → IsIn state v k m0 m s
     → Step (segments_of v) s call Done s) where
-  nothing_done : v.log.number < 2 ^ 62 → Serves state v new call Done
+  nothing_done : new.log.number < 2 ^ 62 → Serves state v new call Done
   nothing_done low = served_still state call {a = Done} (lawful v.log.device) still was tt
       (λ p keeps at k m0 m is.
-      inl (step k m0 m p.state keeps is, not_worn (segments_of v) call p (let number = at.number in omega (arith, number, low)))) none
+      let number = at.number in
+      let same = still.reads.number in
+      inl (step k m0 m p.state keeps is, not_worn (segments_of v) call p (omega (arith, number, same, low)))) none
 
-  nothing_worn : 2 ^ 62 ≤ v.log.number → Serves state v new call (Refuse Worn)
+  nothing_worn : 2 ^ 62 ≤ new.log.number → Serves state v new call (Refuse Worn)
   nothing_worn high = served_still state call (lawful v.log.device) still was tt
       (λ p keeps at k m0 m is. inr (
         Worn,
         refl,
-        worn (segments_of v) p (point_of state new p.state) (let number = at.number in omega (arith, number, high)) change
+        worn (segments_of v) p (point_of state new p.state)
+            (let number = at.number in let same = still.reads.number in omega (arith, number, same, high)) change
             (step k m0 m p.state keeps is) refl,
         refl,
       ))
       (not_acknowledged call Worn)
 
-  pub nothing_ends : {X : Type 0} (r : Result X FsError) → OnOk r (v.log.number < 2 ^ 62) → OnErr r (2 ^ 62 ≤ v.log.number)
+  pub nothing_ends : {X : Type 0} (r : Result X FsError) → OnOk r (new.log.number < 2 ^ 62) → OnErr r (2 ^ 62 ≤ new.log.number)
       → IfErr r (λ fault. fault ≡ error.Worn) → Serves state v new call (answer_by (λ _. Done) r)
   nothing_ends (Ok x) young old is = nothing_done young
   nothing_ends (Err fault) young old is =
-      subst (λ (e : FsError). Serves state v new call (Refuse (refusal_of e))) (sym is) (nothing_worn old)
+      rw is (nothing_worn old)
 
 -- ---- the version is raised
 
@@ -75,7 +78,7 @@ raised_map N m s is = record {
 
 -- ---- upgrade
 
-module _ {D : Type 0} (state : D → DeviceState) (lawful : (d : D) → IsLawful (state d)) (old mid : Fs D) (begun : Begins old mid) where
+module _ {D : Type 0} {state : D → DeviceState} (lawful : (d : D) → IsLawful (state d)) {old mid : Fs D} (begun : Begins old mid) where
   running : (seen mid).log.halted ≡ false
   running = begun_running state begun
 
@@ -101,12 +104,10 @@ module _ {D : Type 0} (state : D → DeviceState) (lawful : (d : D) → IsLawful
 
     module _ (k : CheckpointValue) {m0 : LogMap} (m : LogMap) (s : State) (is : IsIn state (seen mid) k m0 m s) where
       after : IsMapOf (segments_of (seen mid)) (with_draft (draft_of b) m) (upgraded s)
-      after = subst (λ (x : LogMap). IsMapOf (segments_of (seen mid)) x (upgraded s)) (sym (drafts.map m))
-          (raised_map (segments_of (seen mid)) m s (map_of_volume is))
+      after = rw (drafts.map m) (raised_map (segments_of (seen mid)) m s (map_of_volume is))
 
       totals : AreTotals (with_draft (draft_of b) m) (drafted_of b)
-      totals = subst (λ (t : BlockTotals). AreTotals (with_draft (draft_of b) m) t) (sym (same_drafted ∙ begun.drafted))
-          (counts m (seen mid).log.totals is.counted)
+      totals = rw (same_drafted ∙ begun.drafted) (counts m (seen mid).log.totals is.counted)
 
       headers : (n : ℕ) (h : Header) → (with_draft (draft_of b) m).header n ≡ Some h → m.header n ≡ Some h
       headers n h there = ap (λ (x : LogMap). x.header n) (sym (drafts.map m)) ∙ there

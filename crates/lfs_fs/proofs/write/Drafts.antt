@@ -1,21 +1,19 @@
 -- A write to an open file and a cut of it, from what is drafted to the call as a step of the model.
-use Rattle.lfs_fs.proofs.Prelude.{◌≡◌, ◌<◌, ◌≤◌, ◌+◌, ℕ, true, false, List, length, Some, Ok, Err, refl, sym, ◌∙◌, ap, arith, Result, OnOk}
-use Rattle.lfs_fs.proofs.Prelude.{IfErr, IsErrOf, max, nat_cmp, find, AreBytes, Answer, Call, Count, Done, Pwrite, Truncate, cleans}
-use Rattle.lfs_fs.proofs.Prelude.{never_for_device, takes_no_memory, CheckpointValue, DeviceState, IsLawful, IsHeaderOf, LogMap, with_tree}
-use Rattle.lfs_fs.proofs.Prelude.{State, FilesState, resized, HasHeader, HasObject, Draft, Store, StagedLog, files_of, IsEmpty, draft_of}
-use Rattle.lfs_fs.proofs.Prelude.{drafted_of, totals_of_tree, EntryFault, FailsWhere, FsError, Fs, Finishes, answer_by, seen, IsIn, Mounted}
-use Rattle.lfs_fs.proofs.Prelude.{Serves, segments_of, written, IsMapOf, IsShaped, opened_file, room_shaped}
+use Rattle.lfs_fs.proofs.Prelude.{◌≡◌, ◌<◌, ◌≤◌, ◌+◌, ℕ, true, List, length, Some, refl, sym, ◌∙◌, ap, arith, Result, OnOk, IfErr, IsErrOf}
+use Rattle.lfs_fs.proofs.Prelude.{nat_cmp, find, AreBytes, Count, Done, Pwrite, Truncate, CheckpointValue, DeviceState, IsLawful}
+use Rattle.lfs_fs.proofs.Prelude.{IsHeaderOf, LogMap, with_tree, State, FilesState, HasHeader, HasObject, Draft, Store, StagedLog, files_of}
+use Rattle.lfs_fs.proofs.Prelude.{IsEmpty, draft_of, totals_of_tree, EntryFault, FailsWhere, FsError, Fs, Finishes, answer_by, seen, IsIn}
+use Rattle.lfs_fs.proofs.Prelude.{Mounted, Serves, segments_of, written, IsMapOf, IsShaped, opened_file, room_shaped}
 use Rattle.lfs_model.specs.declared.Kind.TheVariants as kind
 use Rattle.lfs_model.specs.Entry as entry
 use Rattle.lfs_files.specs.declared.fault.LogFault.TheVariants as log
 use Rattle.lfs_files.specs.declared.header.Header.{Header}
-use Rattle.lfs_files.specs.Files as files
-use Rattle.lfs_files.specs.Files.{Counts, HasSized, HasWritten, IsLoneWrite}
+use Rattle.lfs_files.specs.Files.{Counts, IsLoneWrite}
 use Rattle.lfs_files.specs.Headers.{as_header}
 use Rattle.lfs_entries.specs.declared.fault.EntryFault.TheVariants as fault
 use Rattle.lfs_entries.specs.Bytes.{DraftsBytes, DraftsLength}
-use Rattle.lfs_fs.proofs.calls.Files.{InEach, IsBegun, Makes, apart_now, counted_now, finish_ends, fits_now, gives_up_where, has_now}
-use Rattle.lfs_fs.proofs.calls.Files.{still_ready, told, with_store}
+use Rattle.lfs_fs.proofs.calls.Files.{In, IsBegun, MakesNext, RedraftsTo, apart_now, counted_now, drafted_ends, explains_where, fits_now}
+use Rattle.lfs_fs.proofs.calls.Files.{has_in, with_store}
 use Rattle.lfs_fs.proofs.calls.Steps.{pwrite_ends}
 use Rattle.lfs_fs.proofs.volume.Map.{headers_of_volume, map_of_volume, shape_of_volume}
 use Rattle.lfs_steps.proofs.open_files.Steps.{cut_all_done, shortened}
@@ -33,7 +31,7 @@ lone_write state s none few = record {
 }
 
 module _ {D : Type 0} {state : D → DeviceState} (lawful : (d : D) → IsLawful (state d)) {v : Mounted D} {f : Fs D}
-    (begun : IsBegun state v f) (store : Store D) (redrafts : files.Redrafts (files_of state f.store) (files_of state store)) (h : ℕ)
+    (begun : IsBegun state v f) (store : Store D) (redrafts : RedraftsTo state f store) (h : ℕ)
     {n : ℕ}
     (opens : find nat_cmp h v.table ≡ Some n) where
   abbrev a : FilesState StagedLog Draft
@@ -70,13 +68,11 @@ module _ {D : Type 0} {state : D → DeviceState} (lawful : (d : D) → IsLawful
   -- ---- a write
   module _ (at : ℕ) (w : List ℕ) (some : 0 < length w) (few : length w ≤ 65536) (end : at + length w ≤ 8511488) (bytes : AreBytes w) where
     write_makes : DraftsBytes a b n at w → Counts a b
-        → InEach state lawful v f begun store (Makes state lawful v f begun store redrafts (Pwrite h at w) refl refl refl refl)
+        → In state v (with_store f store) (MakesNext state v (with_store f store) (Pwrite h at w))
     write_makes drafts counts k m0 m s keeps is =
-        let there : HasHeader n drafts.head m =
-        told state lawful v f begun store (HasHeader n drafts.head) drafts.header k m0 m s keeps is in
-        let here : a.has m m = has_now state lawful v f begun is in
-        let done : HasWritten b m m n drafts.head (resized drafts.head (max drafts.head.size (at + length w))) at w =
-        drafts.writes.file m m keeps here in
+        let here = has_in begun is in
+        let there = drafts.header m m keeps here in
+        let done = drafts.writes.file m m keeps here in
         let log = written_log m done.map s h n (map is) (file is) drafts.head there w done.file end in
         let counted = counts m m done.map keeps here done.has is.map log (counted_now state lawful v f begun is) in
         let ends = pwrite_ends m s (map is) totals_of_tree (shaped is) counted h n (file is) there at w done.file some few end in
@@ -103,12 +99,11 @@ module _ {D : Type 0} {state : D → DeviceState} (lawful : (d : D) → IsLawful
   -- ---- a cut
   module _ (len : ℕ) (end : len ≤ 8511488) where
     cut_makes : DraftsLength a b n len → Counts a b
-        → InEach state lawful v f begun store (Makes state lawful v f begun store redrafts (Truncate h len) refl refl refl refl)
+        → In state v (with_store f store) (MakesNext state v (with_store f store) (Truncate h len))
     cut_makes drafts counts k m0 m s keeps is =
-        let there : HasHeader n drafts.head m =
-        told state lawful v f begun store (HasHeader n drafts.head) drafts.header k m0 m s keeps is in
-        let here : a.has m m = has_now state lawful v f begun is in
-        let done : HasSized b m m n drafts.head (resized drafts.head len) len = drafts.sets.file m m keeps here in
+        let here = has_in begun is in
+        let there = drafts.header m m keeps here in
+        let done = drafts.sets.file m m keeps here in
         let after =
         shortened_map m s h n (map is) (file is) there len done.file end in
         let counted = counts m m done.map keeps here done.has is.map after.map (counted_now state lawful v f begun is) in
@@ -129,15 +124,6 @@ module _ {D : Type 0} {state : D → DeviceState} (lawful : (d : D) → IsLawful
         }
 
   -- ---- what becomes of either
-  module _ {call : Call} (free : never_for_device call ≡ false) (memory : takes_no_memory call ≡ false) (unclean : cleans call ≡ false)
-      (new : Fs D) (ok : Answer) (result : Result (Unit {0}) FsError) where
-    undone : (why : EntryFault) → Finishes state (with_store f store) new (Err why) result → FailsWhere a b (HasObject n) why
-        → (why ≡ fault.Log log.Halted → a.halted ≡ true) → (why ≡ fault.Log log.Full → ⊥)
-        → Serves state v (seen new) call (answer_by (λ _. ok) result)
-    undone why finishes failed halted other =
-        gives_up_where state lawful v f begun store (still_ready state lawful v f begun store redrafts) call free unclean memory
-        (HasObject n) (λ k m0 m s keeps is. object is) finishes failed halted other ok
-
   module _ (new : Fs D) (rest : new.handles ≡ f.handles) (drafted : Result (Unit {0}) EntryFault) (result : Result (Unit {0}) FsError)
       (finishes : Finishes state (with_store f store) new drafted result) (counts : OnOk drafted (Counts a b))
       (failed : IfErr drafted (FailsWhere a b (HasObject n)))
@@ -145,30 +131,17 @@ module _ {D : Type 0} {state : D → DeviceState} (lawful : (d : D) → IsLawful
     pub write_ends : {at : ℕ} {w : List ℕ} → 0 < length w → length w ≤ 65536 → at + length w ≤ 8511488 → AreBytes w
         → OnOk drafted (DraftsBytes a b n at w) → Serves state v (seen new) (Pwrite h at w) (answer_by (λ _. Count (length w)) result)
     unfolding write_makes
-    write_ends {at} {w} some few end bytes = by drafted finishes counts failed halted other
-      where
-        by : (drafted : Result (Unit {0}) EntryFault) → Finishes state (with_store f store) new drafted result → OnOk drafted (Counts a b)
-            → IfErr drafted (FailsWhere a b (HasObject n)) → (IsErrOf drafted (fault.Log log.Halted) → a.halted ≡ true)
-            → (IsErrOf drafted (fault.Log log.Full) → ⊥) → OnOk drafted (DraftsBytes a b n at w)
-            → Serves state v (seen new) (Pwrite h at w) (answer_by (λ _. Count (length w)) result)
-        by (Ok done) finishes counts failed halted other drafts =
-            finish_ends state lawful v f begun store redrafts (Pwrite h at w) refl refl refl refl
-            (write_makes at w some few end bytes drafts counts) new rest (Count (length w)) refl (λ k m0 m s keeps is. (refl, is.handles))
-            finishes
-        by (Err why) finishes counts failed halted other drafts = undone refl refl refl new (Count (length w)) result why
-            finishes failed (λ same. halted (ap Err same)) (λ same. other (ap Err same))
+    write_ends {at} {w} some few end bytes drafts =
+        drafted_ends state lawful v f begun store redrafts (Pwrite h at w) refl refl refl refl (write_makes at w some few end bytes) new
+        rest (Count (length w)) refl (λ p q k m0 m s keeps is. (refl, is.handles))
+        (explains_where begun store {P = HasObject n} (λ k m0 m s keeps is. object is) (Pwrite h at w))
+        drafted result finishes drafts counts failed halted other
 
     pub cut_ends : {len : ℕ} → len ≤ 8511488 → OnOk drafted (DraftsLength a b n len)
         → Serves state v (seen new) (Truncate h len) (answer_by (λ _. Done) result)
     unfolding cut_makes
-    cut_ends {len} end = by drafted finishes counts failed halted other
-      where
-        by : (drafted : Result (Unit {0}) EntryFault) → Finishes state (with_store f store) new drafted result → OnOk drafted (Counts a b)
-            → IfErr drafted (FailsWhere a b (HasObject n)) → (IsErrOf drafted (fault.Log log.Halted) → a.halted ≡ true)
-            → (IsErrOf drafted (fault.Log log.Full) → ⊥) → OnOk drafted (DraftsLength a b n len)
-            → Serves state v (seen new) (Truncate h len) (answer_by (λ _. Done) result)
-        by (Ok done) finishes counts failed halted other drafts =
-            finish_ends state lawful v f begun store redrafts (Truncate h len) refl refl refl refl
-            (cut_makes len end drafts counts) new rest Done refl (λ k m0 m s keeps is. (refl, is.handles)) finishes
-        by (Err why) finishes counts failed halted other drafts = undone refl refl refl new Done result why finishes failed
-            (λ same. halted (ap Err same)) (λ same. other (ap Err same))
+    cut_ends {len} end drafts =
+        drafted_ends state lawful v f begun store redrafts (Truncate h len) refl refl refl refl (cut_makes len end) new rest Done refl
+        (λ p q k m0 m s keeps is. (refl, is.handles))
+        (explains_where begun store {P = HasObject n} (λ k m0 m s keeps is. object is) (Truncate h len))
+        drafted result finishes drafts counts failed halted other

@@ -1,49 +1,29 @@
-use Rattle.lfs_fs.proofs.Prelude.{err_from_is_err_and, Err, ap, volume_of, seen}
+use Rattle.lfs_fs.proofs.Prelude.{refl, volume_of, seen}
 use Rattle.lfs_fs.proofs.clean.Ends.{clean_fails, cleaned_serves, once_tells, worn_serves}
-use Rattle.lfs_fs.proofs.save.Ends.{not_halted}
-use Rattle.lfs_fs.proofs.write.Exits.{begun, halted_begin, still_running}
+use Rattle.lfs_fs.proofs.Exits.{after_begin, returned, unbegun}
 use Rattle.lfs_fs.proofs.fs.Fs.clean_once.Goals as goal
 
 pub returns-in_err-begin-clause-serves : goal.returns-in_err-begin-clause-serves
 returns-in_err-begin-clause-serves g c =
-    let p = err_from_is_err_and c.from_residual.result c.from_residual.ensures.1 in rw (p.1, p.2)
-    (halted_begin g.met.D.SectorDevice.lawful _ c.in_err-begin.ensures.same c.in_err-begin.ensures.halted c.in_err-begin.ensures.fault)
+    rw (returned c.from_residual.ensures) (unbegun g.met.D.SectorDevice.lawful c.in_err-begin.ensures)
 
 pub returns-in_err-check_worn-clause-serves : goal.returns-in_err-check_worn-clause-serves
 returns-in_err-check_worn-clause-serves g c =
-    let p = err_from_is_err_and c.from_residual-in_err-check_worn.result c.from_residual-in_err-check_worn.ensures.1 in rw (p.1, p.2)
-    (begun g.met.D.SectorDevice.lawful c.begin.new.self c.in_ok-begin.ensures.done
-    (worn_serves g.D.SectorDevice.state g.met.D.SectorDevice.lawful (seen c.begin.new.self)
-    (still_running g.met.D.SectorDevice.lawful c.in_ok-begin.ensures.done)
-    c.in_err-check_worn.ensures.fault c.in_err-check_worn.ensures.old))
+    rw (returned c.from_residual-in_err-check_worn.ensures) (after_begin c.in_ok-begin.ensures.done (λ running.
+    worn_serves g.met.D.SectorDevice.lawful running c.in_err-check_worn.ensures.fault c.in_err-check_worn.ensures.old))
 
 pub returns-clause-serves : goal.returns-clause-serves
 returns-clause-serves g c =
-    let running =
-    still_running g.met.D.SectorDevice.lawful c.in_ok-begin.ensures.done in
-    begun g.met.D.SectorDevice.lawful record {
-      alloc = c.begin.new.self.alloc;
-      store = c.clean_once.new.self;
-      handles = c.begin.new.self.handles;
-    } c.in_ok-begin.ensures.done
-    (cleaned_serves g.D.SectorDevice.state g.met.D.SectorDevice.lawful c.begin.new.self c.clean_once.new.self running
-    c.in_ok-clean_once.ensures.cleans.room.keeps.totals c.in_ok-check_worn.ensures.young
-    (once_tells g.D.SectorDevice.state g.met.D.SectorDevice.lawful (seen c.begin.new.self).log (volume_of c.clean_once.new.self)
-    (c.has_segment_count.ensures running) c.clean_once.ensures.told) c.in_ok-clean_once.ensures.cleans.room.done)
+    after_begin c.in_ok-begin.ensures.done (λ running.
+    cleaned_serves g.met.D.SectorDevice.lawful c.begin.new.self c.clean_once.new.self running c.in_ok-clean_once.ensures.cleans.room
+    c.in_ok-check_worn.ensures.young
+    (once_tells g.met.D.SectorDevice.lawful (seen c.begin.new.self).log (volume_of c.clean_once.new.self)
+    (c.has_segment_count.ensures running) c.clean_once.ensures.told) refl)
 
 pub returns-in_err-clean_once-clause-serves : goal.returns-in_err-clean_once-clause-serves
 returns-in_err-clean_once-clause-serves g c =
-    let p = err_from_is_err_and c.from_residual-in_err-clean_once.result c.from_residual-in_err-clean_once.ensures.1 in rw (p.1)
-    (let running =
-    still_running g.met.D.SectorDevice.lawful c.in_ok-begin.ensures.done in
-    begun g.met.D.SectorDevice.lawful record {
-      alloc = c.begin.new.self.alloc;
-      store = c.clean_once.new.self;
-      handles = c.begin.new.self.handles;
-    } c.in_ok-begin.ensures.done
-    (clean_fails g.D.SectorDevice.state g.met.D.SectorDevice.lawful c.begin.new.self c.clean_once.new.self running
-    c.in_err-clean_once.ensures.cleans.room.keeps.totals c.in_ok-check_worn.ensures.young
-    (once_tells g.D.SectorDevice.state g.met.D.SectorDevice.lawful (seen c.begin.new.self).log (volume_of c.clean_once.new.self)
-    (c.has_segment_count.ensures running) c.clean_once.ensures.told) c.in_err-clean_once.field-0.0 p.2
-    (λ e. c.in_err-clean_once.ensures.cleans.room.full (ap Err e)) (λ e. c.in_err-clean_once.ensures.cleans.room.device (ap Err e))
-    (λ e. c.in_err-clean_once.ensures.cleans.room.halted (ap Err e) (not_halted c.begin.new.self running))))
+    rw (returned c.from_residual-in_err-clean_once.ensures) (after_begin c.in_ok-begin.ensures.done (λ running.
+    clean_fails g.met.D.SectorDevice.lawful c.begin.new.self c.clean_once.new.self running c.in_err-clean_once.ensures.cleans.room
+    c.in_ok-check_worn.ensures.young
+    (once_tells g.met.D.SectorDevice.lawful (seen c.begin.new.self).log (volume_of c.clean_once.new.self)
+    (c.has_segment_count.ensures running) c.clean_once.ensures.told) refl))

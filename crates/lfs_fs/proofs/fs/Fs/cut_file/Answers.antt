@@ -1,14 +1,14 @@
-use Rattle.lfs_fs.proofs.Prelude.{arith, ok_then, seen}
-use Rattle.lfs_fs.proofs.calls.Files.{here_begun, takes_draft}
+use Rattle.lfs_fs.proofs.Prelude.{arith}
+use Rattle.lfs_fs.proofs.calls.Files.{here_begun}
 use Rattle.lfs_fs.proofs.write.Drafts.{cut_ends}
+use Rattle.lfs_fs.proofs.Exits.{draft_fits}
 use Rattle.lfs_fs.proofs.fs.Fs.cut_file.Goals as goal
 
 pub finish-requires-clause-room : goal.finish-requires-clause-room
 finish-requires-clause-room g c =
-    ok_then c.draft_length-drafted.result _ _
-    (takes_draft g.D.SectorDevice.state g.met.D.SectorDevice.lawful (seen c.args.self.now) c.args.self.now
-    (here_begun g.D.SectorDevice.state g.met.D.SectorDevice.lawful c.requires.ready c.requires.counted)
-    c.draft_length-drafted.new.files c.draft_length-drafted.ensures.only.redrafts 1 1 (omega arith)) c.draft_length-drafted.ensures.small
+    let draft = c.draft_length-drafted.ensures in
+    draft_fits g.met.D.SectorDevice.lawful (here_begun _ g.met.D.SectorDevice.lawful c.requires.ready c.requires.counted)
+    draft.only 1 1 (omega arith) draft.small
 
 pub returns : goal.returns
 returns g c handle opens =

@@ -1,4 +1,4 @@
-use Rattle.lfs_fs.proofs.Prelude.{subst, sym, Only, Fs, FindsState, IsMountFault, MountsFs, seen}
+use Rattle.lfs_fs.proofs.Prelude.{Fs}
 use Rattle.lfs_fs.proofs.mount.Ends.{durable_now, finds_state, memory_fault, memory_reason, mounts_fs, only_there, tables_there}
 use Rattle.lfs_fs.proofs.fs.Fs.mount.Goals as goal
 
@@ -13,29 +13,23 @@ with_tables-requires-clause-durable g c =
 pub returns-in-Ok-with_tables-clause-mounts : goal.returns-in-Ok-with_tables-clause-mounts
 returns-in-Ok-with_tables-clause-mounts g c =
     let told = c.in-Ok-with_tables.ensures in
-    let fs : Fs g.row.D.Denot = record { alloc = c.args.alloc; store = c.in-Ok-with_tables.store; handles = c.new.result } in
-    subst (λ (d : g.row.D.Denot). MountsFs g.D.SectorDevice.state d fs) c.in-Ok.ensures.same
-    (mounts_fs g.D.SectorDevice.state c.in-Ok.device
-    (g.met.D.SectorDevice.lawful c.in-Ok.device) c.in-Ok-verify_tree.ensures.looks fs told.same told.stores told.counts
+    rw (← c.in-Ok.ensures.same) (mounts_fs _ _ (g.met.D.SectorDevice.lawful c.in-Ok.device) c.in-Ok-verify_tree.ensures.looks _
+    told.same told.stores told.counts
     c.in-Ok-verify_tree.ensures.durable told.saved c.new.ensures)
 
 pub returns-in-Ok-with_tables-clause-only : goal.returns-in-Ok-with_tables-clause-only
 returns-in-Ok-with_tables-clause-only g c =
     let told = c.in-Ok-with_tables.ensures in
-    let fs : Fs g.row.D.Denot = record { alloc = c.args.alloc; store = c.in-Ok-with_tables.store; handles = c.new.result } in
-    subst (λ (d : g.row.D.Denot). FindsState g.D.SectorDevice.state d fs) c.in-Ok.ensures.same
-    (finds_state g.D.SectorDevice.state c.in-Ok.device
-    (g.met.D.SectorDevice.lawful c.in-Ok.device) c.in-Ok-verify_tree.ensures.looks fs told.same told.stores told.counts
+    rw (← c.in-Ok.ensures.same) (finds_state _ _ (g.met.D.SectorDevice.lawful c.in-Ok.device) c.in-Ok-verify_tree.ensures.looks _
+    told.same told.stores told.counts
     c.in-Ok-verify_tree.ensures.durable told.saved c.new.ensures c.in-Ok-verify_tree.ensures.found)
 
 pub returns-in-Ok-with_tables-clause-durable : goal.returns-in-Ok-with_tables-clause-durable
 returns-in-Ok-with_tables-clause-durable g c =
     let told = c.in-Ok-with_tables.ensures in
     let fs : Fs g.row.D.Denot = record { alloc = c.args.alloc; store = c.in-Ok-with_tables.store; handles = c.new.result } in
-    subst (λ (d : g.row.D.Denot). (g.D.SectorDevice.state (seen fs).log.device).keeps_model
-    → Only (g.D.SectorDevice.state d).content (g.D.SectorDevice.state (seen fs).log.device)) c.in-Ok.ensures.same
-    (durable_now g.D.SectorDevice.state c.in-Ok.device
-    (g.met.D.SectorDevice.lawful c.in-Ok.device) c.in-Ok-verify_tree.ensures.looks fs told.same told.stores told.counts
+    rw (← c.in-Ok.ensures.same) (durable_now g.D.SectorDevice.state c.in-Ok.device (g.met.D.SectorDevice.lawful c.in-Ok.device)
+    c.in-Ok-verify_tree.ensures.looks fs told.same told.stores told.counts
     c.in-Ok-verify_tree.ensures.durable)
 
 pub returns-in-Err-with_tables-clause-cause : goal.returns-in-Err-with_tables-clause-cause
@@ -50,12 +44,8 @@ returns-in-Err-with_tables-clause-reason g c =
 
 pub returns-in-Err-clause-cause : goal.returns-in-Err-clause-cause
 returns-in-Err-clause-cause g c other =
-    subst (λ (d : g.row.D.Denot). IsMountFault (g.D.SectorDevice.state c.args.device) (g.D.SectorDevice.state d) c.in-Err.fault.0)
-    (sym c.in-Err.ensures.same) (c.in-Err.ensures.cause other)
+    rw c.in-Err.ensures.same (c.in-Err.ensures.cause other)
 
 pub returns-in-Err-verify_tree-clause-cause : goal.returns-in-Err-verify_tree-clause-cause
 returns-in-Err-verify_tree-clause-cause g c other =
-    subst (λ (d : g.row.D.Denot). IsMountFault (g.D.SectorDevice.state d)
-    (g.D.SectorDevice.state c.into_inner.result) c.in-Err-verify_tree.fault) c.in-Ok.ensures.same
-    (subst (λ (d : g.row.D.Denot). IsMountFault (g.D.SectorDevice.state c.in-Ok.device)
-    (g.D.SectorDevice.state d) c.in-Err-verify_tree.fault) (sym c.into_inner.ensures) (c.in-Err-verify_tree.ensures.cause other))
+    rw (← c.in-Ok.ensures.same, c.into_inner.ensures) (c.in-Err-verify_tree.ensures.cause other)

@@ -1,7 +1,8 @@
-use Rattle.lfs_fs.proofs.Prelude.{err_from_is_err_and, ap, Err}
+use Rattle.lfs_fs.proofs.Prelude.{ap, refl, Err}
 use Rattle.lfs_fs.proofs.new_entries.Ends.{bytes_of}
 use Rattle.lfs_fs.proofs.paths.Places.{path_read, ready_after}
 use Rattle.lfs_fs.proofs.rename.Paths.{reaches_both, second_ends}
+use Rattle.lfs_fs.proofs.Exits.{returned}
 use Rattle.lfs_fs.proofs.fs.Fs.rename_from.Goals as goal
 
 pub returns : goal.returns
@@ -14,10 +15,9 @@ returns g c v from reached =
 -- the second path is refused
 pub returns-in_err-place : goal.returns-in_err-place
 returns-in_err-place g c v from reached =
-    let p = err_from_is_err_and c.from_residual.result c.from_residual.ensures.1 in rw (p.1)
-    (let walk = c.in_err-place.ensures in
-    second_ends g.met.D.SectorDevice.lawful v
-    reached c.requires.ready c.parent.new.files walk.reads c.args.to.now c.in_err-place.field-0.0 p.0 p.2
+    let walk = c.in_err-place.ensures in
+    rw (returned c.from_residual.ensures)
+    (second_ends g.met.D.SectorDevice.lawful v reached c.requires.ready c.parent.new.files walk.reads c.args.to.now _ _ refl
     walk.refused (λ e. walk.halted (ap Err e)) (λ e. walk.other (ap Err e)))
 
 pub rename_at-requires : goal.rename_at-requires

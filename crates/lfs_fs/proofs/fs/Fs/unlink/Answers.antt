@@ -1,49 +1,37 @@
-use Rattle.lfs_fs.proofs.Prelude.{Err, Some, ap, arith, refl, err_from_is_err_and, Unlink, ok_then, seen, segments_of}
-use Rattle.lfs_fs.proofs.calls.Files.{begun_read, takes_draft, with_store}
+use Rattle.lfs_fs.proofs.Prelude.{arith, refl}
 use Rattle.lfs_fs.proofs.old_entries.Rule.{entry_refused, no_piece_perm}
 use Rattle.lfs_fs.proofs.paths.Places.{nowhere_serves}
 use Rattle.lfs_fs.proofs.unlink.Ends.{unlink_ends}
 use Rattle.lfs_steps.proofs.unlink.Steps.{unlink_call, unlink_refused}
+use Rattle.lfs_fs.proofs.Exits.{asked_fails, entry_fits, returned}
 use Rattle.lfs_fs.proofs.fs.Fs.unlink.Goals as goal
 
 -- the path is refused, or has no piece
 pub returns-in_err-directory : goal.returns-in_err-directory
 returns-in_err-directory g c =
-    let p = err_from_is_err_and c.from_residual.result c.from_residual.ensures.1 in rw (p.1, p.2)
-    (nowhere_serves g.met.D.SectorDevice.lawful c.args.self.now c.begin_at.new.self c.args.path.now (Unlink c.args.path.now) refl refl refl
-    (λ k m0 m s keeps is r w. unlink_refused (segments_of (seen c.args.self.now)) s c.args.path.now r w) _ c.in_err-directory.field-0.0
-    c.in_err-directory.ensures.refused
-    (λ d reached running. no_piece_perm g.met.D.SectorDevice.lawful
-     (unlink_call (segments_of (seen c.args.self.now)) c.args.path.now d) refl reached running))
+    rw (returned c.from_residual.ensures)
+    (nowhere_serves g.met.D.SectorDevice.lawful _ _ _ _ refl refl refl (λ k m0 m s keeps is. unlink_refused _ s _)
+    _ _ c.in_err-directory.ensures.refused (λ d. no_piece_perm g.met.D.SectorDevice.lawful (unlink_call _ _ d) refl))
 
 -- the rule takes no entry
 pub returns-in_err-entry : goal.returns-in_err-entry
 returns-in_err-entry g c =
     let begun = c.in_ok-directory.ensures.begun in
     let why = c.in_err-entry.ensures in
-    let p = err_from_is_err_and c.from_residual-in_err-entry.result c.from_residual-in_err-entry.ensures.1 in rw (p.1, p.2)
-    (entry_refused g.met.D.SectorDevice.lawful
-    (unlink_call (segments_of (seen c.args.self.now)) c.args.path.now c.in_ok-directory.directory.value) refl
-    begun.reached begun.ready c.check_old_entry.new.files why.only.reads c.in_err-entry.field-0.0
-    (λ e. why.only.halted (ap Err e)) (λ e. why.only.other (ap Err e)) why.refused)
+    rw (returned c.from_residual-in_err-entry.ensures)
+    (asked_fails (entry_refused g.met.D.SectorDevice.lawful (unlink_call _ _ _) refl begun.reached begun.ready _ why.only.reads)
+    why.only why.refused)
 
 pub finish-requires-clause-room : goal.finish-requires-clause-room
 finish-requires-clause-room g c =
-    let begun = c.in_ok-directory.ensures.begun in
-    ok_then c.drop_entry-drafted.result _ _
-    (takes_draft g.D.SectorDevice.state g.met.D.SectorDevice.lawful (seen c.args.self.now)
-    (with_store c.begin_at.new.self c.check_old_entry.new.files) (begun_read g.met.D.SectorDevice.lawful
-     begun.reached begun.ready c.check_old_entry.new.files
-    c.in_ok-entry.ensures.only.reads)
-    c.drop_entry-drafted.new.files c.drop_entry-drafted.ensures.only.redrafts 4 2 (omega arith))
-    c.drop_entry-drafted.ensures.small
+    let draft = c.drop_entry-drafted.ensures in
+    entry_fits g.met.D.SectorDevice.lawful c.in_ok-directory.ensures.begun c.in_ok-entry.ensures.only
+    draft.only 4 2 (omega arith) draft.small
 
 pub returns : goal.returns
 returns g c =
     let begun = c.in_ok-directory.ensures.begun in
-    let drops = c.drop_entry-drafted in
-    unlink_ends g.met.D.SectorDevice.lawful begun.reached begun.ready c.check_old_entry.new.files
-    c.in_ok-entry.ensures.only.reads c.in_ok-entry.ensures.has drops.new.files drops.ensures.only.redrafts
-    c.gives-is_open.ensures.open c.gives-is_open.ensures.shut c.finish.new.self c.finish.ensures.rest drops.result
-    c.finish.result c.finish.ensures.ends drops.ensures.done drops.ensures.counted drops.ensures.failed drops.ensures.only.halted
-    drops.ensures.only.other
+    let drops = c.drop_entry-drafted.ensures in
+    unlink_ends g.met.D.SectorDevice.lawful begun.reached begun.ready _ c.in_ok-entry.ensures.only.reads c.in_ok-entry.ensures.has
+    _ drops.only.redrafts c.gives-is_open.ensures.open c.gives-is_open.ensures.shut c.finish.new.self c.finish.ensures.rest _ _
+    c.finish.ensures.ends drops.done drops.counted drops.failed drops.only.halted drops.only.other

@@ -11,6 +11,6 @@ finish-requires-clause-room g c =
 pub returns : goal.returns
 returns g c v path narrow =
     let draft = c.draft_wide-drafted in
-    widen_ends g.D.SectorDevice.state g.met.D.SectorDevice.lawful narrow draft.new.files draft.ensures.only.redrafts
+    widen_ends g.met.D.SectorDevice.lawful narrow draft.new.files draft.ensures.only.redrafts
     c.finish.new.self c.finish.ensures.rest c.finish.result draft.result c.finish.ensures.ends draft.ensures.done draft.ensures.counted
     draft.ensures.failed draft.ensures.only.halted draft.ensures.only.other

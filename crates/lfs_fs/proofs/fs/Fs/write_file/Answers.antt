@@ -1,4 +1,4 @@
-use Rattle.lfs_fs.proofs.Prelude.{rules, arith, ok_then, seen}
+use Rattle.lfs_fs.proofs.Prelude.{rules, arith, ok_then}
 use Rattle.lfs_fs.proofs.calls.Files.{here_begun}
 use Rattle.lfs_fs.proofs.write.Drafts.{lone_write, write_ends}
 use Rattle.lfs_fs.proofs.write.Exits.{bytes_of}
@@ -19,4 +19,4 @@ returns g c handle opens few =
     (here_begun g.D.SectorDevice.state g.met.D.SectorDevice.lawful c.requires.ready c.requires.counted)
     draft.new.files draft.ensures.only.redrafts handle opens c.finish.new.self c.finish.ensures.rest draft.result
     c.finish.result c.finish.ensures.ends draft.ensures.counted draft.ensures.failed draft.ensures.only.halted draft.ensures.only.other
-     c.requires.bytes few c.requires.end (bytes_of c.args.bytes.now (λ i. search rules)) draft.ensures.done
+    c.requires.bytes few c.requires.end (bytes_of c.args.bytes.now (λ i. search rules)) draft.ensures.done
