@@ -81,7 +81,8 @@ crash_set [] Before s is wrote (x ∷ c) left = absurd left
 crash_set (row ∷ rows) Before zero is wrote [] left = absurd left
 crash_set (row ∷ rows) Before zero {bytes} {old} {new} is wrote (x ∷ c) left =
     let first : CellLeft new (CellLeft old (Before 0)) x = subst (λ (r : Row). CellLeft new (CellLeft r (Before 0)) x) (sym is) left.0 in
-    let from = cell_write (Before 0) x wrote first in ( from.0 ∷ c,
+    let from = cell_write (Before 0) x wrote first in (
+      from.0 ∷ c,
       (subst (λ (r : Row). CellLeft r (Before 0) from.0) is from.1, same_rows rows (later Before) c left.1),
       here c from.2,
     )

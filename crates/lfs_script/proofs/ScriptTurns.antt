@@ -301,7 +301,9 @@ module _ {D : Type 0} {state : D → DeviceState} {strict : Bool} (none : (old :
   bad_ends Read text rest so same seen line consumes refuses = absurd refuses
   bad_ends Memory text rest so same seen line consumes refuses = absurd refuses
   bad_ends (BadLine m) {n} {r} {mid} {now} {w} {w1} {w2} {old} {at} {new} text rest {s} {s1} {s2} so same seen line consumes (is, appends) =
-      stays {end = Script (BadLine m)} now w2 so same seen ( ( is ∙ sym so.count,
+      stays {end = Script (BadLine m)} now w2 so same seen (
+        (
+          is ∙ sym so.count,
           text,
           rest,
           line,
@@ -385,7 +387,8 @@ module _ {D : Type 0} {state : D → DeviceState} {strict : Bool} (none : (old :
       → Finishes state strict end w1 w2 at new text n s1 s2 → EndsTold state strict end r now w w2 old new s s2
   finished end {n} r mid {now} w w1 w2 old at new text left s s1 s2 so plain consumes ended (inl (empty, is, still, same, seen)) =
       let read = last_read r mid now (ended_texts so.texts) text left so.consumed consumes ended in
-      subst (λ (e : StrictEnd). EndsTold state strict e r now w w2 old new s s2) (sym is) (stays {end = Script Done} now w2 so same seen ( (
+      subst (λ (e : StrictEnd). EndsTold state strict e r now w w2 old new s s2) (sym is) (stays {end = Script Done} now w2 so same seen (
+        (
           ended_texts so.texts,
           subst (Consumes r now) (ap (λ t. ended_texts so.texts ++ t) empty ∙ append-nil (ended_texts so.texts)) read.0,
           read.1,

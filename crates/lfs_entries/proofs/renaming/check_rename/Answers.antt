@@ -16,7 +16,7 @@ returns-in_err-target-clause-refused g c =
     let a = g.F.Files.state c.find_source.new.files in
     let b = g.F.Files.state c.find_target.new.files in
     of_second c.in_ok-source.source (source_still c.in_ok-source.ensures.only.reads c.in_err-target.ensures.only.reads
-     c.in_ok-source.ensures.found)
+    c.in_ok-source.ensures.found)
     (next_behind c.in_ok-source.ensures.only.reads c.in_err-target.ensures.only.reads (here c.args.chain) c.args.to.name.now c.args.to.slash
     c.in_ok-source.source.object.header.kind c.in_err-target.field-0.0
     (subst (λ (d : ℕ). RefusesNext a b d c.args.to.name.now c.args.to.slash c.in_ok-source.source.object.header.kind
@@ -47,7 +47,7 @@ returns-then-is_object-clause-taken g c = record {
 pub returns-then-stands_in-clause-refused : goal.returns-then-stands_in-clause-refused
 returns-then-stands_in-clause-refused g c =
     of_within c.in_ok-source.source c.in_ok-target.target (both_found c.in_ok-source.ensures.only.reads c.in_ok-target.ensures.only.reads
-     c.in_ok-source.ensures.found
+    c.in_ok-source.ensures.found
     (subst (λ (d : ℕ). FindsTarget (g.F.Files.state c.find_source.new.files) (g.F.Files.state c.find_target.new.files) d c.args.to.name.now
     c.args.to.slash c.in_ok-source.source.object.header.kind c.in_ok-target.target) c.directory.ensures.value
     c.in_ok-target.ensures.found))
@@ -57,7 +57,7 @@ pub returns-in_err-check_target-clause-refused : goal.returns-in_err-check_targe
 returns-in_err-check_target-clause-refused g c =
     let p = err_from_is_err_and c.from_residual-in_err-check_target.result c.from_residual-in_err-check_target.ensures.1 in rw (p.1, p.2)
     (of_target c.in_ok-source.source c.in_ok-target.target (both_found c.in_ok-source.ensures.only.reads c.in_ok-target.ensures.only.reads
-     c.in_ok-source.ensures.found
+    c.in_ok-source.ensures.found
     (subst (λ (d : ℕ). FindsTarget (g.F.Files.state c.find_source.new.files) (g.F.Files.state c.find_target.new.files) d c.args.to.name.now
     c.args.to.slash c.in_ok-source.source.object.header.kind c.in_ok-target.target) c.directory.ensures.value
     c.in_ok-target.ensures.found))

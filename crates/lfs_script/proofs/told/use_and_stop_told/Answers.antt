@@ -10,7 +10,7 @@ returns-clause-ran g c =
     ok_more _ _ c.use_volume_told-end.result.0 (λ end session.
     stopped_told
     (λ t x le left. inl left) stop.carries stop.time stop.same_failures stop.durable stop.chosen
-     _ _ _ session) c.use_volume_told-end.ensures.ran
+    _ _ _ session) c.use_volume_told-end.ensures.ran
 
 pub returns-clause-refused : goal.returns-clause-refused
 returns-clause-refused g c =
@@ -18,7 +18,7 @@ returns-clause-refused g c =
     err_more _ _ c.use_volume_told-end.result.0 (λ fault unused.
     still_unused
     (λ t x le left. inl left) stop.carries stop.time stop.same_failures stop.durable stop.chosen
-     unused) c.use_volume_told-end.ensures.refused
+    unused) c.use_volume_told-end.ensures.refused
 
 pub returns-clause-carries : goal.returns-clause-carries
 returns-clause-carries g c =
