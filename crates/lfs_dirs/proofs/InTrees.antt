@@ -1,14 +1,12 @@
 -- Directories in the tree, and what changes of their names make of it.
-use Rattle.std.proofs.Common.{◌≡◌, ap, ◌∙◌, sym, ℕ, [], Option, Some}
+use Rattle.std.proofs.Common.{◌≡◌, ℕ, []}
 use Rattle.std.specs.Prelude.{unwrap_or}
 use Rattle.std.specs.FinMap.{put}
-use Rattle.lfs_model.specs.declared.Kind.{Kind}
 use Rattle.lfs_model.specs.Stands.{LogMap}
-use Rattle.lfs_model.specs.Tree.{File, Dir, Names, Node, byte_cmp, form_of, names_of, node, with_node, without}
-use Rattle.lfs_model.specs.TreeOf.{node_by, node_of, tree_in}
+use Rattle.lfs_model.specs.Tree.{File, Dir, Names, byte_cmp, form_of, names_of, node, with_node, without}
+use Rattle.lfs_model.specs.TreeOf.{tree_in}
 use Rattle.lfs_model.proofs.ObjectTrees.{node_of_header, tree_with}
 use Rattle.lfs_files.specs.declared.header.Header.{Header}
-use Rattle.lfs_files.specs.Headers.{as_header}
 use Rattle.lfs_dirs.specs.Directory.{names_at}
 use Rattle.lfs_dirs.specs.InTree.{ChangesDirectory, DirectoryMade, DirectoryNode, DirectoryWidened, NameInTree, NameOffTree}
 use Rattle.lfs_dirs.specs.Widening.{wide}

@@ -1,6 +1,6 @@
 -- The names of a directory, listed from its last block on.
 use Rattle.std.specs.Prelude.{min, Err, IsErrOf}
-use Rattle.std.proofs.Common.{◌≡◌, ◌≢◌, ◌<◌, ◌≤◌, ◌+◌, ◌*◌, ◌-◌, ℕ, None, List, [], ◌∷◌, ◌++◌, take, drop, refl, sym, ◌∙◌, ap, subst, arith}
+use Rattle.std.proofs.Common.{◌≡◌, ◌≢◌, ◌<◌, ◌≤◌, ◌+◌, ◌*◌, ◌-◌, ℕ, None, List, [], ◌∷◌, ◌++◌, take, drop, refl, sym, ◌∙◌, ap, arith}
 use Rattle.std.proofs.lemmas.List.{drop_all}
 use Rattle.lfs_model.specs.Device.{IsLawful}
 use Rattle.lfs_model.specs.Fields.{part}
@@ -17,7 +17,7 @@ use Rattle.lfs_dirs.specs.Finding.{HasNoSlot, IsDirectoryFault, IsBlockFault}
 use Rattle.lfs_dirs.specs.Listing.{Inspects, IsGatheredOf, LacksBlockSlot, LacksSlot, Lists, ListsBlock, PutsSlots, gathered, pairs}
 use Rattle.lfs_dirs.proofs.Scans.{next_slot, no_slots}
 use Rattle.lfs_dirs.proofs.Searches.{block_and_rest, each_is_slot, first_slots_are}
-use Rattle.lfs_dirs.proofs.SlotPlaces.{slots_many, slots_of_block}
+use Rattle.lfs_dirs.proofs.SlotPlaces.{slots_many}
 use Rattle.lfs_dirs.proofs.Widths.{block_before}
 
 -- ---- faults

@@ -1,7 +1,7 @@
 -- Entries in the order of their names, and the map that they give.
 use Rattle.std.specs.Prelude.{is_some}
 use Rattle.std.proofs.Common.{◌≡◌, ◌++◌, ◌&&◌, ◌||◌, not, cond, ℕ, Bool, true, false, T, List, [], ◌∷◌, filter, Option, Some, None, refl}
-use Rattle.std.proofs.Common.{sym, ◌∙◌, ap, subst, IsPermutation, IsSortedBy}
+use Rattle.std.proofs.Common.{sym, ◌∙◌, ap, IsPermutation, IsSortedBy}
 use Rattle.std.proofs.lemmas.Bool.{false≢true}
 use Rattle.std.proofs.lemmas.List.{reverse-append}
 use Rattle.std.proofs.lemmas.List.Kept.{IsStrictlySortedBy-dedup}

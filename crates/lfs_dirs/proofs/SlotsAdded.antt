@@ -1,19 +1,17 @@
 -- A slot written behind those of a directory.
 use Rattle.std.specs.Prelude.{max}
-use Rattle.std.proofs.Common.{◌≡◌, ◌≢◌, ◌<◌, ◌≤◌, ⊎_elim, ◌+◌, ◌*◌, ℕ, List, [], ◌∷◌, ◌++◌, length, get_or, None, sym, ◌∙◌, ap, subst}
+use Rattle.std.proofs.Common.{◌≡◌, ◌<◌, ◌≤◌, ⊎_elim, ◌+◌, ◌*◌, ℕ, List, [], ◌∷◌, ◌++◌, length, get_or, None, sym, ◌∙◌}
 use Rattle.std.proofs.Common.{arith}
 use Rattle.std.proofs.lemmas.Bool.{cases_lt}
 use Rattle.std.proofs.lemmas.List.{ext_get_or, get_or_append_left, get_or_push, length_push}
 use Rattle.std.specs.FinMap.{find}
-use Rattle.std.specs.List.{AllByRecursion}
-use Rattle.lfs_model.specs.Objects.{IsDirectory, WritesBytes, byte_in}
-use Rattle.lfs_model.specs.Slot.{FitsSlot, IsName, SlotValue, slot_in}
+use Rattle.lfs_model.specs.Objects.{IsDirectory, WritesBytes}
+use Rattle.lfs_model.specs.Slot.{FitsSlot, IsName, SlotValue}
 use Rattle.lfs_model.specs.Stands.{LogMap}
 use Rattle.lfs_model.specs.Tree.{byte_cmp, name_len, slot_len}
-use Rattle.lfs_model.specs.TreeOf.{map_of}
 use Rattle.lfs_files.specs.declared.header.Header.{Header}
-use Rattle.lfs_files.specs.Headers.{as_header, resized}
-use Rattle.lfs_files.specs.Files.{FilesState, Writes, WritesFile}
+use Rattle.lfs_files.specs.Headers.{as_header}
+use Rattle.lfs_files.specs.Files.{FilesState, Writes}
 use Rattle.lfs_dirs.specs.Adding.{Adds, AddsName, SlotWritten, grown, slot_for}
 use Rattle.lfs_dirs.specs.Directory.{names_at, slot_count, slots_at}
 use Rattle.lfs_dirs.proofs.Widths.{byte_within, count_more, whole_more, whole_size}

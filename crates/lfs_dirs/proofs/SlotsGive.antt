@@ -1,6 +1,6 @@
 -- What is found under a name is what the slot of that name gives.
-use Rattle.std.proofs.Common.{◌≡◌, ◌≢◌, ◌+◌, ℕ, suc, true, false, List, [], ◌∷◌, take, drop, get_or, Option, Some, None, refl, sym, ◌∙◌, ap}
-use Rattle.std.proofs.Common.{ap₂, subst, arith}
+use Rattle.std.proofs.Common.{◌≡◌, ◌≢◌, ◌+◌, ℕ, suc, true, false, List, [], ◌∷◌, take, drop, get_or, Option, Some, None, refl, sym, ◌∙◌}
+use Rattle.std.proofs.Common.{ap₂, arith}
 use Rattle.std.specs.Ordering.{eq_by_cmp}
 use Rattle.std.specs.FinMap.{find}
 use Rattle.lfs_model.specs.Slot.{SlotValue, slot_in}
@@ -8,7 +8,7 @@ use Rattle.lfs_model.specs.Tree.{byte_cmp}
 use Rattle.lfs_model.specs.TreeOf.{map_of, with_slot}
 use Rattle.lfs_dirs.specs.Directory.{IsSlotAt, SlotGives}
 use Rattle.lfs_dirs.proofs.SlotNames.{found_behind, found_first, tied, ties}
-use Rattle.lfs_dirs.proofs.SlotsApart.{AreApart, there}
+use Rattle.lfs_dirs.proofs.SlotsApart.{there}
 use Rattle.lfs_dirs.proofs.SlotsReplaced.{parts_at}
 
 abbrev slot_value : ℕ → List ℕ → SlotValue

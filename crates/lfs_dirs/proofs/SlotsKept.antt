@@ -1,18 +1,16 @@
 -- Slots that stay, and none.
 use Rattle.std.specs.Prelude.{slice_index}
-use Rattle.std.proofs.Common.{◌≡◌, ◌≢◌, ◌*◌, ◌/◌, ◌%◌, ℕ, zero, suc, List, [], length, map, take, drop, None, refl, sym, ◌∙◌, ap, ap₂}
-use Rattle.std.proofs.Common.{subst}
+use Rattle.std.proofs.Common.{◌≡◌, ◌*◌, ◌/◌, ◌%◌, ℕ, zero, suc, List, [], map, take, drop, refl, ◌∙◌, ap}
 use Rattle.std.proofs.lemmas.List.{nil_from_length}
-use Rattle.std.specs.List.{AllByRecursion, range_with_len}
+use Rattle.std.specs.List.{range_with_len}
 use Rattle.lfs_model.specs.Objects.{IsDirectory}
-use Rattle.lfs_model.specs.Slot.{slot_in}
 use Rattle.lfs_model.specs.Stands.{LogMap}
 use Rattle.lfs_model.specs.Tree.{slot_len}
-use Rattle.lfs_model.specs.TreeOf.{map_of, object, slots}
+use Rattle.lfs_model.specs.TreeOf.{object, slots}
 use Rattle.lfs_model.proofs.ObjectBytes.{same_objects}
 use Rattle.lfs_files.specs.declared.header.Header.{Header}
 use Rattle.lfs_files.specs.Headers.{as_header}
-use Rattle.lfs_dirs.specs.Directory.{slot_count, slots_at}
+use Rattle.lfs_dirs.specs.Directory.{slots_at}
 use Rattle.lfs_dirs.specs.Keeping.{DirectoryStays, EmptyDirectory, SlotsStay}
 use Rattle.lfs_dirs.proofs.SlotPlaces.{slots_many}
 

@@ -1,19 +1,17 @@
 -- A slot of a directory written anew.
 use Rattle.std.specs.Prelude.{max, set}
 use Rattle.std.proofs.Common.{◌≡◌, ◌≢◌, ◌<◌, ◌≤◌, ⊎_elim, ◌+◌, ◌*◌, ℕ, suc, List, [], ◌∷◌, ◌++◌, length, take, drop, get_or, Some, None}
-use Rattle.std.proofs.Common.{refl, sym, ◌∙◌, ap, subst, arith}
+use Rattle.std.proofs.Common.{refl, sym, ◌∙◌, ap, arith}
 use Rattle.std.proofs.lemmas.Bool.{cases_eq, cases_lt}
 use Rattle.std.proofs.lemmas.List.{drop_more, ext_get_or, get_or-set_same, get_or-set_other, length-set, set_split, take-append-drop}
-use Rattle.std.specs.FinMap.{put}
 use Rattle.lfs_model.specs.Objects.{IsDirectory, WritesBytes, byte_in}
 use Rattle.lfs_model.specs.Slot.{FitsSlot, SlotValue, slot_in}
 use Rattle.lfs_model.specs.Stands.{LogMap}
-use Rattle.lfs_model.specs.Tree.{byte_cmp, slot_len}
-use Rattle.lfs_model.specs.TreeOf.{map_of}
+use Rattle.lfs_model.specs.Tree.{slot_len}
 use Rattle.lfs_model.proofs.Decoding.{slot_some}
 use Rattle.lfs_files.specs.declared.header.Header.{Header}
-use Rattle.lfs_files.specs.Headers.{as_header, resized}
-use Rattle.lfs_files.specs.Files.{AreCounted, Counted, Counts, FilesState, IsFault, Reads, Redrafts, Writes, WritesFile}
+use Rattle.lfs_files.specs.Headers.{as_header}
+use Rattle.lfs_files.specs.Files.{Counts, FilesState, IsFault, Reads, Redrafts, Writes}
 use Rattle.lfs_files.proofs.FilesCompose.{writes_behind}
 use Rattle.lfs_dirs.specs.declared.searching.Found.{Found}
 use Rattle.lfs_dirs.specs.Adding.{slot_for}
@@ -23,7 +21,7 @@ use Rattle.lfs_dirs.specs.Repointing.{Repoints, RepointsName}
 use Rattle.lfs_dirs.specs.Searching.{FindsName, IsSlotOf}
 use Rattle.lfs_dirs.proofs.Widths.{before_slot, behind_slot, slot_within}
 use Rattle.lfs_dirs.proofs.SlotPlaces.{slot_byte, slot_is, slot_long, slots_many}
-use Rattle.lfs_dirs.proofs.SlotsApart.{AreApart, AreFormed, replaced, replaced_apart, replaced_formed}
+use Rattle.lfs_dirs.proofs.SlotsApart.{AreApart, replaced, replaced_apart, replaced_formed}
 
 -- ---- lists
 -- the list about one of its elements

@@ -1,17 +1,16 @@
 -- A draft that takes a name out of a directory.
 use Rattle.std.specs.Prelude.{max}
-use Rattle.std.proofs.Common.{◌≡◌, ◌<◌, ◌≤◌, ◌+◌, ◌*◌, ◌-◌, ◌/◌, ◌%◌, ℕ, List, [], length, get_or, sym, ◌∙◌, ap, subst, arith}
+use Rattle.std.proofs.Common.{◌≡◌, ◌<◌, ◌≤◌, ◌+◌, ◌*◌, ◌-◌, ◌/◌, ◌%◌, ℕ, List, [], length, get_or, sym, ◌∙◌, subst, arith}
 use Rattle.lfs_model.specs.Encodes.{IsLogMap}
 use Rattle.lfs_model.specs.Fields.{part}
-use Rattle.lfs_model.specs.Inode.{IsForm}
 use Rattle.lfs_model.specs.Tree.{slot_len}
 use Rattle.lfs_model.specs.Objects.{AreLong}
 use Rattle.lfs_model.specs.Stands.{LogMap}
 use Rattle.lfs_model.proofs.ObjectMaps.{object_fits, object_kept}
 use Rattle.lfs_files.specs.declared.header.Header.{Header}
-use Rattle.lfs_files.specs.Files.{AreCounted, Counted, Counts, FilesState, HasFile, HasShrunk, IsApart, IsFault, Reads, Redrafts, Shrinks}
-use Rattle.lfs_files.specs.Files.{TellsBlock, Writes, WritesFile}
-use Rattle.lfs_files.specs.Headers.{FitsHeader, as_header, resized}
+use Rattle.lfs_files.specs.Files.{Counts, FilesState, HasFile, HasShrunk, IsApart, IsFault, Reads, Redrafts, Shrinks}
+use Rattle.lfs_files.specs.Files.{TellsBlock, Writes}
+use Rattle.lfs_files.specs.Headers.{as_header}
 use Rattle.lfs_files.proofs.FilesCompose.{still_apart}
 use Rattle.lfs_dirs.specs.declared.searching.Found.{Found}
 use Rattle.lfs_dirs.specs.Directory.{per_block, slot_count, slots_at}

@@ -1,6 +1,6 @@
 -- A draft that widens a directory: another form, and then its slots in it.
-use Rattle.std.specs.Prelude.{max, slice_index}
-use Rattle.std.proofs.Common.{◌≡◌, ◌<◌, ◌≤◌, ◌+◌, ◌*◌, ◌/◌, ◌%◌, ℕ, zero, suc, List, length, Some, sym, ◌∙◌, ap, subst, arith}
+use Rattle.std.specs.Prelude.{max}
+use Rattle.std.proofs.Common.{◌≡◌, ◌≤◌, ◌+◌, ◌*◌, ◌/◌, ◌%◌, ℕ, zero, suc, List, length, Some, sym, ◌∙◌, ap, arith}
 use Rattle.lfs_model.specs.Changing.{IsWithHeader}
 use Rattle.lfs_model.specs.Encodes.{IsLogMap}
 use Rattle.lfs_model.specs.Inode.{IsForm}
@@ -9,9 +9,9 @@ use Rattle.lfs_model.specs.Stands.{LogMap}
 use Rattle.lfs_model.specs.Tree.{slot_len}
 use Rattle.lfs_model.proofs.ObjectMaps.{object_fits, object_kept}
 use Rattle.lfs_files.specs.declared.header.Header.{Header}
-use Rattle.lfs_files.specs.Files.{AreCounted, Counted, Counts, CountsReformed, FilesState, HasFile, HasReformed, IsApart, IsFault}
-use Rattle.lfs_files.specs.Files.{IsLoneWrite, Reads, Redrafts, Reforms, Writes, WritesFile, asked_by_directory}
-use Rattle.lfs_files.specs.Headers.{FitsHeader, as_header, resized}
+use Rattle.lfs_files.specs.Files.{Counts, CountsReformed, FilesState, HasFile, HasReformed, IsApart, IsFault}
+use Rattle.lfs_files.specs.Files.{IsLoneWrite, Reads, Redrafts, Reforms, Writes, asked_by_directory}
+use Rattle.lfs_files.specs.Headers.{as_header}
 use Rattle.lfs_files.proofs.FilesCompose.{still_apart}
 use Rattle.lfs_dirs.specs.Directory.{slot_count}
 use Rattle.lfs_dirs.specs.Finding.{IsDirectoryFault}

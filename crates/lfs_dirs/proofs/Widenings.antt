@@ -1,7 +1,7 @@
 -- A directory's slots in form 1.
 use Rattle.std.specs.Prelude.{min}
 use Rattle.std.proofs.Common.{◌≡◌, ◌≢◌, ◌<◌, ◌≤◌, ◌+◌, ◌*◌, ◌-◌, ◌/◌, ◌%◌, ℕ, zero, suc, List, [], ◌∷◌, ◌++◌, length, map, take, drop}
-use Rattle.std.proofs.Common.{get_or, Option, Some, None, refl, sym, ◌∙◌, ap, ap₂, subst, arith}
+use Rattle.std.proofs.Common.{get_or, Option, Some, None, refl, sym, ◌∙◌, ap, arith}
 use Rattle.std.proofs.lemmas.Grind.{flat_map-append}
 use Rattle.std.proofs.lemmas.List.{append_assoc, append-nil, drop_all, ext_get_or, get_or_append_left, get_or-append-add, get_or-map}
 use Rattle.std.proofs.lemmas.List.{length-append, length-map}
@@ -11,7 +11,7 @@ use Rattle.lfs_model.specs.Objects.{IsDirectory, byte_in}
 use Rattle.lfs_model.specs.Slot.{FitsSlot, IsName, SlotValue, slot_bytes, slot_in}
 use Rattle.lfs_model.specs.Stands.{LogMap}
 use Rattle.lfs_model.specs.Tree.{name_len, slot_len}
-use Rattle.lfs_model.specs.TreeOf.{map_of, with_slot}
+use Rattle.lfs_model.specs.TreeOf.{map_of}
 use Rattle.lfs_model.proofs.Decoding.{slot_found, slot_some}
 use Rattle.lfs_model.proofs.SlotPlaces.{length-slot}
 use Rattle.lfs_files.specs.declared.header.Header.{Header}
@@ -24,7 +24,7 @@ use Rattle.lfs_dirs.specs.Listing.{AreSlots}
 use Rattle.lfs_dirs.specs.Widening.{AppendsWide, TellsWide, WidensBlock, WidensNames, wide, wide_bytes, wide_slot, wide_slot_of}
 use Rattle.lfs_dirs.proofs.Scans.{next_slot, no_slots}
 use Rattle.lfs_dirs.proofs.Searches.{block_and_rest, first_slots_are}
-use Rattle.lfs_dirs.proofs.SlotPlaces.{slot_is, slots_many, slots_of_block}
+use Rattle.lfs_dirs.proofs.SlotPlaces.{slot_is, slots_many}
 use Rattle.lfs_dirs.proofs.Widths.{next_block}
 
 -- ---- one slot

@@ -1,5 +1,5 @@
 -- How slots of either width stand in blocks of 512 bytes: none crosses a block.
-use Rattle.std.proofs.Common.{◌≡◌, ◌<◌, ◌≤◌, ◌+◌, ◌*◌, ◌-◌, ◌/◌, ◌%◌, ℕ, zero, suc, arith, subst, sym}
+use Rattle.std.proofs.Common.{◌≡◌, ◌<◌, ◌≤◌, ◌+◌, ◌*◌, ◌-◌, ◌/◌, ◌%◌, ℕ, zero, suc, arith}
 use Rattle.std.specs.Prelude.{min}
 use Rattle.lfs_model.specs.Tree.{slot_len}
 use Rattle.lfs_dirs.specs.Directory.{per_block}

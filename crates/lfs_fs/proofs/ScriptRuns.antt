@@ -8,7 +8,6 @@ use Rattle.std.proofs.Common.{length-append, slice_get}
 use Rattle.std.proofs.lemmas.List.{length-map}
 use Rattle.std.proofs.lemmas.List.Elements.{Contains-append_left, Contains-append_right}
 use Rattle.lfs_model.specs.Run.{LineRun}
-use Rattle.lfs_model.specs.Since.{AreKeptSince}
 use Rattle.lfs_model.proofs.CrashRuns.{IsRunSoFar, leaves_first, leaves_more}
 use Rattle.lfs_model.proofs.Lefts.{left_only}
 use Rattle.lfs_model.proofs.Moments.{weaker}

@@ -1,12 +1,11 @@
 -- A use of a volume, from its mount to a stop: which states it goes from, and what a stop in it leaves.
 use Rattle.lfs_fs.proofs.Prelude.{◌≡◌, ◌⊎◌, ℕ, false, List, ◌∷◌, sym, ◌∙◌, ap, subst, inl, inr, Answer, Call, CheckpointValue, Content}
-use Rattle.lfs_fs.proofs.Prelude.{AllLeft, DeviceState, Carries, IsLawful, LeavesOnly, Only, Point, final, Line, State, drop_nameless}
+use Rattle.lfs_fs.proofs.Prelude.{AllLeft, DeviceState, Carries, IsLawful, LeavesOnly, Only, Point, Line, State, drop_nameless}
 use Rattle.lfs_fs.proofs.Prelude.{LeavesOne, Stands, StandsForSome, LeavesPrefix, joined, single_state, Some-injective, settled, Fs}
 use Rattle.lfs_fs.proofs.Prelude.{FindsState, RanAt, RunsLines, TellsLines, seen, IsAt, Mounted, Runs, segments_of}
 use Rattle.lfs_model.specs.Content.{newest}
 use Rattle.lfs_model.specs.Device.{IsUntouched}
 use Rattle.lfs_model.specs.Since.{UsesTold}
-use Rattle.lfs_model.specs.TreeOf.{TreeOf}
 use Rattle.lfs_model.specs.Use.{Continues, IsNumbered, UsesVolume}
 use Rattle.lfs_model.specs.Volume.{StandsForPrefix}
 use Rattle.lfs_model.proofs.Committed.{nothing_dropped}

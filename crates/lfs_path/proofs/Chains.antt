@@ -1,9 +1,9 @@
 -- The directories above a walk, and what a piece makes of them.
-use Rattle.std.proofs.Common.{◌≡◌, ◌≢◌, sym, ap, subst, ◌∙◌, ℕ, true, List, [], ◌∷◌, arith}
+use Rattle.std.proofs.Common.{◌≡◌, ◌≢◌, sym, ap, ◌∙◌, ℕ, true, List, [], ◌∷◌, arith}
 use Rattle.lfs_model.specs.Stands.{LogMap}
 use Rattle.lfs_model.specs.Tree.{Dir, Names, Tree, is_dir, names, node, up}
 use Rattle.lfs_model.specs.TreeOf.{tree_in}
-use Rattle.lfs_model.specs.Walk.{Gives, Walk, directory, dot, dot_dot, goes_up, stays}
+use Rattle.lfs_model.specs.Walk.{Gives, directory, dot, dot_dot, goes_up, stays}
 use Rattle.lfs_model.proofs.Shrinking.{named_counts}
 use Rattle.lfs_model.proofs.Standing.{in_order}
 use Rattle.lfs_path.specs.Passing.{Leads}

@@ -1,6 +1,5 @@
 -- Directories and their entries in the tree of a log map.
-use Rattle.std.proofs.Common.{◌≡◌, ◌≢◌, ⊎_elim, refl, sym, ap, ◌∙◌, ℕ, ◌<◌, ◌≤◌, true, List, [], length, Option, Some, None, arith}
-use Rattle.std.specs.Prelude.{unwrap_or}
+use Rattle.std.proofs.Common.{◌≡◌, ◌≢◌, ⊎_elim, refl, sym, ap, ◌∙◌, ℕ, ◌<◌, ◌≤◌, true, List, length, Option, Some, None, arith}
 use Rattle.std.proofs.lemmas.Bool.{cases_lt}
 use Rattle.std.specs.FinMap.{find}
 use Rattle.lfs_model.specs.declared.Kind.{Kind}
@@ -10,7 +9,7 @@ use Rattle.lfs_model.specs.Entry as entries
 use Rattle.lfs_model.specs.Objects.{IsDirectory}
 use Rattle.lfs_model.specs.Refusal as refusals
 use Rattle.lfs_model.specs.Stands.{LogMap}
-use Rattle.lfs_model.specs.Tree.{File, Dir, Link, Node, byte_cmp, entry, form_of, is_dir, name_len, name_limit, names_in, names_of, node}
+use Rattle.lfs_model.specs.Tree.{Dir, Link, Node, byte_cmp, entry, is_dir, name_len, name_limit, names_in, node}
 use Rattle.lfs_model.specs.TreeOf.{node_by, node_of, object, tree_in}
 use Rattle.lfs_model.specs.Walk.{Gives, IsLookedUp, Refused, dot, dot_dot, too_long, not_there}
 use Rattle.lfs_model.proofs.Volume.{node_in, no_node_0, no_node_past}

@@ -1,14 +1,11 @@
 -- The directory of a path without pieces.
-use Rattle.std.proofs.Common.{◌≡◌, refl, sym, subst, ℕ, true, List, [], ◌∷◌, Option, None}
-use Rattle.std.specs.Prelude.{MatchOption}
-use Rattle.lfs_model.specs.PathText.{but_last, comps, text_refusal}
-use Rattle.lfs_model.specs.Refusal.{Refusal}
+use Rattle.std.proofs.Common.{◌≡◌, refl, sym, ℕ, List, [], ◌∷◌, None}
+use Rattle.lfs_model.specs.PathText.{comps, text_refusal}
 use Rattle.lfs_model.specs.Stands.{LogMap}
 use Rattle.lfs_model.specs.Tree.{Tree}
 use Rattle.lfs_model.specs.TreeOf.{tree_in}
-use Rattle.lfs_model.specs.Walk.{At, Refused, Walk, no_piece}
+use Rattle.lfs_model.specs.Walk.{At, no_piece}
 use Rattle.lfs_path.specs.Reaching.{EndsParent, IsParent}
-use Rattle.lfs_path.specs.Trees.{IsChain, here}
 
 root_ends : (t : Tree) (path : List ℕ) → text_refusal path ≡ None → comps path ≡ [] → EndsParent path t (At 1)
 root_ends t path text none =

@@ -1,12 +1,12 @@
 -- A path split at its last piece.
-use Rattle.std.proofs.Common.{◌≡◌, ◌≤◌, ◌-◌, refl, sym, ap, ◌∙◌, ℕ, suc, Bool, true, false, List, [], ◌∷◌, ◌++◌, Option, Some, None, length}
-use Rattle.std.proofs.Common.{take, drop, eqb, arith}
+use Rattle.std.proofs.Common.{◌≡◌, ◌≤◌, ◌-◌, refl, ◌∙◌, ℕ, suc, Bool, true, false, List, [], ◌∷◌, ◌++◌, Option, Some, None, length}
+use Rattle.std.proofs.Common.{take, drop, arith}
 use Rattle.std.specs.Prelude.{IfNone, IfSome, is_none, nat_lt, not, ◌==◌}
 use Rattle.std.specs.List.{last_or}
 use Rattle.std.proofs.lemmas.Bool.{eqb-true}
 use Rattle.std.proofs.lemmas.Bool.Decides.{nat_tests}
 use Rattle.std.proofs.lemmas.List.{length-append, take-append-le, take-append-drop, take_all}
-use Rattle.lfs_model.specs.PathText.{comps, slash, but_last, from_root, last}
+use Rattle.lfs_model.specs.PathText.{comps, slash, but_last, from_root}
 use Rattle.lfs_model.specs.Walk.{more}
 use Rattle.lfs_model.proofs.FollowedTexts.{IsRest, pieces_joined}
 use Rattle.lfs_path.specs.Lasts.{SplitsLast}

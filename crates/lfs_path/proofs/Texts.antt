@@ -1,5 +1,5 @@
 -- The pieces of a text, from its slashes.
-use Rattle.std.proofs.Common.{◌≡◌, refl, sym, ap, subst, ◌∙◌, ℕ, suc, ◌+◌, ◌-◌, ◌<◌, ◌≤◌, ◌⊎◌, true, false, not, ◌&&◌, List, [], ◌∷◌}
+use Rattle.std.proofs.Common.{◌≡◌, refl, sym, ap, subst, ◌∙◌, ℕ, suc, ◌+◌, ◌-◌, ◌<◌, ◌≤◌, ◌⊎◌, true, false, not, List, [], ◌∷◌}
 use Rattle.std.proofs.Common.{length, take, drop, eqb, arith, inl, inr}
 use Rattle.std.specs.Prelude.{filter, nat_eq, nat_lt}
 use Rattle.std.specs.List.{prefix_len}

@@ -1,7 +1,4 @@
 -- Log maps of sound trees are walked, and what their directories are.
-use Rattle.std.proofs.Common.{◌≡◌, ◌≢◌, subst, ℕ, true}
-use Rattle.lfs_model.specs.Sound.{NamesGive}
-use Rattle.lfs_model.specs.Tree.{Tree, is_dir, names, node}
 use Rattle.lfs_path.specs.Laws.{ChainSays, DirectoriesSay, TreeMaps}
 use Rattle.lfs_path.proofs.Chains.{in_directory}
 use Rattle.lfs_path.proofs.InTrees.{is_formed, limit, names_are}

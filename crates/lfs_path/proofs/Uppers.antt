@@ -1,5 +1,5 @@
 -- The one directory that names a directory is the one above it.
-use Rattle.std.proofs.Common.{◌≡◌, ◌≢◌, refl, sym, ap, subst, ◌∙◌, ℕ, ◌+◌, ◌≤◌, Bool, true, false, ◌||◌, List, [], ◌∷◌, Option, Some, None}
+use Rattle.std.proofs.Common.{◌≡◌, ◌≢◌, refl, sym, ℕ, ◌+◌, ◌≤◌, Bool, true, false, ◌||◌, List, [], ◌∷◌, Option, Some, None}
 use Rattle.std.proofs.Common.{arith, cond, eqb}
 use Rattle.std.specs.Prelude.{T, count_by, unwrap_or, option_map, if◌then◌else◌, ◌==◌, find as first_that}
 use Rattle.std.specs.List.{list_any}

@@ -1,10 +1,10 @@
 -- What a mount and a run of a script say together, and what a stop after them leaves: a use of a volume.
-use Rattle.std.proofs.Common.{◌≡◌, ◌<◌, ◌≤◌, ◌∷◌, ⊎_elim, arith, map, ℕ, Bool, true, false, Option, Result, Ok, Err, List, sym, ◌∙◌, subst}
+use Rattle.std.proofs.Common.{◌≡◌, ◌<◌, ◌≤◌, ⊎_elim, arith, ℕ, Bool, true, false, Option, Result, Ok, Err, List, sym, ◌∙◌, subst}
 use Rattle.std.proofs.Common.{IfOk, IfErr}
 use Rattle.lfs_model.specs.Content.{Content}
 use Rattle.lfs_model.specs.Device.{Carries, DeviceState, Elapses, IsLawful, IsUntouched, LeavesOnly, Only}
 use Rattle.lfs_model.specs.Run.{Point}
-use Rattle.lfs_model.specs.Script.{Line, call_of}
+use Rattle.lfs_model.specs.Script.{Line}
 use Rattle.lfs_model.specs.Call.{Answer, Call}
 use Rattle.lfs_model.specs.Since.{AreKeptSince}
 use Rattle.lfs_model.specs.Use.{UsesVolume}

@@ -1,11 +1,11 @@
 -- What a store's log holds as it commits, makes room and stages its draft.
 use Rattle.std.specs.Prelude.{Result, Ok, Err, OnErr, OnOk}
-use Rattle.std.proofs.Common.{◌≡◌, ◌<◌, ◌≤◌, ◌+◌, ◌/◌, inl, inr, ⊎_elim, cond, Bool, true, false, ℕ, refl, sym}
-use Rattle.std.proofs.Common.{◌∙◌, ap, subst, arith}
+use Rattle.std.proofs.Common.{◌≡◌, ◌<◌, ◌≤◌, ◌+◌, ◌/◌, inl, inr, ⊎_elim, cond, Bool, true, false, ℕ, refl}
+use Rattle.std.proofs.Common.{arith}
 use Rattle.lfs_model.specs.Checkpoint.{CheckpointValue}
 use Rattle.lfs_model.specs.declared.limits.TheConstants.{MOST_UNSAVED}
 use Rattle.lfs_model.specs.Crash.{StandsOn}
-use Rattle.lfs_model.specs.Device.{DeviceState, IsLawful, Carries, AllLeft, LeavesOnly}
+use Rattle.lfs_model.specs.Device.{DeviceState, IsLawful, Carries, LeavesOnly}
 use Rattle.lfs_model.specs.Encodes.{IsLogMap}
 use Rattle.lfs_model.specs.Stands.{LogMap}
 use Rattle.lfs_model.specs.TreeOf.{dropped}

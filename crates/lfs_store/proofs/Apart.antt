@@ -1,5 +1,5 @@
 -- What is lost by files, and what is apart from it; and drafts of nothing.
-use Rattle.std.proofs.Common.{◌≡◌, ◌≢◌, ◌==◌, ◌+◌, ◌-◌, ◌*◌, ◌/◌, nat_lt, nat_le, ℕ, false, List, [], refl, ◌∙◌, ap, subst, sym}
+use Rattle.std.proofs.Common.{◌≡◌, ◌≢◌, ◌==◌, ◌+◌, ◌-◌, ◌*◌, ◌/◌, nat_lt, nat_le, ℕ, false, List, [], refl}
 use Rattle.std.proofs.lemmas.Bool.{and_left, cond_both, ne_eqb}
 use Rattle.lfs_model.specs.Entry.{Entry, Data, Inode, Leaf}
 use Rattle.lfs_model.specs.Memory.{parent}

@@ -1,8 +1,8 @@
 -- A file cut, or made longer, in a draft over a log.
 use Rattle.std.specs.Prelude.{IsFalse}
 use Rattle.std.specs.Int.{div_ceil}
-use Rattle.std.proofs.Common.{◌≡◌, ◌<◌, ◌≤◌, ◌/◌, ◌%◌, ◌+◌, ◌-◌, ◌*◌, ◌==◌, nat_lt, nat_le, ℕ, Bool, List, [], length, Some, None, refl}
-use Rattle.std.proofs.Common.{sym, ◌∙◌, ap, ap₂, subst, arith, false}
+use Rattle.std.proofs.Common.{◌≡◌, ◌<◌, ◌≤◌, ◌/◌, ◌%◌, ◌+◌, ◌-◌, ◌*◌, ◌==◌, nat_lt, nat_le, ℕ, Bool, List, length, Some, None, refl}
+use Rattle.std.proofs.Common.{sym, ◌∙◌, ap, arith, false}
 use Rattle.std.proofs.lemmas.Bool.{and_right, cond_both, lt-leb, ltb-false}
 use Rattle.lfs_model.specs.Changing.{IsWithHeader}
 use Rattle.lfs_model.specs.Cutting.{is_past}
@@ -19,9 +19,9 @@ use Rattle.lfs_cleaner.specs.log.memory.declared.batch.Loss.TheVariants.{Blocks}
 use Rattle.lfs_cleaner.specs.log.memory.declared.changes.Changes.{Changes}
 use Rattle.lfs_cleaner.specs.log.memory.files.declared.header.Header.{Header}
 use Rattle.lfs_cleaner.specs.log.memory.Batch.{IsNoChange, is_lost, staged, FitsBatch}
-use Rattle.lfs_cleaner.specs.log.memory.Changing.{stored, with_header}
+use Rattle.lfs_cleaner.specs.log.memory.Changing.{with_header}
 use Rattle.lfs_cleaner.specs.log.memory.Cutting.{cut_from}
-use Rattle.lfs_cleaner.specs.log.memory.Present.{BlockAnswer, as_header}
+use Rattle.lfs_cleaner.specs.log.memory.Present.{as_header}
 use Rattle.lfs_cleaner.specs.log.LogState.{LogState, Reads}
 use Rattle.lfs_store.specs.Drafting.{PutsBlock, PutsHeader, TakesBlock}
 use Rattle.lfs_store.specs.Pieces.{CutsTail, CutSoFar, CutBlocks}
@@ -33,7 +33,7 @@ use Rattle.lfs_store.specs.Seen.{HasMap, files_of}
 use Rattle.lfs_store.specs.Writing.{DraftsCut, CutsDraft}
 use Rattle.lfs_store.proofs.PiecesCut.{cut_begins, cut_between, cut_inside, cut_none, cut_blocks_heads, cut_is_done}
 use Rattle.lfs_store.proofs.PiecesStored.{header_apart, same_whole}
-use Rattle.lfs_store.proofs.Apart.{edits_are, no_change, fits_lost, draft_empty}
+use Rattle.lfs_store.proofs.Apart.{fits_lost, draft_empty}
 use Rattle.lfs_store.proofs.Writings.{block_read, block_put, header_put, still_has, takes_header}
 
 -- ---- what such drafts make of a log map

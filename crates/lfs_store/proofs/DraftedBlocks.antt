@@ -1,12 +1,11 @@
 -- What a draft says of blocks, from the list of its edits.
 use Rattle.std.proofs.Common.{◌≡◌, ◌<◌, ◌≤◌, ◌+◌, ◌-◌, ◌==◌, ◌&&◌, cond, ℕ, suc, Bool, true, false, List, [], ◌∷◌, ◌++◌, length, take, drop}
-use Rattle.std.proofs.Common.{set, get_or, refl, sym, ◌∙◌, ap, ap₂, subst, arith}
+use Rattle.std.proofs.Common.{set, get_or, refl, sym, ◌∙◌, ap, ap₂, arith}
 use Rattle.std.proofs.Math.Path.{fun_ext}
 use Rattle.std.proofs.lemmas.List.{drop_more, take-append-drop, set_split}
 use Rattle.lfs_model.specs.Stands.{LogMap}
 use Rattle.lfs_cleaner.specs.log.memory.declared.batch.BlockEdit.{BlockEdit}
 use Rattle.lfs_cleaner.specs.log.memory.declared.batch.HeaderEdit.{HeaderEdit}
-use Rattle.lfs_cleaner.specs.log.memory.declared.batch.Loss.{Loss}
 use Rattle.lfs_cleaner.specs.log.memory.declared.changes.Changes.{Changes}
 use Rattle.lfs_cleaner.specs.log.memory.Applying.{after_headers, after_block, after_blocks}
 use Rattle.lfs_cleaner.specs.log.memory.Batch.{lost, staged}

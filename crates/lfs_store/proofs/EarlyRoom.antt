@@ -4,12 +4,10 @@ use Rattle.std.proofs.Common.{◌∙◌, subst, arith}
 use Rattle.lfs_model.specs.Content.{Content}
 use Rattle.lfs_model.specs.Crash.{StandsOn}
 use Rattle.lfs_model.specs.Device.{DeviceState, IsLawful}
-use Rattle.lfs_model.specs.Totals.{IsCounted}
 use Rattle.lfs_model.proofs.Moments.{carries_none, started, weaker}
-use Rattle.lfs_cleaner.specs.log.verify.declared.totals.BlockTotals.{BlockTotals}
-use Rattle.lfs_cleaner.specs.log.LogState.{AreAllSaved, LogState, IsSaved, WritesEarly}
+use Rattle.lfs_cleaner.specs.log.LogState.{AreAllSaved, LogState, WritesEarly}
 use Rattle.lfs_cleaner.specs.log.Saving.{commit_orders}
-use Rattle.lfs_cleaner.specs.Room.{KeepsMap, MakesRoom, most_checkpoints, passes_orders, room_orders}
+use Rattle.lfs_cleaner.specs.Room.{KeepsMap, MakesRoom, passes_orders, room_orders}
 use Rattle.lfs_cleaner.proofs.of_log.LogReads.{acknowledged}
 use Rattle.lfs_cleaner.proofs.RoomBounds.{same_need}
 use Rattle.lfs_cleaner.proofs.Rooms.{keeps_weaker}

@@ -1,5 +1,5 @@
 -- How a store's calls on its log end, each as what its steps say.
-use Rattle.std.specs.Prelude.{Result, Ok, Err, IfErr, OnOk, IsErr, IsErrAnd, IsErrOf}
+use Rattle.std.specs.Prelude.{Result, Ok, Err, OnOk, IsErr, IsErrAnd, IsErrOf}
 use Rattle.std.proofs.Common.{◌≡◌, ◌≢◌, ◌<◌, ◌≤◌, ◌+◌, true, false, ℕ, length, refl, sym, ◌∙◌, ap, subst, arith}
 use Rattle.std.proofs.lemmas.Result.{err_from_is_err_and}
 use Rattle.lfs_model.specs.Device.{DeviceState, IsLawful}
@@ -11,11 +11,10 @@ use Rattle.lfs_files.specs.declared.fault.StoreFault.TheVariants.{NoMemory, Log}
 use Rattle.lfs_cleaner.specs.log.LogState.{LogState, IsFull, IsStaged, IsRefused, IsStageFault}
 use Rattle.lfs_cleaner.specs.log.Saving.{commit_orders}
 use Rattle.lfs_cleaner.specs.Room.{FailsRoom, HaltsLater, HasQuarter, IsAtRest, LacksRoom, MakesRoom, most_checkpoints, room_orders}
-use Rattle.lfs_cleaner.proofs.RoomBounds.{halts_first, lacks_commit, makes_none}
+use Rattle.lfs_cleaner.proofs.RoomBounds.{halts_first, lacks_commit}
 use Rattle.lfs_cleaner.proofs.of_log.of_memory.Going.{ok_then}
-use Rattle.lfs_store.specs.declared.draft.Draft.{Draft}
 use Rattle.lfs_store.specs.declared.store.Store.{Store}
-use Rattle.lfs_store.specs.Accepting.{Accepts, Declines, HasClean, HasCleanForTwo, HasRoomFor, IsAcceptFault, Readies}
+use Rattle.lfs_store.specs.Accepting.{Declines, HasClean, HasCleanForTwo, HasRoomFor, Readies}
 use Rattle.lfs_store.specs.Keeping.{KeepsDraft}
 use Rattle.lfs_store.specs.Outcomes.{Accepted, Cleaned, Committed, RoomMade}
 use Rattle.lfs_store.specs.StoreState.{asked_by}

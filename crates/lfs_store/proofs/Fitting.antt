@@ -11,7 +11,6 @@ use Rattle.lfs_model.specs.Memory.{is_unlinked, is_nameless}
 use Rattle.lfs_model.specs.Stands.{LogMap}
 use Rattle.lfs_cleaner.specs.log.memory.declared.batch.BlockEdit.{BlockEdit}
 use Rattle.lfs_cleaner.specs.log.memory.declared.batch.HeaderEdit.{HeaderEdit}
-use Rattle.lfs_cleaner.specs.log.memory.declared.batch.Loss.{Loss}
 use Rattle.lfs_cleaner.specs.log.memory.declared.changes.Changes.{Changes}
 use Rattle.lfs_cleaner.specs.log.memory.files.declared.header.Header.{Header}
 use Rattle.lfs_cleaner.specs.log.memory.Applying.{FitsFile, AreHeadersFit, AreBlocksFit, after_header, after_headers, after_blocks}

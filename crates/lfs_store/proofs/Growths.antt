@@ -3,7 +3,7 @@ use Rattle.std.proofs.Common.{◌≤◌, ◌+◌, ◌*◌, ℕ, Bool, true, fals
 use Rattle.lfs_cleaner.specs.log.memory.declared.batch.BlockEdit.{BlockEdit}
 use Rattle.lfs_cleaner.specs.log.memory.declared.changes.Changes.{Changes}
 use Rattle.lfs_cleaner.specs.log.memory.Batch.{room_for}
-use Rattle.lfs_cleaner.specs.log.memory.Preparing.{is_beside, way_from, ways_from}
+use Rattle.lfs_cleaner.specs.log.memory.Preparing.{way_from, ways_from}
 
 -- ---- three blocks on the way to each block at most
 cond_three : (b : Bool) → cond b 0 3 ≤ 3

@@ -1,6 +1,6 @@
 -- What calls keep of a store, one after the other.
 use Rattle.std.specs.Prelude.{Result, Ok, Err}
-use Rattle.std.proofs.Common.{◌≡◌, refl, sym, ◌∙◌, ap, subst}
+use Rattle.std.proofs.Common.{◌≡◌, refl, sym, ◌∙◌}
 use Rattle.lfs_model.specs.Device.{DeviceState, IsLawful}
 use Rattle.lfs_files.specs.declared.fault.LogFault.{LogFault}
 use Rattle.lfs_files.specs.declared.fault.LogFault.TheVariants.{Full, Halted}

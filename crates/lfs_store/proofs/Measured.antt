@@ -1,13 +1,13 @@
 -- How many blocks a file has with a draft, from what the draft says and what the log tells.
 use Rattle.std.specs.Prelude.{min, Some, Result, Ok, Err, IfOk, IsTrue, ◌↔◌}
 use Rattle.std.proofs.Common.{◌≡◌, ◌<◌, ◌≤◌, ⊎_elim, ◌+◌, ◌-◌, ◌*◌, ℕ, Bool, true, false, not, List, [], ◌∷◌, length, nat_lt, refl, sym}
-use Rattle.std.proofs.Common.{◌∙◌, ap, subst, arith}
+use Rattle.std.proofs.Common.{◌∙◌, ap, arith}
 use mir.Val.{bool_byte}
 use Rattle.std.specs.List.{AllByRecursion}
 use Rattle.std.proofs.lemmas.Bool.{cases_eq, false_from_ne_true, lt-ltb, ltb-true}
 use Rattle.lfs_model.specs.Checkpoint.{CheckpointValue}
 use Rattle.lfs_model.specs.Device.{DeviceState, IsLawful}
-use Rattle.lfs_model.specs.Encodes.{HasData, HasLeaf}
+use Rattle.lfs_model.specs.Encodes.{HasLeaf}
 use Rattle.lfs_model.specs.Fields.{zeros}
 use Rattle.lfs_model.specs.Objects.{is_stored, has_leaf, one_if}
 use Rattle.lfs_model.specs.Stands.{LogMap}

@@ -1,9 +1,7 @@
 -- A mount that is refused.
-use Rattle.std.proofs.Common.{◌<◌}
 use Rattle.lfs_model.specs.Device.{DeviceState}
-use Rattle.lfs_model.specs.Stands.{LogMap, StandsLog}
 use Rattle.lfs_cleaner.specs.log.verify.declared.fault.MountFault.{MountFault}
-use Rattle.lfs_cleaner.specs.log.verify.Faults.{IsOpenFault, LacksLog}
+use Rattle.lfs_cleaner.specs.log.verify.Faults.{IsOpenFault}
 use Rattle.lfs_cleaner.proofs.of_log.of_verify.FaultCases.{fault_on}
 use Rattle.lfs_store.specs.Accepting.{IsMountRefusal}
 

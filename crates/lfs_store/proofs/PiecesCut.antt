@@ -6,7 +6,6 @@ use Rattle.lfs_model.specs.Objects.{AreStoredWhole}
 use Rattle.lfs_model.specs.Stands.{LogMap}
 use Rattle.lfs_model.proofs.ObjectMaps.{block_whole}
 use Rattle.lfs_cleaner.specs.log.memory.Changing.{stored}
-use Rattle.lfs_cleaner.specs.log.memory.Cutting.{cut_from}
 use Rattle.lfs_store.specs.Pieces.{CutBegins, CutHeads, CutBlocksHeads, CutBetween, CutInside, CutNone, CutIsDone}
 use Rattle.lfs_store.proofs.PiecesStored.{header_apart, stored_reads, stored_whole, other_block, block_apart, changed_twice, same_whole}
 

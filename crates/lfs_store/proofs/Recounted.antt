@@ -10,7 +10,6 @@ use Rattle.lfs_model.specs.Stands.{LogMap}
 use Rattle.lfs_cleaner.specs.log.memory.declared.changes.Changes.{Changes}
 use Rattle.lfs_cleaner.specs.log.memory.Batch.{IsNoChange}
 use Rattle.lfs_cleaner.specs.log.memory.Changing.{with_header}
-use Rattle.lfs_cleaner.specs.log.memory.Removing.{without_file}
 use Rattle.lfs_cleaner.proofs.of_log.of_memory.LogMaps.{is_with_header}
 use Rattle.lfs_cleaner.proofs.of_log.of_memory.Presents.{looks_then}
 use Rattle.lfs_cleaner.proofs.of_log.of_memory.Removed.{is_without}

@@ -7,7 +7,7 @@ use Rattle.std.proofs.lemmas.List.Sums.{length-filter}
 use Rattle.lfs_model.specs.Encodes.{IsLogMap}
 use Rattle.lfs_model.specs.Entry.{Header}
 use Rattle.lfs_model.specs.Need.{pointers, lies_in}
-use Rattle.lfs_model.specs.Objects.{IsChangedAt, is_stored, stored_blocks, one_if}
+use Rattle.lfs_model.specs.Objects.{IsChangedAt, stored_blocks, one_if}
 use Rattle.lfs_model.specs.Stands.{LogMap}
 use Rattle.lfs_store.specs.declared.totals.Measure.{Measure}
 use Rattle.lfs_cleaner.specs.log.verify.declared.totals.BlockTotals.{BlockTotals}

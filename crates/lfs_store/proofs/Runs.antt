@@ -1,7 +1,7 @@
 -- Blocks of one file, one behind the other: few blocks are on their way into memory.
 use Rattle.std.specs.Int.{div_ceil}
-use Rattle.std.proofs.Common.{◌≡◌, ◌<◌, ◌≤◌, ⊎_elim, ◌+◌, ◌-◌, ◌*◌, ◌/◌, ◌&&◌, cond, nat_lt, ℕ, zero, suc, Bool, true, List, [], ◌∷◌, ◌++◌}
-use Rattle.std.proofs.Common.{drop, length, Some, sym, ◌∙◌, ap, ap₂, subst, arith, eq-eqb}
+use Rattle.std.proofs.Common.{◌≡◌, ◌<◌, ◌≤◌, ⊎_elim, ◌+◌, ◌-◌, ◌*◌, ◌/◌, ◌&&◌, nat_lt, ℕ, zero, suc, Bool, true, List, [], ◌∷◌, ◌++◌}
+use Rattle.std.proofs.Common.{drop, length, Some, sym, ap, ap₂, subst, arith, eq-eqb}
 use Rattle.std.proofs.lemmas.Bool.{cases_lt, lt-ltb, le-ltb, cond-true, cond-false}
 use Rattle.lfs_cleaner.specs.log.memory.declared.batch.BlockEdit.{BlockEdit}
 use Rattle.lfs_cleaner.specs.log.memory.declared.changes.Changes.{Changes}

@@ -1,21 +1,18 @@
 -- A file cut in its last block, in a draft over a log.
 use Rattle.std.specs.Prelude.{IsFalse, slice_index}
-use Rattle.std.proofs.Common.{◌≡◌, ◌<◌, ◌≤◌, ◌+◌, ◌*◌, ◌/◌, ◌%◌, ℕ, Bool, List, [], length, Some, refl, sym, ◌∙◌, ap, subst, ⊎_elim, arith}
+use Rattle.std.proofs.Common.{◌≡◌, ◌<◌, ◌≤◌, ◌+◌, ◌*◌, ◌/◌, ◌%◌, ℕ, Bool, List, [], length, Some, refl, sym, ◌∙◌, ap, ⊎_elim, arith}
 use Rattle.std.proofs.lemmas.Bool.{cases_eq, cases_lt}
 use Rattle.std.proofs.lemmas.List.{nil_from_length}
 use Rattle.lfs_model.specs.Changing.{IsWithBlock, IsWithHeader}
 use Rattle.lfs_model.specs.Device.{DeviceState}
 use Rattle.lfs_model.specs.Encodes.{IsLogMap}
-use Rattle.lfs_model.specs.Objects.{IsChangedAt}
-use Rattle.lfs_model.specs.Entry.{Inode}
 use Rattle.lfs_model.specs.Fields.{zeros}
 use Rattle.lfs_model.specs.Stands.{LogMap}
 use Rattle.lfs_model.proofs.ObjectBytes.{lengthened}
 use Rattle.lfs_model.proofs.ObjectMaps.{block_whole}
-use Rattle.lfs_cleaner.specs.log.memory.declared.batch.Loss.{Loss}
 use Rattle.lfs_cleaner.specs.log.memory.declared.changes.Changes.{Changes}
 use Rattle.lfs_cleaner.specs.log.memory.files.declared.header.Header.{Header}
-use Rattle.lfs_cleaner.specs.log.memory.Batch.{is_lost, staged}
+use Rattle.lfs_cleaner.specs.log.memory.Batch.{staged}
 use Rattle.lfs_cleaner.specs.log.memory.Changing.{stored}
 use Rattle.lfs_cleaner.specs.log.memory.Present.{as_header}
 use Rattle.lfs_cleaner.specs.log.LogState.{LogState, Reads}

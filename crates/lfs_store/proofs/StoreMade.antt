@@ -1,5 +1,5 @@
 -- What drafts of files made, reformed, relinked and removed are to the layers above.
-use Rattle.std.proofs.Common.{◌≡◌, ◌<◌, ◌≤◌, ◌==◌, ℕ, length, Some, None, refl, sym, ◌∙◌, ap, ap₂, subst, arith}
+use Rattle.std.proofs.Common.{◌≡◌, ◌<◌, ◌≤◌, ◌==◌, ℕ, length, Some, None, refl, sym, ◌∙◌, ap, subst, arith}
 use Rattle.std.proofs.lemmas.Bool.{ne_eqb}
 use Rattle.lfs_model.specs.Device.{DeviceState}
 use Rattle.lfs_model.specs.Entry as entry
@@ -13,9 +13,8 @@ use Rattle.lfs_files.specs.Headers.{FitsHeader, as_header, reformed, relinked}
 use Rattle.lfs_files.specs.Making as files_made
 use Rattle.lfs_cleaner.specs.log.memory.declared.batch.LastLink.{LastLink}
 use Rattle.lfs_cleaner.specs.log.memory.declared.batch.Removal.{Removal}
-use Rattle.lfs_cleaner.specs.log.memory.declared.batch.Loss.{Loss}
 use Rattle.lfs_cleaner.specs.log.memory.declared.batch.Loss.TheVariants.{Link, File}
-use Rattle.lfs_cleaner.specs.log.memory.Batch.{IsNoChange, is_lost, staged}
+use Rattle.lfs_cleaner.specs.log.memory.Batch.{IsNoChange, staged}
 use Rattle.lfs_cleaner.specs.log.memory.Changing.{header_with, with_header}
 use Rattle.lfs_cleaner.specs.log.memory.Removing.{without_file}
 use Rattle.lfs_cleaner.specs.log.verify.declared.totals.BlockTotals.{BlockTotals}
@@ -23,8 +22,8 @@ use Rattle.lfs_cleaner.proofs.of_log.of_memory.LogMaps.{is_with_header}
 use Rattle.lfs_cleaner.proofs.of_log.of_memory.Removed.{is_without}
 use Rattle.lfs_store.specs.declared.draft.Draft.{Draft}
 use Rattle.lfs_store.specs.declared.store.Store.{Store}
-use Rattle.lfs_store.specs.Drafting.{IsApart, LosesOnly, PutsHeader}
-use Rattle.lfs_store.specs.Recounting.{AreTotals, Recounts}
+use Rattle.lfs_store.specs.Drafting.{LosesOnly, PutsHeader}
+use Rattle.lfs_store.specs.Recounting.{Recounts}
 use Rattle.lfs_store.specs.Seen.{HasMap, StagedLog, files_of, state_of}
 use Rattle.lfs_store.proofs.Apart.{file_apart, link_apart, no_change}
 use Rattle.lfs_store.proofs.Growths.{room_few}

@@ -1,22 +1,18 @@
 -- What calls of a store are to the layers above.
 use Rattle.std.specs.Prelude.{IfOk, IsFalse, OnOk}
-use Rattle.std.proofs.Common.{◌≡◌, ◌-◌, ℕ, Bool, List, Option, Result, Ok, Err, length, refl, sym, ◌∙◌, ap, subst}
-use Rattle.lfs_model.specs.Bytes.{part}
+use Rattle.std.proofs.Common.{◌≡◌, ℕ, Bool, List, Option, Result, Ok, Err, length, refl, sym, subst}
 use Rattle.lfs_model.specs.Device.{DeviceState}
 use Rattle.lfs_model.specs.Fields.{zeros}
-use Rattle.lfs_model.specs.Stands.{LogMap}
-use Rattle.lfs_model.specs.TreeOf.{object}
 use Rattle.lfs_files.specs.declared.header.Header.{Header}
 use Rattle.lfs_files.specs.Files as files
 use Rattle.lfs_files.specs.Files.{FilesState, HoldsBlock}
-use Rattle.lfs_files.specs.Headers.{HeaderAnswer}
-use Rattle.lfs_cleaner.specs.log.memory.Batch.{FitsBatch, IsNoChange, is_lost, room_for, staged}
+use Rattle.lfs_cleaner.specs.log.memory.Batch.{FitsBatch, IsNoChange}
 use Rattle.lfs_cleaner.specs.log.LogState as held
 use Rattle.lfs_cleaner.specs.log.LogState.{IsReadFault}
 use Rattle.lfs_store.specs.declared.draft.Draft.{Draft}
 use Rattle.lfs_store.specs.declared.store.Store.{Store}
 use Rattle.lfs_store.specs.Reading.{ReadsHeader, ReadsBlock, ReadsPart, ReadsStore}
-use Rattle.lfs_store.specs.Seen.{StagedLog, counted_of, files_of}
+use Rattle.lfs_store.specs.Seen.{StagedLog, files_of}
 use Rattle.lfs_cleaner.proofs.of_log.LogReads.{held_still}
 use Rattle.lfs_store.proofs.Writings.{block_read}
 

@@ -5,7 +5,7 @@ use Rattle.std.proofs.lemmas.List.Sums.{sum_by-cons}
 use Rattle.lfs_model.specs.declared.Kind.TheVariants as kind
 use Rattle.lfs_model.specs.Encodes.{IsLogMap}
 use Rattle.lfs_model.specs.Entry.{Header}
-use Rattle.lfs_model.specs.Need.{data_of, meta_of, pointers}
+use Rattle.lfs_model.specs.Need.{data_of, meta_of}
 use Rattle.lfs_model.specs.Objects.{AreLong, HasCosts, IsDirectory, stored_blocks}
 use Rattle.lfs_model.specs.Stands.{LogMap}
 use Rattle.lfs_model.specs.Tree.{Node, Tree}

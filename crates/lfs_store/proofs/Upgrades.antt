@@ -1,5 +1,5 @@
 -- A draft that raises the version of the layout, and the totals behind it.
-use Rattle.std.proofs.Common.{◌≡◌, ◌+◌, ℕ, true, List, length, Some, None, refl, sym, ◌∙◌, ap, subst}
+use Rattle.std.proofs.Common.{◌≡◌, ◌+◌, ℕ, true, List, length, Some, None, refl, sym, ap, subst}
 use Rattle.std.proofs.Math.Path.{fun_ext}
 use Rattle.lfs_model.specs.Need.{pointers}
 use Rattle.lfs_model.specs.Objects.{stored_below}

@@ -2,21 +2,19 @@
 use Rattle.std.specs.Prelude.{slice_index, IsFalse, max}
 use Rattle.std.specs.Int.{div_ceil}
 use Rattle.std.proofs.Common.{◌≡◌, ◌⊎◌, ⊎_elim, inl, inr, ◌<◌, ◌≤◌, ◌+◌, ◌-◌, ◌/◌, ◌==◌, ℕ, Bool, true, false, List, length, Some, None}
-use Rattle.std.proofs.Common.{refl, sym, ◌∙◌, ap, subst, arith}
+use Rattle.std.proofs.Common.{refl, sym, ◌∙◌, ap, arith}
 use Rattle.lfs_model.specs.Changing.{IsWithBlock, IsWithHeader}
 use Rattle.lfs_model.specs.Checkpoint.{CheckpointValue}
 use Rattle.lfs_model.specs.Device.{DeviceState, IsLawful}
 use Rattle.lfs_model.specs.Encodes.{HasInode}
-use Rattle.lfs_model.specs.Entry.{Data, Inode}
+use Rattle.lfs_model.specs.Entry.{Inode}
 use Rattle.lfs_model.specs.Fields.{zeros}
-use Rattle.lfs_model.specs.Memory.{parent, is_unlinked}
 use Rattle.lfs_model.specs.Stands.{LogMap}
 use Rattle.lfs_model.proofs.ObjectBytes.{get_or-zeros}
-use Rattle.lfs_cleaner.specs.log.memory.declared.batch.Loss.{Loss}
 use Rattle.lfs_cleaner.specs.log.memory.declared.changes.Changes.{Changes}
 use Rattle.lfs_cleaner.specs.log.memory.files.declared.header.Header.{Header}
 use Rattle.lfs_cleaner.specs.log.memory.Batch.{staged, is_lost, FitsBatch}
-use Rattle.lfs_cleaner.specs.log.memory.Changing.{FitsHeader, stored, with_block, with_header}
+use Rattle.lfs_cleaner.specs.log.memory.Changing.{FitsHeader, with_block, with_header}
 use Rattle.lfs_cleaner.specs.log.memory.Preparing.{IsWithin}
 use Rattle.lfs_cleaner.specs.log.memory.Present.{BlockAnswer, as_header}
 use Rattle.lfs_cleaner.proofs.of_log.of_memory.LogMaps.{is_with_block, is_with_header}

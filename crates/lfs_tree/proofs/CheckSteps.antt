@@ -1,5 +1,5 @@
 -- The stages of a tree, where all that they look at is in tables.
-use Rattle.std.proofs.Common.{◌≡◌, ◌<◌, ◌↔◌, ◌+◌, ◌*◌, ◌/◌, ◌%◌, ◌∙◌, ℕ, List, Option, Some, refl, sym, ap, subst, arith}
+use Rattle.std.proofs.Common.{◌≡◌, ◌<◌, ◌↔◌, ◌/◌, ◌%◌, ◌∙◌, ℕ, List, Option, Some, refl, sym, ap, arith}
 use Rattle.lfs_model.specs.Checkpoint.{CheckpointValue}
 use Rattle.lfs_model.specs.Content.{Content}
 use Rattle.lfs_model.specs.Entry.{Header}
@@ -7,7 +7,6 @@ use Rattle.lfs_model.specs.Decodes.{IsSized}
 use Rattle.lfs_model.specs.Device.{DeviceState, IsLawful}
 use Rattle.lfs_model.specs.Reach.{address, view}
 use Rattle.lfs_model.specs.Stands.{LogMap, HoldsAt, log_in}
-use Rattle.lfs_model.specs.Totals.{IsCounted}
 use Rattle.lfs_model.specs.TreeOf.{AreLinks, AreReached, AreSlots, AreTexts, HasRoom, IsTree, TreeOf, tree_in}
 use Rattle.lfs_model.proofs.Decodes.{are_sized, formed}
 use Rattle.lfs_files.specs.declared.header.Header as files

@@ -1,13 +1,9 @@
 -- The slots of a directory, gone through from its last block on.
 use Rattle.std.specs.Prelude.{min}
-use Rattle.std.proofs.Common.{◌≡◌, ◌<◌, ◌≤◌, ◌+◌, ◌-◌, ◌*◌, ℕ, true, false, List, [], ◌++◌, take, drop, Option, Vec, Global, sym, ◌∙◌}
-use Rattle.std.proofs.Common.{ap, subst, arith}
+use Rattle.std.proofs.Common.{◌≡◌, ◌<◌, ◌≤◌, ◌+◌, ◌-◌, ◌*◌, ℕ, true, false, List, [], ◌++◌, take, drop, Option, Vec, Global}
+use Rattle.std.proofs.Common.{ap, arith}
 use Rattle.std.proofs.lemmas.List.{drop_all, take-append-drop}
 use Rattle.std.specs.BTreeSet.{BTreeSet}
-use Rattle.std.specs.BTreeMap.{is_at}
-use Rattle.std.specs.Cmp.Lexicographic.{slice_cmp}
-use Rattle.std.specs.List.{list_any}
-use Rattle.std.specs.Ordering.{nat_cmp}
 use Rattle.lfs_model.specs.Stands.{LogMap}
 use Rattle.lfs_files.specs.declared.header.Header.{Header}
 use Rattle.lfs_files.specs.Files.{HoldsBlock}
@@ -15,7 +11,7 @@ use Rattle.lfs_dirs.specs.Directory.{first_slots, per_block, slot_count, slots_a
 use Rattle.lfs_dirs.proofs.Searches.{block_and_rest}
 use Rattle.lfs_dirs.proofs.SlotPlaces.{slots_many, slots_of_block}
 use Rattle.lfs_dirs.proofs.Widths.{block_before}
-use Rattle.lfs_tree.specs.Naming.{AreGoodSlots, Base, HasNames, IsNoted, IsTaken, NamesValue, TakesNames, TakesSlots}
+use Rattle.lfs_tree.specs.Naming.{Base, HasNames, IsNoted, IsTaken, NamesValue, TakesNames, TakesSlots}
 use Rattle.lfs_tree.proofs.GoodSlots.{good_behind, good_none}
 
 module _ {headers : List (Option Header)} {d : ℕ} {base : Base} (m : LogMap) (head : Header) where

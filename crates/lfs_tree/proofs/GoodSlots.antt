@@ -1,7 +1,7 @@
 -- Slots that are good, with one slot more before them.
 use Rattle.std.specs.Prelude.{is_some}
 use Rattle.std.proofs.Common.{◌≡◌, ◌<◌, ◌≤◌, ◌+◌, ◌-◌, ◌*◌, ℕ, true, false, cond, T, List, [], ◌∷◌, ◌++◌, length, get_or, take, drop}
-use Rattle.std.proofs.Common.{Option, Some, None, Vec, Global, refl, sym, ◌∙◌, ap, subst, arith, append_assoc}
+use Rattle.std.proofs.Common.{Option, Some, None, Vec, Global, refl, sym, ◌∙◌, ap, arith, append_assoc}
 use Rattle.std.proofs.lemmas.List.{ext_get_or, get_or-drop, length-drop, take-append-drop}
 use Rattle.std.specs.BTreeSet.{BTreeSet}
 use Rattle.std.specs.Cmp.Lexicographic.{nat_list_cmp_total}
@@ -16,7 +16,7 @@ use Rattle.lfs_dirs.specs.Directory.{first_slots, slots_in}
 use Rattle.lfs_dirs.proofs.Scans.{next_slot, no_slots}
 use Rattle.lfs_dirs.proofs.SlotNames.{sorted_names}
 use Rattle.lfs_dirs.proofs.SlotPlaces.{block_slot, block_slots_many}
-use Rattle.lfs_tree.specs.Naming.{AreGoodSlots, AreTables, Base, HasNames, IsNoted, IsTaken, NamesValue, Notes, TakesSlots, leads}
+use Rattle.lfs_tree.specs.Naming.{AreGoodSlots, AreTables, Base, HasNames, IsTaken, NamesValue, Notes, TakesSlots, leads}
 use Rattle.lfs_tree.proofs.Notings.{noted_more}
 
 -- ---- those behind are good too

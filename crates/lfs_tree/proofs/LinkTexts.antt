@@ -1,7 +1,7 @@
 -- The texts of links, by their blocks, and in the tree.
 use Rattle.std.specs.Prelude.{min}
 use Rattle.std.proofs.Common.{◌≡◌, ◌≢◌, ◌<◌, ◌≤◌, ⊎_elim, ◌+◌, ◌-◌, ◌*◌, ℕ, true, false, Bool, List, get_or, Option, Some, None, refl, sym}
-use Rattle.std.proofs.Common.{◌∙◌, ap, subst, arith, slice_index}
+use Rattle.std.proofs.Common.{◌∙◌, ap, arith, slice_index}
 use Rattle.std.proofs.lemmas.Bool.{cases_lt}
 use Rattle.std.specs.List.{AllByRecursion}
 use Rattle.lfs_model.specs.declared.Kind.{Kind}

@@ -1,9 +1,8 @@
 -- The tables of names, with one object more.
 use Rattle.std.specs.Prelude.{count_by}
-use Rattle.std.proofs.Common.{◌≡◌, ◌<◌, ◌≤◌, ⊎_elim, ◌+◌, ℕ, suc, List, [], Option, refl, sym, ◌∙◌, ap, subst, arith, slice_index}
+use Rattle.std.proofs.Common.{◌≡◌, ◌<◌, ◌≤◌, ⊎_elim, ◌+◌, ℕ, suc, List, [], Option, refl, ◌∙◌, ap, arith, slice_index}
 use Rattle.std.proofs.lemmas.Bool.{cases_eq, cases_lt}
 use Rattle.lfs_model.specs.Stands.{LogMap}
-use Rattle.lfs_model.specs.Tree.{Names}
 use Rattle.lfs_files.specs.declared.header.Header.{Header}
 use Rattle.lfs_tree.specs.Naming.{AreEmpty, Base, IsNoted, NamesValue, capped, giving, leads}
 use Rattle.lfs_tree.specs.Objects.{AreNamed, IsGoodObject, given_below, names_at, sum_below}

@@ -1,6 +1,6 @@
 -- The tables, with one entry of a directory more.
-use Rattle.std.proofs.Common.{◌≡◌, ◌<◌, ◌+◌, ⊎_elim, true, false, cond, eqb, Bool, ℕ, T, List, length, Option, None, sym, ◌∙◌, ap, arith}
-use Rattle.std.proofs.Common.{slice_index, slice_set}
+use Rattle.std.proofs.Common.{◌≡◌, ◌<◌, ◌+◌, ⊎_elim, true, false, cond, eqb, Bool, ℕ, T, List, Option, None, ◌∙◌, ap, arith}
+use Rattle.std.proofs.Common.{slice_index}
 use Rattle.std.specs.Prelude.{◌==◌, count_by, min}
 use Rattle.std.proofs.lemmas.Bool.{cases_eq}
 use Rattle.std.proofs.lemmas.Bool.Decides.{nat_tests}

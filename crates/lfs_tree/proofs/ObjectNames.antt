@@ -1,11 +1,10 @@
 -- The names of a log map's objects, and those in its tree.
 use Rattle.std.specs.Prelude.{unwrap_or}
 use Rattle.std.proofs.Common.{◌≡◌, ◌≢◌, ◌<◌, ◌≤◌, ⊎_elim, ℕ, zero, suc, true, false, Bool, List, [], ◌∷◌, length, get_or, Option, Some}
-use Rattle.std.proofs.Common.{None, refl, sym, ◌∙◌, ap, subst, arith}
+use Rattle.std.proofs.Common.{None, refl, sym, ◌∙◌, ap, arith}
 use Rattle.std.proofs.lemmas.Bool.{cases_lt}
 use Rattle.std.specs.List.{AllByRecursion}
 use Rattle.std.specs.FinMap.{find}
-use Rattle.std.specs.Option.{option_map}
 use Rattle.lfs_model.specs.declared.Kind.{Kind}
 use Rattle.lfs_model.specs.declared.Kind.TheVariants as kind
 use Rattle.lfs_model.specs.Checkpoint.{CheckpointValue}
@@ -13,7 +12,7 @@ use Rattle.lfs_model.specs.Content.{Content}
 use Rattle.lfs_model.specs.Entry as entry
 use Rattle.lfs_model.specs.Slot.{SlotValue, slot_in}
 use Rattle.lfs_model.specs.Stands.{LogMap, HoldsAt}
-use Rattle.lfs_model.specs.Tree.{File, Names, Node, byte_cmp, entry as entry_in, names_in, names_of, node}
+use Rattle.lfs_model.specs.Tree.{File, byte_cmp, entry as entry_in, names_in, names_of, node}
 use Rattle.lfs_model.specs.TreeOf.{AreFormed, AreSlots, map_of, node_by, node_of, slots, tree_in}
 use Rattle.lfs_model.proofs.Decoding.{slot_found}
 use Rattle.lfs_model.proofs.Standing.{IsHeader, headers_are}

@@ -1,24 +1,23 @@
 -- What the tables say of the tree: numbers that are named, directories that are reached, and links.
 use Rattle.std.specs.Prelude.{◌==◌, T, count_by, unwrap_or}
-use Rattle.std.proofs.Common.{◌≡◌, ◌≢◌, ◌<◌, ◌≤◌, ◌↔◌, ⊎_elim, ◌+◌, cond, true, false, Bool, eqb, ℕ, List, [], ◌∷◌, get_or, Option, Some}
+use Rattle.std.proofs.Common.{◌≡◌, ◌≢◌, ◌<◌, ◌≤◌, ◌↔◌, ⊎_elim, ◌+◌, cond, true, Bool, eqb, ℕ, List, [], ◌∷◌, get_or, Option, Some}
 use Rattle.std.proofs.Common.{None, refl, sym, ◌∙◌, ap, subst, arith, slice_index}
 use Rattle.std.proofs.lemmas.Bool.{cases_eq}
 use Rattle.std.proofs.lemmas.Bool.Decides.{nat_tests}
 use Rattle.std.proofs.lemmas.List.Sums.{sum_by-cons}
-use Rattle.std.specs.FinMap.{find, is_sorted}
-use Rattle.std.specs.Option.{option_map}
+use Rattle.std.specs.FinMap.{is_sorted}
 use Rattle.lfs_model.specs.declared.Kind.{Kind}
 use Rattle.lfs_model.specs.declared.Kind.TheVariants as kind
 use Rattle.lfs_model.specs.Entry as entry
 use Rattle.lfs_model.specs.Sound.{IsReachable, below, root}
 use Rattle.lfs_model.specs.Stands.{LogMap}
 use Rattle.lfs_model.specs.Tree.{Dir, File, Link, Names, Node, byte_cmp, entry as entry_in, is_dir, links, links_at, names, names_of, node}
-use Rattle.lfs_model.specs.TreeOf.{AreLinks, AreReached, AreSlots, node_by, node_of, slots, tree_in}
+use Rattle.lfs_model.specs.TreeOf.{AreLinks, AreReached, AreSlots, node_by, slots, tree_in}
 use Rattle.lfs_files.specs.declared.header.Header.{Header}
 use Rattle.lfs_files.specs.Headers.{as_header}
 use Rattle.lfs_dirs.proofs.SlotNames.{sorted_names}
 use Rattle.lfs_tree.specs.Linking.{AreLinksFit, FitsLinks}
-use Rattle.lfs_tree.specs.Naming.{NamesValue, capped, giving, is_directory, is_directory_kind, leads}
+use Rattle.lfs_tree.specs.Naming.{NamesValue, capped, giving, is_directory_kind, leads}
 use Rattle.lfs_tree.specs.Objects.{AreNamed, names_at}
 use Rattle.lfs_tree.specs.Reaching.{AllClimb, AreNamesFit, Climbs, FitsNames}
 use Rattle.lfs_tree.specs.Reaching as way

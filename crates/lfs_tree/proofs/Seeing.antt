@@ -1,14 +1,14 @@
 -- What a device that holds a log map answers to reads.
 use Rattle.std.proofs.Common.{◌≡◌, ◌<◌, ⊎_elim, ◌+◌, ◌-◌, ◌/◌, ◌%◌, ℕ, zero, suc, nat_lt, cond, List, [], length, replicate, Option, Some}
-use Rattle.std.proofs.Common.{None, refl, sym, ◌∙◌, ap, ap₂, subst, arith, slice_index}
+use Rattle.std.proofs.Common.{None, refl, sym, ◌∙◌, ap, arith}
 use Rattle.std.proofs.lemmas.Bool.{cases_eq}
 use Rattle.std.proofs.lemmas.List.{get_or-set_other, get_or-set_same, length-replicate}
-use Rattle.std.proofs.Common.{get_or, set}
+use Rattle.std.proofs.Common.{set}
 use Rattle.std.specs.Option.{option_map}
 use Rattle.lfs_model.specs.Checkpoint.{CheckpointValue}
 use Rattle.lfs_model.specs.Content.{Content, block, bytes_of}
 use Rattle.lfs_model.specs.Device.{DeviceState, IsLawful, IsUntouched, Carries, Elapses, cell_at}
-use Rattle.lfs_model.specs.Entry.{Entry, Data, Leaf, Double, Inode, header, word}
+use Rattle.lfs_model.specs.Entry.{Entry, Data, Leaf, Double, Inode, word}
 use Rattle.lfs_model.specs.Reach.{address, view}
 use Rattle.lfs_model.specs.Stands.{HoldsAt, LogMap}
 use Rattle.lfs_model.proofs.Decodes

@@ -1,13 +1,11 @@
 -- The walk over a log, the stages of its tree and the count of its clean segments, one after the other.
-use Rattle.std.proofs.Common.{◌≡◌, ℕ, true, false, Some, refl, sym, ◌∙◌, subst, arith}
-use Rattle.lfs_model.specs.Checkpoint.{CheckpointValue}
+use Rattle.std.proofs.Common.{◌≡◌, ℕ, true, false, refl, subst, arith}
 use Rattle.lfs_model.specs.Content.{Content}
-use Rattle.lfs_model.specs.Damage.{IsDamaged}
 use Rattle.lfs_model.specs.Device.{DeviceState, IsLawful, Only}
 use Rattle.lfs_model.specs.Reach.{view}
 use Rattle.lfs_model.specs.Stands.{StandsLog}
 use Rattle.lfs_model.specs.Tree.{State}
-use Rattle.lfs_model.specs.TreeOf.{IsTree, Stands, TreeOf, tree_in}
+use Rattle.lfs_model.specs.TreeOf.{Stands, TreeOf, tree_in}
 use Rattle.lfs_model.proofs.Damage.{not_damaged}
 use Rattle.lfs_verify.specs.declared.fault.MountFault.{MountFault}
 use Rattle.lfs_verify.specs.declared.fault.MountFault.TheVariants as fault

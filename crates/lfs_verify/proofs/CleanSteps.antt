@@ -1,10 +1,10 @@
 -- Clean segments, counted one by one.
 use Rattle.lfs_verify.proofs.Occurrences.{count_on, count_stays}
-use Rattle.std.proofs.Common.{◌≡◌, ◌≤◌, ◌↔◌, ◌+◌, ◌*◌, ◌==◌, ℕ, suc, Bool, cond, List, length, get_or, ◌∙◌, ap, arith, eq-eqb, eqb-true}
+use Rattle.std.proofs.Common.{◌≡◌, ◌≤◌, ◌↔◌, ◌+◌, ◌*◌, ◌==◌, ℕ, List, length, get_or, ◌∙◌, ap, arith, eq-eqb, eqb-true}
 use Rattle.std.proofs.lemmas.Bool.{false_from_ne_true}
 use Rattle.lfs_model.specs.Reach.{View}
 use Rattle.lfs_model.specs.Stands.{EnoughClean, count_up, is_clean}
-use Rattle.lfs_model.proofs.Live.{count_up_none, count_up_more, count_up_same}
+use Rattle.lfs_model.proofs.Live.{count_up_none, count_up_same}
 use Rattle.lfs_verify.specs.Tables.{IsUsedTable, is_unused, clean_count}
 
 pub clean_none : (used : List ℕ) → clean_count used 0 ≡ 0

@@ -1,6 +1,6 @@
 -- Stages by number.
 use Rattle.lfs_verify.proofs.Tests.{fails_by}
-use Rattle.std.proofs.Common.{◌≡◌, ◌↔◌, ◌+◌, ◌*◌, ⊎_elim, ℕ, suc, Bool, true, false, List, length, get_or, sym, ◌∙◌, subst, arith}
+use Rattle.std.proofs.Common.{◌≡◌, ◌↔◌, ◌+◌, ◌*◌, ⊎_elim, ℕ, suc, Bool, true, false, List, length, get_or, sym, subst, arith}
 use Rattle.std.proofs.lemmas.Bool.{cases_eq}
 use Rattle.lfs_model.specs.Damage.{stage, IsDamaged}
 use Rattle.lfs_model.specs.Reach.{View}

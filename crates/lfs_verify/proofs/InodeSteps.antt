@@ -1,5 +1,5 @@
 -- The inode of a file.
-use Rattle.std.proofs.Common.{◌≡◌, ◌<◌, ◌⊎◌, ⊎_elim, inl, inr, length, ◌+◌, ℕ, Bool, true, false, List, sym, ap, refl, subst, arith}
+use Rattle.std.proofs.Common.{◌≡◌, ◌<◌, ◌⊎◌, ⊎_elim, inl, inr, length, ◌+◌, ℕ, Bool, List, sym, refl, subst, arith}
 use Rattle.lfs_model.specs.Entry.{Inode, IsInode}
 use Rattle.lfs_model.specs.Checkpoint.{CheckpointValue, layout_version}
 use Rattle.lfs_model.specs.Content.{Content, block}

@@ -2,7 +2,6 @@
 use Rattle.lfs_verify.proofs.Places.{put_own, put_before, put_after}
 use Rattle.std.proofs.Common.{◌≡◌, ◌<◌, ◌≤◌, ⊎_elim, ◌+◌, ◌-◌, ◌*◌, ℕ, zero, suc, List, [], length, get_or, drop, map, Option, Some}
 use Rattle.std.proofs.Common.{None, refl, sym, ◌∙◌, ap, subst, arith, ◌⊎◌, ◌/◌, ◌%◌, inl, inr, pred, set, length-set}
-use Rattle.std.proofs.Common.{get_or-set_other, get_or-set_same}
 use Rattle.std.proofs.lemmas.Bool.{cases_eq, cases_lt}
 use Rattle.std.proofs.lemmas.List.{get_or-map, length-map}
 use Rattle.lfs_model.specs.declared.BlockKind.{BlockKind}

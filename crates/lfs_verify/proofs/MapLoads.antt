@@ -1,7 +1,6 @@
 -- What a mount takes in of the inode map.
-use Rattle.std.proofs.Common.{◌≡◌, ◌<◌, ◌≤◌, ⊎_elim, ◌+◌, ◌*◌, ℕ, Bool, false, List, length, get_or, refl, sym, ◌∙◌, ap, subst, arith}
+use Rattle.std.proofs.Common.{◌≡◌, ◌<◌, ◌≤◌, ◌+◌, ◌*◌, ℕ, Bool, false, List, length, get_or, refl, sym, ◌∙◌, ap, subst, arith}
 use Rattle.std.proofs.Common.{below_more}
-use Rattle.std.proofs.lemmas.Bool.{cases_eq}
 use Rattle.lfs_model.specs.Checkpoint.{CheckpointValue}
 use Rattle.lfs_model.specs.Content.{Content, block}
 use Rattle.std.specs.List.{AllByRecursion}

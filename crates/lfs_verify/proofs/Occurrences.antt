@@ -1,6 +1,6 @@
 -- How often a number stands in a list, and how many numbers of a list are above one.
-use Rattle.std.proofs.Common.{◌≡◌, ◌<◌, ◌≤◌, ◌⊎◌, ⊎_elim, ◌+◌, ◌==◌, ℕ, zero, suc, Bool, true, false, nat_lt, List, length, get_or, refl}
-use Rattle.std.proofs.Common.{sym, ◌∙◌, ap, arith, inl, inr, eq-eqb, eqb-true, subst}
+use Rattle.std.proofs.Common.{◌≡◌, ◌<◌, ◌≤◌, ⊎_elim, ◌+◌, ◌==◌, ℕ, zero, suc, Bool, true, false, nat_lt, List, length, get_or, refl}
+use Rattle.std.proofs.Common.{sym, ◌∙◌, ap, arith, eq-eqb, eqb-true, subst}
 use Rattle.std.proofs.lemmas.Bool.{cases_eq, cases_lt, false_from_ne_true, lt-ltb, ltb-true}
 use Rattle.lfs_model.specs.Objects.{one_if}
 use Rattle.lfs_model.specs.Stands.{count_up}

@@ -1,7 +1,7 @@
 -- The root is a directory.
 use Rattle.std.proofs.Common.{◌≡◌, ℕ, List, [], get_or, sym, ◌∙◌, ap, subst, arith}
 use Rattle.lfs_model.specs.declared.Kind.TheVariants.{Directory}
-use Rattle.lfs_model.specs.Checkpoint.{CheckpointValue, layout_version}
+use Rattle.lfs_model.specs.Checkpoint.{CheckpointValue}
 use Rattle.lfs_model.specs.Content.{Content, block}
 use Rattle.lfs_model.specs.Entry.{Inode, IsInode, Header, header}
 use Rattle.lfs_model.specs.Reach.{address, view}

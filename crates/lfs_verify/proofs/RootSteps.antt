@@ -1,6 +1,6 @@
 -- The two pointer blocks of a file.
-use Rattle.std.proofs.Common.{◌≡◌, ◌<◌, ◌+◌, ◌*◌, ℕ, suc, Bool, true, false, List, refl, sym, ◌∙◌, ap, subst, arith}
-use Rattle.lfs_model.specs.Entry.{Entry, Leaf, Double, Inode, word}
+use Rattle.std.proofs.Common.{◌≡◌, ◌<◌, ◌+◌, ◌*◌, ℕ, Bool, List, refl, sym, ◌∙◌, ap, arith}
+use Rattle.lfs_model.specs.Entry.{Leaf, Double, Inode, word}
 use Rattle.lfs_model.specs.Checkpoint.{CheckpointValue}
 use Rattle.lfs_model.specs.Content.{Content, block}
 use Rattle.lfs_model.specs.Reach.{address, view}

@@ -1,12 +1,12 @@
 -- What the marks say at the end of the walk: labels and counts.
 use Rattle.lfs_verify.proofs.Occurrences.{count_on, count_stays}
 use Rattle.std.proofs.Common.{◌≡◌, ◌<◌, ◌≤◌, ◌↔◌, ◌+◌, ◌-◌, ◌*◌, ◌/◌, ◌%◌, ℕ, zero, suc, Bool, true, false, nat_lt, List, length, get_or}
-use Rattle.std.proofs.Common.{cond, Some, refl, sym, ◌∙◌, ap, ap₂, arith}
+use Rattle.std.proofs.Common.{Some, refl, sym, ◌∙◌, ap, ap₂, arith}
 use Rattle.std.proofs.lemmas.Bool.{ltb-true, lt-ltb}
 use Rattle.lfs_model.specs.Entry.{Entry}
 use Rattle.lfs_model.specs.Reach.{View, place_in}
 use Rattle.lfs_model.specs.Stands.{Reached, AreNamed, AreCounted, IsHeld}
-use Rattle.lfs_model.proofs.Live.{count_up_none, count_up_more, count_up_same}
+use Rattle.lfs_model.proofs.Live.{count_up_none, count_up_same}
 use Rattle.lfs_verify.specs.Walk.{Walked, InBounds, step_of, IsBounded}
 use Rattle.lfs_verify.specs.Labels.{IsSectorNamed, is_marked, marked_count}
 use Rattle.lfs_verify.specs.Tables.{IsLiveTable, AreSectorsNamed, NamedByMarks, CountedByMarks}

@@ -1,13 +1,13 @@
 -- What a mount takes in of the usage table.
 use Rattle.lfs_verify.proofs.UsageSteps.{block_bytes, at_block}
-use Rattle.std.proofs.Common.{◌≡◌, ◌<◌, ◌≤◌, ⊎_elim, ◌+◌, ◌*◌, ◌-◌, ◌/◌, ◌%◌, ℕ, zero, suc, Bool, false, List, length, get_or}
+use Rattle.std.proofs.Common.{◌≡◌, ◌<◌, ◌≤◌, ⊎_elim, ◌+◌, ◌*◌, ◌-◌, ◌/◌, ℕ, Bool, false, List, length, get_or}
 use Rattle.std.proofs.Common.{Some, None, refl, sym, ◌∙◌, ap, ap₂, subst, arith, length-set, get_or-set_other, get_or-set_same, below_more}
 use Rattle.std.specs.Prelude.{slice_set}
 use Rattle.std.proofs.lemmas.Bool.{cases_eq, cases_lt}
 use Rattle.lfs_model.specs.Checkpoint.{CheckpointValue}
 use Rattle.std.specs.List.{AllByRecursion}
 use Rattle.lfs_model.specs.Content.{Content, block, bytes_of}
-use Rattle.lfs_model.specs.Device.{DeviceState, Cell, IsSector, cell_at}
+use Rattle.lfs_model.specs.Device.{DeviceState, IsSector, cell_at}
 use Rattle.lfs_model.specs.Entry.{Usage, half, word}
 use Rattle.lfs_model.specs.Reach.{address, view}
 use Rattle.lfs_model.specs.Stands.{LogMap, HoldsAt}

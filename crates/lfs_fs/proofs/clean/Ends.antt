@@ -1,14 +1,14 @@
 -- The ends of a clean, as steps of the model.
-use Rattle.lfs_fs.proofs.Prelude.{◌≡◌, ◌<◌, ◌≤◌, ◌+◌, ◌/◌, ◌^◌, false, ℕ, refl, sym, ◌∙◌, subst, inl, inr, arith, Answer, Clean, Done}
+use Rattle.lfs_fs.proofs.Prelude.{◌≡◌, ◌<◌, ◌≤◌, ◌+◌, ◌/◌, ◌^◌, false, refl, sym, ◌∙◌, inl, inr, arith, Answer, Clean, Done}
 use Rattle.lfs_fs.proofs.Prelude.{Refuse, CheckpointValue, DeviceState, IsLawful, Device, Halted, Stuck, Worn, Point, StepsOr, LogMap}
-use Rattle.lfs_fs.proofs.Prelude.{LogFault, HaltsLater, room_orders, LogState, Store, HasClean, volume_of, MayNotMakeRoom, most_checkpoints}
+use Rattle.lfs_fs.proofs.Prelude.{LogFault, room_orders, LogState, Store, HasClean, volume_of, MayNotMakeRoom}
 use Rattle.lfs_fs.proofs.Prelude.{few_checkpoints, FsError, Fs, error_of_log, refusal_of, seen, IsAt, IsIn, Mounted, Serves, TellsAtMost}
 use Rattle.lfs_fs.proofs.Prelude.{segments_of}
 use Rattle.lfs_model.specs.Checkpoint.{IsSegmentCount}
 use Rattle.lfs_files.specs.declared.fault.LogFault.TheVariants as log
 use Rattle.lfs_store.specs.cleaner.Room.{IsRoomFault, once_orders}
 use Rattle.lfs_store.proofs.of_cleaner.Onces.{once_within}
-use Rattle.lfs_store.specs.cleaner.Room.{FailsRoom, LacksRoom, MakesRoom}
+use Rattle.lfs_store.specs.cleaner.Room.{MakesRoom}
 use Rattle.lfs_store.proofs.Acceptings.{room_holds}
 use Rattle.lfs_fs.specs.declared.error.FsError.TheVariants as error
 use Rattle.lfs_fs.proofs.calls.AnyDevice.{clean_bounded, write_behaves}

@@ -1,6 +1,6 @@
 -- The rows of all directories, number by number, and the call that lists them.
-use Rattle.lfs_fs.proofs.Prelude.{◌≡◌, ◌<◌, ◌++◌, ◌+◌, ◌-◌, ℕ, List, [], ◌∷◌, map, refl, sym, ◌∙◌, ap, subst, append-nil, ListTree, Refuse}
-use Rattle.lfs_fs.proofs.Prelude.{Rows, DeviceState, IsLawful, Step, rows_of, Store, files_of, TreeRow, FailsWhere, Fs, row_of, AreListable}
+use Rattle.lfs_fs.proofs.Prelude.{◌≡◌, ◌<◌, ◌++◌, ◌+◌, ◌-◌, ℕ, List, [], ◌∷◌, map, refl, sym, ◌∙◌, ap, append-nil, ListTree, Refuse}
+use Rattle.lfs_fs.proofs.Prelude.{Rows, DeviceState, IsLawful, rows_of, Store, files_of, TreeRow, FailsWhere, Fs, row_of, AreListable}
 use Rattle.lfs_fs.proofs.Prelude.{HasRows, Begins, seen, Mounted, Serves, segments_of, rows_at}
 use Rattle.std.proofs.Common.{append_assoc}
 use Rattle.lfs_model.specs.Call.{TreeRow as ModelRow}

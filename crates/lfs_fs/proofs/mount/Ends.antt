@@ -1,6 +1,6 @@
 -- What a mount finds with the tables that a walk over the whole volume took in: the state that the device stands for.
-use Rattle.lfs_fs.proofs.Prelude.{◌≡◌, true, [], refl, sym, subst, Content, DeviceState, IsLawful, Only, LogMap, StandsLog, State, Stands}
-use Rattle.lfs_fs.proofs.Prelude.{tree_in, AreTotals, Holds, Mounts, Fs, FindsState, IsMountFault, MountsFs, seen}
+use Rattle.lfs_fs.proofs.Prelude.{◌≡◌, true, [], refl, sym, subst, Content, DeviceState, IsLawful, Only, State, Stands}
+use Rattle.lfs_fs.proofs.Prelude.{tree_in, Mounts, Fs, FindsState, IsMountFault, MountsFs, seen}
 use Rattle.lfs_model.specs.Checkpoint.{layout_version}
 use Rattle.lfs_store.specs.log.verify.declared.fault.MountFault.{MountFault}
 use Rattle.lfs_store.specs.log.verify.declared.fault.MountFault.TheVariants.{NoMemory}

@@ -1,6 +1,6 @@
 -- The state that a mount finds.
-use Rattle.lfs_fs.proofs.Prelude.{◌≡◌, ℕ, true, false, [], refl, sym, ◌∙◌, subst, DeviceState, Only, IsLogMap, StandsLog, State, IsTree}
-use Rattle.lfs_fs.proofs.Prelude.{Stands, IsLogOf, Holds, Mounts, AreTotals, IsAt, IsIn, Mounted, segments_of}
+use Rattle.lfs_fs.proofs.Prelude.{◌≡◌, true, false, [], refl, sym, ◌∙◌, DeviceState, Only, IsLogMap, StandsLog, State}
+use Rattle.lfs_fs.proofs.Prelude.{Stands, Holds, Mounts, AreTotals, IsAt, IsIn, Mounted, segments_of}
 use Rattle.std.specs.List.{AllByRecursion}
 use Rattle.lfs_model.specs.Device.{IsSector}
 use Rattle.lfs_model.proofs.Committed.{mounted_log}

@@ -1,5 +1,5 @@
 -- A path that a call walks after it has read.
-use Rattle.lfs_fs.proofs.Prelude.{◌≡◌, ◌<◌, ℕ, true, false, List, Option, sym, ◌∙◌, subst, arith, AreBytes, Call, Refuse, cleans}
+use Rattle.lfs_fs.proofs.Prelude.{◌≡◌, ◌<◌, ℕ, true, false, List, Option, sym, ◌∙◌, arith, AreBytes, Call, Refuse, cleans}
 use Rattle.lfs_fs.proofs.Prelude.{takes_no_memory, never_for_device, CheckpointValue, DeviceState, IsLawful, Refusal, LogMap, Step, State}
 use Rattle.lfs_fs.proofs.Prelude.{Tree, tree_in, At, End, Refused, Draft, LogState, Reads, IsEmpty, draft_of, drafted_of, held_still, Last}
 use Rattle.lfs_fs.proofs.Prelude.{WalkFault, HasLast, EndsParent, EachDrafted, EndsRefused, WalksTo, FsError, Fs, error_of_walk, Reaches}

@@ -1,7 +1,7 @@
 -- How a call comes to the last piece of a path, and what it serves where it doesn't.
-use Rattle.lfs_fs.proofs.Prelude.{◌≡◌, ℕ, false, List, Option, Some, None, refl, sym, ◌∙◌, subst, inl, inr, ⊎_elim, AreBytes, Call, Refuse}
+use Rattle.lfs_fs.proofs.Prelude.{◌≡◌, ℕ, false, List, Option, Some, None, refl, ◌∙◌, subst, inl, inr, ⊎_elim, AreBytes, Call, Refuse}
 use Rattle.lfs_fs.proofs.Prelude.{cleans, takes_no_memory, never_for_device, CheckpointValue, DeviceState, IsLawful, Refusal, LogMap, Step}
-use Rattle.lfs_fs.proofs.Prelude.{State, Refused, Draft, Store, IsEmpty, files_of, Last, EndsParent, FsError, Fs, BeginsAt, BeginsNowhere}
+use Rattle.lfs_fs.proofs.Prelude.{State, Refused, Store, files_of, Last, EndsParent, FsError, Fs, BeginsAt, BeginsNowhere}
 use Rattle.lfs_fs.proofs.Prelude.{FindsPlace, LacksPlace, Reaches, refusal_of, Begins, IsReady, OnlyReads, seen, IsIn, IsStill, Mounted}
 use Rattle.lfs_fs.proofs.Prelude.{Serves, segments_of}
 use Rattle.lfs_files.specs.Files as files

@@ -1,15 +1,15 @@
 -- The calls of paths, and those without arguments, exit by exit.
 use Rattle.lfs_fs.proofs.Prelude.{◌≡◌, ◌<◌, ◌≤◌, ℕ, Bool, true, false, not, List, [], ◌∷◌, length, map, Option, Some, None, refl, ◌∙◌, ap}
-use Rattle.lfs_fs.proofs.Prelude.{subst, nat_lt, if◌then◌else◌, unwrap_or, nat_cmp, put, Open, Create, Mkdir, Symlink, Readlink, Readdir}
+use Rattle.lfs_fs.proofs.Prelude.{nat_lt, if◌then◌else◌, unwrap_or, nat_cmp, put, Open, Create, Mkdir, Symlink, Readlink, Readdir}
 use Rattle.lfs_fs.proofs.Prelude.{Clean, Sync, Space, Version, ListTree, Answer, Refuse, Handle, Status, Text, Entries, Done, FormatVersion}
-use Rattle.lfs_fs.proofs.Prelude.{Rows, changes, cleans, commits, takes_no_memory, never_for_device, Refusal, Inval, IsDir, NameTooLong}
+use Rattle.lfs_fs.proofs.Prelude.{Rows, Refusal, Inval, IsDir, NameTooLong}
 use Rattle.lfs_fs.proofs.Prelude.{NoEntry, NotDir, TooManyOpen, text_refusal, NamesGive, Step, head_of, is_link, stat_of, rows_of, the_node}
 use Rattle.lfs_fs.proofs.Prelude.{State, names_in, node, is_dir, least_handle, At, Refused, Resolve, Parent, step_ends, Some-injective}
 use Rattle.lfs_fs.proofs.Prelude.{stat_call, at_most, not_at_most}
 use Rattle.std.proofs.Common.{nat_le}
 use Rattle.std.specs.Prelude.{option_map}
 use Rattle.std.specs.List.{list_any}
-use Rattle.lfs_model.specs.Step.{checked, entry_of, lists, makes_link, opens, no_handle, reached, reads_link}
+use Rattle.lfs_model.specs.Step.{checked, entry_of, makes_link, no_handle, reached}
 use Rattle.lfs_model.specs.Step.{PathEnds, outcome, path_of, room, second_path_of, text_check, when}
 use Rattle.lfs_fs.proofs.Prelude.{Call, End}
 use Rattle.lfs_fs.proofs.calls.AnyDevice.{IsOrdinary}

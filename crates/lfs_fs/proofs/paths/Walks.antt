@@ -1,5 +1,5 @@
 -- Walks of a path over a volume's tree, and the ends of calls that they end.
-use Rattle.lfs_fs.proofs.Prelude.{◌≡◌, true, false, refl, sym, ◌∙◌, ap, subst, inl, inr, arith, Call, Refuse, cleans, takes_no_memory}
+use Rattle.lfs_fs.proofs.Prelude.{◌≡◌, true, false, refl, sym, ◌∙◌, ap, inl, inr, arith, Call, Refuse, cleans, takes_no_memory}
 use Rattle.lfs_fs.proofs.Prelude.{never_for_device, CheckpointValue, DeviceState, IsLawful, Refusal, Device, LogMap, Step, State, Tree}
 use Rattle.lfs_fs.proofs.Prelude.{tree_in, End, Refused, IsEmpty, with_draft, Draft, empty_draft, WalkFault, EndsRefused, WalksTo}
 use Rattle.lfs_fs.proofs.Prelude.{error_of_walk, refusal_of, IsIn, IsStill, Mounted, Serves, segments_of}

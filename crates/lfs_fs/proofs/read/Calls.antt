@@ -1,11 +1,10 @@
 -- The calls that read, over files that were read: what each answers is a step of the model.
-use Rattle.lfs_fs.proofs.Prelude.{◌≡◌, ◌≢◌, ◌<◌, ◌≤◌, ℕ, Bool, true, false, List, map, None, Some, refl, sym, ◌∙◌, ap, subst, nat_cmp, find}
+use Rattle.lfs_fs.proofs.Prelude.{◌≡◌, ◌≢◌, ◌<◌, ◌≤◌, ℕ, Bool, true, false, List, map, None, Some, refl, sym, ◌∙◌, ap, nat_cmp, find}
 use Rattle.lfs_fs.proofs.Prelude.{Data, Entries, Pread, Readdir, Readlink, Refuse, Status, Text, DeviceState, IsLawful, BadHandle, Inval}
-use Rattle.lfs_fs.proofs.Prelude.{NotDir, Step, Store, files_of, names_at, HasObject, EntryFault, ListedEntry, AreTold, IsListable}
+use Rattle.lfs_fs.proofs.Prelude.{NotDir, Store, files_of, names_at, HasObject, EntryFault, ListedEntry, AreTold, IsListable}
 use Rattle.lfs_fs.proofs.Prelude.{IsListed, FailsWhere, FsError, Fs, ReachesObject, stat_call, refusal_of, Begins, GivesNone, seen, Mounted}
 use Rattle.lfs_fs.proofs.Prelude.{Serves, segments_of, opened_file}
 use Rattle.lfs_model.specs.declared.Kind.TheVariants as kind
-use Rattle.lfs_model.specs.Call as call
 use Rattle.lfs_files.specs.declared.header.Header.{Header}
 use Rattle.lfs_files.specs.Headers.{as_header}
 use Rattle.lfs_entries.specs.declared.fault.EntryFault.TheVariants as fault

@@ -1,7 +1,7 @@
 -- What a call that begins makes of its end, and ends after which nothing has changed.
 use Rattle.lfs_fs.proofs.Prelude.{◌≡◌, ◌<◌, ◌+◌, ◌*◌, ℕ, Bool, true, false, ◌&&◌, refl, sym, ◌∙◌, ap, subst, inl, inr, arith, Answer, Call}
-use Rattle.lfs_fs.proofs.Prelude.{FormatVersion, Refuse, Room, Space, Version, changes, cleans, commits, is_ok, never_for_device}
-use Rattle.lfs_fs.proofs.Prelude.{CheckpointValue, DeviceState, IsLawful, Device, Halted, LogMap, Step, State, totals_of_tree, drafted_of}
+use Rattle.lfs_fs.proofs.Prelude.{FormatVersion, Refuse, Space, Version, changes, cleans, commits, is_ok, never_for_device}
+use Rattle.lfs_fs.proofs.Prelude.{CheckpointValue, DeviceState, IsLawful, Device, LogMap, Step, State, totals_of_tree, drafted_of}
 use Rattle.lfs_fs.proofs.Prelude.{reads_none, FsError, Fs, refusal_of, Begins, seen, IsIn, IsStill, Mounted, Serves, segments_of}
 use Rattle.lfs_fs.specs.declared.error.FsError.TheVariants as error
 use Rattle.lfs_fs.specs.declared.rows.Space as space

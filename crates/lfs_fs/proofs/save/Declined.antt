@@ -1,5 +1,5 @@
 -- A sync that is done, and drafts that were to be staged and weren't, as steps of the model.
-use Rattle.lfs_fs.proofs.Prelude.{◌≡◌, ◌≤◌, ◌^◌, ◌<◌, ◌+◌, ◌/◌, ℕ, Bool, true, false, refl, sym, subst, inl, inr, cond, arith, Call, Done}
+use Rattle.lfs_fs.proofs.Prelude.{◌≡◌, ◌≤◌, ◌^◌, ◌<◌, ◌+◌, ◌/◌, ℕ, Bool, true, false, refl, inl, inr, cond, arith, Call, Done}
 use Rattle.lfs_fs.proofs.Prelude.{Refuse, Sync, changes, takes_no_memory, never_for_device, DeviceState, IsLawful, Device, commit_orders}
 use Rattle.lfs_fs.proofs.Prelude.{Commits, Declines, IsAcceptFault, Draft, CommitsFew, Mounted, Serves, TellsAtMost, segments_of}
 use Rattle.lfs_model.specs.Refusal.{NoMemory}

@@ -1,10 +1,9 @@
 -- One line of a script on a volume at a point: a step of a run, and what a stop in it leaves.
-use Rattle.lfs_fs.proofs.Prelude.{◌≡◌, ◌⊎◌, ℕ, true, false, List, [], ◌∷◌, refl, sym, ◌∙◌, ap, subst, inl, inr, arith, Answer, Refuse}
+use Rattle.lfs_fs.proofs.Prelude.{◌≡◌, ◌⊎◌, ℕ, true, false, List, [], ◌∷◌, refl, sym, ◌∙◌, ap, inl, inr, arith, Answer, Refuse}
 use Rattle.lfs_fs.proofs.Prelude.{DeviceState, IsLawful, Carries, Halted, LineAnswers, Point, acknowledges, Line, call_of, State}
 use Rattle.lfs_fs.proofs.Prelude.{drop_nameless, LeavesOne, LeavesStates, Left, Stands, carries_none, started, ServesLine, IsAt, LeavesSome}
 use Rattle.lfs_fs.proofs.Prelude.{Mounted, Serves, segments_of, Contains}
 use Rattle.lfs_model.specs.Refusal.{NoMemory}
-use Rattle.lfs_model.specs.Run.{Answers}
 use Rattle.lfs_fs.proofs.calls.Drafts.{not_acknowledged}
 
 module _ {D : Type 0} (state : D → DeviceState) where

@@ -1,5 +1,5 @@
 -- What a mounted volume's log map is, how a volume that runs on is put together again after a call, and what an open leaves.
-use Rattle.lfs_fs.proofs.Prelude.{◌≡◌, ◌⊎◌, ◌≤◌, ◌<◌, ◌+◌, ◌/◌, ◌^◌, ℕ, true, false, List, Some, sym, ◌∙◌, subst, ⊎_elim, Handle}
+use Rattle.lfs_fs.proofs.Prelude.{◌≡◌, ◌⊎◌, ◌≤◌, ◌<◌, ◌+◌, ◌/◌, ◌^◌, ℕ, true, false, List, Some, sym, ◌∙◌, subst, ⊎_elim}
 use Rattle.lfs_fs.proofs.Prelude.{CheckpointValue, DeviceState, IsHeaderOf, LogMap, State, is_dir, least_handle, node, IsTree, dropped, At}
 use Rattle.lfs_fs.proofs.Prelude.{Resolve, HasClean, HoldsNext, AreTotals, IsIn, Mounted, Runs, segments_of, IsMapOf, IsShaped, shape_of}
 use Rattle.lfs_model.specs.Entry.{Header}

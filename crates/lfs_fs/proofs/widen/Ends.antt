@@ -1,8 +1,8 @@
 -- The exits of widen behind its walk, from what is drafted to the call as a step of the model.
-use Rattle.lfs_fs.proofs.Prelude.{◌≡◌, ◌≢◌, ◌<◌, ◌≤◌, ◌^◌, ℕ, zero, suc, true, List, length, refl, sym, ◌∙◌, ap, subst, arith, eq-eqb}
-use Rattle.lfs_fs.proofs.Prelude.{Result, Ok, Err, OnOk, OnErr, IfErr, IsErrOf, ne_eqb, Kind, Done, Refuse, Widen, DeviceState, IsLawful}
+use Rattle.lfs_fs.proofs.Prelude.{◌≡◌, ◌≢◌, ◌<◌, ◌≤◌, ◌^◌, ℕ, zero, suc, true, List, length, refl, sym, ◌∙◌, ap, arith, eq-eqb}
+use Rattle.lfs_fs.proofs.Prelude.{Result, Ok, Err, OnOk, OnErr, IfErr, IsErrOf, ne_eqb, Done, Refuse, Widen, DeviceState, IsLawful}
 use Rattle.lfs_fs.proofs.Prelude.{IsForm, Inval, NotDir, widened, with_tree, form_of, node, FilesState, Draft, Store, StagedLog, files_of}
-use Rattle.lfs_fs.proofs.Prelude.{asked_by, draft_of, drafted_of, WidensNames, EntryFault, FailsWhere, MayWiden, FsError, Fs, Finishes}
+use Rattle.lfs_fs.proofs.Prelude.{asked_by, draft_of, WidensNames, EntryFault, FailsWhere, MayWiden, FsError, Fs, Finishes}
 use Rattle.lfs_fs.proofs.Prelude.{IsReady, answer_by, seen, Mounted, Serves, segments_of, IsMapOf}
 use Rattle.lfs_model.specs.declared.Kind.TheVariants as kind
 use Rattle.lfs_files.specs.declared.fault.LogFault.TheVariants as log

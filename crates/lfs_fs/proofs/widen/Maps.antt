@@ -1,6 +1,6 @@
 -- A directory of a log map, as a call that widens it finds it, and the log map with it widened: it is that of the tree then.
 use Rattle.lfs_fs.proofs.Prelude.{◌≡◌, ◌≤◌, ◌<◌, ◌+◌, ◌*◌, ◌==◌, ⊎_elim, ℕ, true, false, List, Some, sym, ◌∙◌, ap, subst, arith, cases_eq}
-use Rattle.lfs_fs.proofs.Prelude.{ne_eqb, Kind, Done, Refuse, Widen, IsLogMap, IsForm, need, IsDirectory, IsHeaderOf, NoSpace, LogMap, Step}
+use Rattle.lfs_fs.proofs.Prelude.{ne_eqb, Done, Refuse, Widen, IsLogMap, IsForm, need, IsDirectory, IsHeaderOf, NoSpace, LogMap, Step}
 use Rattle.lfs_fs.proofs.Prelude.{widened, with_tree, IsCounted, State, Tree, form_of, is_dir, links, names_in, node, slot_len, tree_in, At}
 use Rattle.lfs_fs.proofs.Prelude.{Resolve, totals_of_tree, WidensNames, HasHeader, MayWiden, map_by, IsMapOf, IsShaped, need_shaped}
 use Rattle.lfs_fs.proofs.Prelude.{shape_of}

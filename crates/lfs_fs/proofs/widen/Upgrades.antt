@@ -1,9 +1,9 @@
 -- The exits of upgrade, and of changes that find nothing to do, as steps of the model.
 use Rattle.lfs_fs.proofs.Prelude.{◌≡◌, ◌<◌, ◌≤◌, ◌+◌, ◌*◌, ◌^◌, ⊎_elim, inl, inr, ℕ, true, false, Some, refl, sym, ◌∙◌, ap, subst, arith}
 use Rattle.lfs_fs.proofs.Prelude.{Result, Ok, Err, OnOk, OnErr, IfErr, Call, Done, Refuse, Upgrade, changes, CheckpointValue, DeviceState}
-use Rattle.lfs_fs.proofs.Prelude.{IsLawful, Worn, acknowledges, LogMap, Step, State, Tree, links, BlockTotals, Store, AreTotals}
+use Rattle.lfs_fs.proofs.Prelude.{IsLawful, Worn, acknowledges, LogMap, Step, State, Tree, links, Store, AreTotals}
 use Rattle.lfs_fs.proofs.Prelude.{totals_of_tree, draft_of, drafted_of, volume_of, with_draft, FsError, Fs, StagesDraft, TurnsDown}
-use Rattle.lfs_fs.proofs.Prelude.{refusal_of, Begins, answer_by, seen, IsIn, IsStill, Mounted, Serves, segments_of, IsMapOf, room_shaped}
+use Rattle.lfs_fs.proofs.Prelude.{Begins, answer_by, seen, IsIn, IsStill, Mounted, Serves, segments_of, IsMapOf, room_shaped}
 use Rattle.lfs_fs.proofs.Prelude.{shape_of}
 use Rattle.lfs_model.specs.Entry.{Header}
 use Rattle.lfs_model.specs.Raising.{raised}

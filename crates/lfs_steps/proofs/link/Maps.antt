@@ -2,7 +2,7 @@
 use Rattle.lfs_steps.proofs.Prelude.{◌≡◌, ◌≢◌, ◌<◌, ◌+◌, ◌∙◌, ℕ, Bool, false, List, length, Some, refl, sym, ap, subst, arith, max}
 use Rattle.lfs_steps.proofs.Prelude.{MOST_LINKS, AreBytes, IsHeaderOf, FilesState, IsApart, as_header, relinked, Last, LogMap, Dir, State}
 use Rattle.lfs_steps.proofs.Prelude.{Tree, form_of, is_dir, links, names_in, node, slot_len, with_name, name, with_tree, tree_in, dir_at}
-use Rattle.lfs_steps.proofs.Prelude.{not_some, IsWithHeader, named_counts, AddsName, grown, slot_for, Sound}
+use Rattle.lfs_steps.proofs.Prelude.{not_some, IsWithHeader, named_counts, AddsName, slot_for, Sound}
 use Rattle.lfs_entries.specs.NewNames.{Names, TakesFurther}
 use Rattle.lfs_steps.proofs.new_entries.Maps.{Enters, adds_name, few_grown, holder_is, takes_name}
 use Rattle.lfs_steps.proofs.paths.Named.{dir, fits_d}

@@ -2,7 +2,7 @@
 use Rattle.lfs_steps.proofs.Prelude.{◌≡◌, ◌≢◌, ◌≤◌, ◌+◌, ◌*◌, ◌/◌, ◌%◌, ℕ, zero, suc, Bool, true, false, List, [], length, Option, Some}
 use Rattle.lfs_steps.proofs.Prelude.{None, refl, sym, ◌∙◌, ap, arith, subst, MatchOption, if◌then◌else◌, unwrap_or, nat_cmp, find, Kind}
 use Rattle.lfs_steps.proofs.Prelude.{IsLogMap, need, AreLong, IsDirectory, IsHeaderOf, comps, slash, text_refusal, Refusal, Sound}
-use Rattle.lfs_steps.proofs.Prelude.{IsWithinLimits, LogMap, stat_of, the_node, Node, File, Link, State, Tree, is_dir, links, node}
+use Rattle.lfs_steps.proofs.Prelude.{IsWithinLimits, LogMap, stat_of, the_node, Node, File, State, Tree, is_dir, links, node}
 use Rattle.lfs_steps.proofs.Prelude.{slot_len, map_of, node_by, node_of, object, slots, tree_in, IsLogOf, End, At, Refused, Resolve}
 use Rattle.lfs_steps.proofs.Prelude.{object_length, slots_length, node_in, IsCounted, TotalsOfTree}
 use Rattle.lfs_model.specs.declared.Kind.TheVariants as kind

@@ -1,6 +1,5 @@
-use Rattle.std.proofs.Common.{◌≡◌, ℕ, List, length, ap, sym, ◌∙◌, subst}
+use Rattle.std.proofs.Common.{◌≡◌, length}
 use Rattle.std.proofs.lemmas.Result.{on_ok_weaker}
-use Rattle.lfs_files.specs.Files.{Writes}
 use Rattle.lfs_model.specs.Tree.{slot_len}
 use Rattle.lfs_dirs.specs.Adding.{slot_for}
 use Rattle.lfs_dirs.proofs.Growths.{slot_grows}

@@ -1,7 +1,4 @@
-use Rattle.std.proofs.Common.{◌≡◌, ◌++◌, ◌∷◌, [], ◌∙◌, ℕ, List, ap}
-use Rattle.std.specs.FinMap.{put}
-use Rattle.lfs_model.specs.Tree.{byte_cmp}
-use Rattle.lfs_dirs.specs.Listing.{gathered}
+use Rattle.std.proofs.Common.{◌≡◌, ◌++◌, ◌∷◌, []}
 use Rattle.lfs_dirs.specs.declared.entry.Entry.{Entry}
 use Rattle.lfs_dirs.proofs.NamesInOrder.{gathered_push}
 use Rattle.lfs_dirs.proofs.entry.push_entry.Goals as goal

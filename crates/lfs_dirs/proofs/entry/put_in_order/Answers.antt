@@ -1,9 +1,8 @@
-use Rattle.std.proofs.Common.{◌∙◌, rules, List, ap}
+use Rattle.std.proofs.Common.{rules}
 use Rattle.std.proofs.lemmas.Fn.{dedup_same}
 use Rattle.std.proofs.lemmas.List.Sorted.{answers_always, ranks_by}
 use Rattle.std.specs.Cmp.Lexicographic.{nat_list_cmp_total}
 use Rattle.lfs_dirs.specs.declared.entry.Entry.{Entry}
-use Rattle.lfs_dirs.specs.Listing.{first_of_each, pairs}
 use Rattle.lfs_dirs.proofs.NamesInOrder.{comes_before, ordered, same_name}
 use Rattle.lfs_dirs.proofs.entry.put_in_order.Goals as goal
 

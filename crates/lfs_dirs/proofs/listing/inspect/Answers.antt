@@ -1,7 +1,6 @@
 use Rattle.std.proofs.lemmas.Result.{err_from_is_err_and}
-use Rattle.std.proofs.Common.{◌≡◌, ◌<◌, ◌*◌, ◌-◌, refl, arith, ap, ℕ}
-use Rattle.std.specs.Prelude.{min}
-use Rattle.lfs_dirs.specs.Directory.{per_block, slot_count}
+use Rattle.std.proofs.Common.{◌*◌, arith, ap, ℕ}
+use Rattle.lfs_dirs.specs.Directory.{per_block}
 use Rattle.lfs_files.specs.declared.fault.LogFault.TheVariants as LogFault
 use Rattle.lfs_files.proofs.FilesCompose.{fault_more}
 use Rattle.lfs_dirs.specs.declared.listing.ListFault.TheVariants as ListFault

@@ -1,10 +1,8 @@
 use Rattle.std.proofs.lemmas.Result.{err_from_is_err_and}
-use Rattle.std.proofs.Common.{rules, ◌≡◌, ◌<◌, ◌*◌, ℕ, List, length, ap, sym, ◌∙◌, subst}
-use Rattle.lfs_files.specs.Files.{Writes}
+use Rattle.std.proofs.Common.{rules, ◌≡◌, length}
 use Rattle.lfs_files.proofs.FilesCompose.{redrafts_more, redrafts_read}
 use Rattle.lfs_model.specs.Tree.{slot_len}
 use Rattle.lfs_dirs.specs.Adding.{slot_for}
-use Rattle.lfs_dirs.specs.Directory.{slot_count}
 use Rattle.lfs_dirs.specs.Searching.{FindsName}
 use Rattle.lfs_dirs.proofs.Growths.{grows_behind, slot_grows}
 use Rattle.lfs_dirs.proofs.SlotsAdded.{fits_slot}

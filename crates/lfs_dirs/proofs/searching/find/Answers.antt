@@ -1,6 +1,4 @@
-use Rattle.std.proofs.Common.{Option, Some, None, subst, arith}
-use Rattle.lfs_dirs.specs.declared.searching.Found.{Found}
-use Rattle.lfs_dirs.specs.Searching.{FindsInNth}
+use Rattle.std.proofs.Common.{Some, None, arith}
 use Rattle.lfs_dirs.proofs.Searches.{finds, search_goes_on, search_hits, search_ends, search_fails}
 use Rattle.lfs_dirs.proofs.Widths.{blocks_past}
 use Rattle.lfs_dirs.proofs.searching.find.Goals as goal

@@ -1,6 +1,3 @@
-use Rattle.std.proofs.Common.{◌/◌, Option, subst}
-use Rattle.lfs_dirs.specs.declared.searching.Found.{Found}
-use Rattle.lfs_dirs.specs.Searching.{FindsInNth}
 use Rattle.lfs_dirs.proofs.Searches.{names_near}
 use Rattle.lfs_dirs.proofs.searching.search_from.Goals as goal
 

@@ -1,4 +1,4 @@
-use Rattle.std.proofs.Common.{◌≡◌, ◌≢◌, ◌*◌, Some, sym, ap, ◌∙◌}
+use Rattle.std.proofs.Common.{◌≡◌, ◌≢◌, ◌*◌, Some, sym}
 use Rattle.lfs_model.specs.Fields.{part}
 use Rattle.lfs_model.specs.Slot.{SlotValue, slot_in}
 use Rattle.lfs_model.specs.Tree.{slot_len}

@@ -1,11 +1,9 @@
 use Rattle.std.proofs.lemmas.Result.{err_from_is_err_and}
-use Rattle.std.proofs.Common.{rules, ◌≡◌, ◌-◌, ◌/◌, ◌*◌, ◌%◌, ℕ, subst, arith}
+use Rattle.std.proofs.Common.{rules, ◌≡◌, ◌-◌, ◌/◌, arith}
 use Rattle.std.proofs.lemmas.Result.{on_ok_weaker}
 use Rattle.lfs_files.proofs.FilesCompose.{fault_more, redrafts_more, redrafts_read}
 use Rattle.lfs_model.specs.Tree.{slot_len}
-use Rattle.lfs_model.specs.Fields.{part}
-use Rattle.lfs_files.specs.Files.{Shrinks, TellsBlock, Writes}
-use Rattle.lfs_dirs.specs.Directory.{per_block, slot_count}
+use Rattle.lfs_dirs.specs.Directory.{slot_count}
 use Rattle.lfs_dirs.specs.Taking.{CountsDropped, DropsSlot}
 use Rattle.lfs_dirs.proofs.Takings.{counts_last, drops_and_counts, drops_last, fails_last, slot_read}
 use Rattle.lfs_dirs.proofs.Widths.{count_less}

@@ -1,10 +1,8 @@
 use Rattle.std.proofs.lemmas.Result.{err_from_is_err_and}
-use Rattle.std.proofs.Common.{rules, ◌≡◌, ◌*◌, ℕ, List, length, subst, sym}
+use Rattle.std.proofs.Common.{rules, ◌≡◌, ◌*◌}
 use Rattle.lfs_model.specs.Tree.{slot_len}
-use Rattle.lfs_files.specs.Files.{IsLoneWrite, Reforms, Writes}
 use Rattle.lfs_files.proofs.FilesCompose.{redrafts_more, redrafts_read}
 use Rattle.lfs_dirs.specs.Directory.{slot_count}
-use Rattle.lfs_dirs.specs.Widening.{wide}
 use Rattle.lfs_dirs.proofs.WideDrafts.{counts_empty, counts_written, fails_written, widens_empty, widens_written}
 use Rattle.lfs_dirs.proofs.widening.widen.Goals as goal
 

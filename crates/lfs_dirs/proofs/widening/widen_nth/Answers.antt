@@ -1,9 +1,6 @@
 use Rattle.std.proofs.lemmas.Result.{err_from_is_err_and}
-use Rattle.std.proofs.Common.{◌≡◌, ◌+◌, ◌*◌, ℕ, length, subst, arith, ap, rules}
-use Rattle.lfs_model.specs.Tree.{slot_len}
-use Rattle.lfs_dirs.specs.Finding.{IsBlockFault}
+use Rattle.std.proofs.Common.{◌≡◌, ◌*◌, ℕ, arith, ap, rules}
 use Rattle.lfs_dirs.specs.Searching.{count_in_nth}
-use Rattle.lfs_dirs.specs.Widening.{WidensBlock}
 use Rattle.lfs_dirs.proofs.widening.widen_nth.Goals as goal
 
 pub returns : goal.returns

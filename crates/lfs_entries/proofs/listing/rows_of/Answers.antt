@@ -1,7 +1,5 @@
 use Rattle.std.proofs.lemmas.Result.{err_from_is_err_and}
 use Rattle.std.proofs.Common.{◌∙◌, ap, sym, length, arith}
-use Rattle.std.specs.Vec.Iter.{into_iter_items, into_iter_len}
-use Rattle.lfs_entries.specs.Rows.{IsRow}
 use Rattle.lfs_entries.proofs.Listings.{told_all, told_fails, told_next, told_none}
 use Rattle.lfs_entries.proofs.listing.rows_of.Goals as goal
 

@@ -1,5 +1,4 @@
-use Rattle.std.proofs.Common.{◌≡◌, ◌<◌, ◌*◌, ◌-◌, arith}
-use Rattle.std.specs.Prelude.{min}
+use Rattle.std.proofs.Common.{arith}
 use Rattle.lfs_path.proofs.LinkTexts.{read_ends, read_goes_on}
 use Rattle.lfs_path.proofs.link.read_text.Goals as goal
 

@@ -1,5 +1,4 @@
-use Rattle.std.proofs.Common.{◌≡◌, rules, refl, true, false, length}
-use Rattle.std.specs.Prelude.{is_none, not}
+use Rattle.std.proofs.Common.{rules, refl, length}
 use Rattle.lfs_path.proofs.Splits.{no_piece, not_empty, some_piece, splits_further, splits_last}
 use Rattle.lfs_path.proofs.split.split_last.Goals as goal
 

@@ -1,6 +1,4 @@
-use Rattle.std.proofs.Common.{◌≡◌, ◌∙◌, sym, ap, Bool, false, ◌||◌}
-use Rattle.std.specs.Prelude.{nat_eq}
-use lib.Pointwise.{pointwise}
+use Rattle.std.proofs.Common.{◌≡◌, false}
 use Rattle.lfs_model.specs.Tree.{same_name}
 use Rattle.lfs_model.specs.Walk.{dot, dot_dot}
 use Rattle.lfs_path.proofs.Texts.{same_is}

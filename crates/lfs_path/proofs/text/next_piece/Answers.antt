@@ -2,8 +2,8 @@ use Rattle.std.proofs.Common.{◌≡◌, ◌-◌, ◌<◌, ◌∙◌, ap, sym, r
 use Rattle.std.proofs.Common.{rules}
 use Rattle.std.specs.Prelude.{filter, if◌then◌else◌}
 use Rattle.std.proofs.lemmas.Bool.Decides.{nat_tests}
-use Rattle.std.proofs.lemmas.List.{length-take-le, length-drop}
-use Rattle.lfs_model.specs.PathText.{comps, parts}
+use Rattle.std.proofs.lemmas.List.{length-take-le}
+use Rattle.lfs_model.specs.PathText.{parts}
 use Rattle.lfs_path.proofs.Texts.{no_piece, next_is}
 use Rattle.lfs_path.proofs.text.next_piece.Goals as goal
 

@@ -1,6 +1,6 @@
 use Rattle.std.proofs.Common.{◌∙◌, ◌+◌}
 use Rattle.lfs_put.proofs.Costs.{compares}
-use Rattle.lfs_put.specs.Largest.{cost_of_blocks, cost_of_entries}
+use Rattle.lfs_put.specs.Largest.{cost_of_entries}
 use Rattle.lfs_put.proofs.largest.fits.Goals as goal
 
 pub returns : goal.returns

@@ -1,6 +1,5 @@
 use Rattle.std.proofs.lemmas.Result.{err_from_is_err_and}
 use Rattle.std.proofs.Common.{◌≡◌, length, take, arith, rules}
-use Rattle.lfs_fs.specs.Refusals.{refusal_of}
 use Rattle.lfs_put.proofs.PutCalls.{copy_ends, copy_refused, copying_more}
 use Rattle.lfs_put.proofs.putting.copy_in.Goals as goal
 

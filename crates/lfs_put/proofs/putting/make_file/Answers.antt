@@ -1,5 +1,4 @@
 use Rattle.std.proofs.lemmas.Result.{err_from_is_err_and}
-use Rattle.lfs_fs.specs.Refusals.{refusal_of}
 use Rattle.lfs_put.proofs.PutCalls.{close_refused, copy_failed, create_refused, file_made}
 use Rattle.lfs_put.proofs.putting.make_file.Goals as goal
 

@@ -1,5 +1,4 @@
 use Rattle.std.proofs.lemmas.Result.{err_from_is_err_and}
-use Rattle.lfs_fs.specs.Refusals.{refusal_of}
 use Rattle.lfs_put.proofs.PutCalls.{file_renamed, not_synced, rename_refused, sync_refused}
 use Rattle.lfs_put.proofs.putting.rename_file.Goals as goal
 

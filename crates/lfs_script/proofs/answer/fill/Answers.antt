@@ -1,7 +1,4 @@
 use Rattle.std.proofs.Common.{◌∙◌}
-use Rattle.lfs_model.specs.Call.{Count}
-use Rattle.lfs_fs.specs.Refusals.{refusal_of}
-use Rattle.lfs_fs.specs.Seen.{answer_by, seen}
 use Rattle.lfs_script.proofs.Filling.{filled_serves, memory_serves, refused_serves}
 use Rattle.lfs_script.proofs.answer.fill.Goals as goal
 

@@ -1,5 +1,5 @@
 use Rattle.std.proofs.Common.{rules, ◌≡◌, ◌≢◌, ◌∙◌, ap, Some, None, Ok, length, slice_range, vec_len}
-use Rattle.lfs_script.specs.declared.line.LineEnd.TheVariants.{Newline, Input, TooLong}
+use Rattle.lfs_script.specs.declared.line.LineEnd.TheVariants.{Input}
 use Rattle.lfs_fs.proofs.ScriptRuns.{told_none, tells_more}
 use Rattle.lfs_script.proofs.ScriptTurns.{finished, finishes_of, line_ended, long_ended, no_room, numbers_end, read_fails, so_far_flushed}
 use Rattle.lfs_script.proofs.ScriptTurns.{so_far_more, looks_of, so_far_none, too_long, turned_end, turns_of}

@@ -1,5 +1,4 @@
 use Rattle.std.proofs.Common.{inl, inr, refl}
-use Rattle.lfs_fs.specs.Seen.{seen}
 use Rattle.lfs_script.specs.Answers.{result_of}
 use Rattle.lfs_script.specs.Bytes.{AppendsSome}
 use Rattle.lfs_script.proofs.ScriptTurns.{called, looks_called, looks_never, turned}

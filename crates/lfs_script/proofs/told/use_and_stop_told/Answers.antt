@@ -1,6 +1,5 @@
 use Rattle.std.proofs.Common.{inl}
 use Rattle.lfs_model.proofs.Moments.{carries_then}
-use Rattle.lfs_device.specs.MemoryDevice.{device_state}
 use Rattle.lfs_script.proofs.Used.{err_more, ok_more, still_unused, stopped_told}
 use Rattle.lfs_script.proofs.told.use_and_stop_told.Goals as goal
 

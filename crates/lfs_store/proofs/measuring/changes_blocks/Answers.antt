@@ -1,7 +1,3 @@
-use Rattle.std.proofs.Common.{subst, List}
-use Rattle.std.specs.List.{AllByRecursion}
-use Rattle.lfs_cleaner.specs.log.memory.declared.batch.BlockEdit.{BlockEdit}
-use Rattle.lfs_store.specs.Measuring.{IsOff}
 use Rattle.lfs_store.proofs.Measured.{leaves_blocks}
 use Rattle.lfs_store.proofs.measuring.changes_blocks.Goals as goal
 

@@ -1,8 +1,5 @@
-use Rattle.std.specs.Prelude.{Result}
-use Rattle.std.proofs.Common.{Bool, ◌≡◌, ◌+◌, ℕ, ap, arith}
+use Rattle.std.proofs.Common.{◌≡◌, arith}
 use Rattle.lfs_model.specs.Objects.{has_leaf}
-use Rattle.lfs_files.specs.declared.fault.LogFault.{LogFault}
-use Rattle.lfs_store.specs.Keeping.{ReadsLog}
 use Rattle.lfs_store.proofs.Endings.{exit_is}
 use Rattle.lfs_store.proofs.Keepings.{looked_done, looked_fails}
 use Rattle.lfs_store.proofs.Measured.{counted_more, counts_leaves}

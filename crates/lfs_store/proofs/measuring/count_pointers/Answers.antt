@@ -1,8 +1,3 @@
-use Rattle.std.specs.Prelude.{Result}
-use Rattle.std.proofs.Common.{Bool, ◌+◌, ℕ, sym, subst}
-use Rattle.lfs_files.specs.declared.fault.LogFault.{LogFault}
-use Rattle.lfs_store.specs.Keeping.{ReadsLog}
-use Rattle.lfs_store.specs.Measuring.{CountsPointers}
 use Rattle.lfs_store.proofs.Endings.{exit_is}
 use Rattle.lfs_store.proofs.Keepings.{looked_done, looked_fails}
 use Rattle.lfs_cleaner.proofs.of_log.LogReads.{reads_more, reads_none}

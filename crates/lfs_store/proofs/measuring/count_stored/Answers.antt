@@ -1,8 +1,5 @@
-use Rattle.std.specs.Prelude.{Result}
-use Rattle.std.proofs.Common.{Bool, rules, ◌≡◌, ◌+◌, ℕ, ap, arith}
+use Rattle.std.proofs.Common.{rules, ◌≡◌, arith}
 use Rattle.lfs_model.specs.Objects.{is_stored}
-use Rattle.lfs_files.specs.declared.fault.LogFault.{LogFault}
-use Rattle.lfs_store.specs.Keeping.{ReadsLog}
 use Rattle.lfs_store.proofs.Endings.{exit_is}
 use Rattle.lfs_store.proofs.Keepings.{looked_done, looked_fails}
 use Rattle.lfs_store.proofs.Measured.{log_count, counted_more, counted_none, counts_stored}

@@ -1,9 +1,5 @@
-use Rattle.std.specs.Prelude.{Result}
-use Rattle.std.proofs.Common.{rules, ℕ, Bool, false, ◌∙◌, ap, refl, subst, arith}
-use Rattle.std.specs.Int.{div_ceil}
+use Rattle.std.proofs.Common.{rules, Bool, refl, subst, arith}
 use Rattle.lfs_model.specs.Objects.{has_leaf}
-use Rattle.lfs_files.specs.declared.fault.LogFault.{LogFault}
-use Rattle.lfs_store.specs.Keeping.{ReadsLog}
 use Rattle.lfs_store.specs.Measuring.{TellsLeaf}
 use Rattle.lfs_store.proofs.Endings.{exit_is}
 use Rattle.lfs_store.proofs.Keepings.{looked_done, looked_fails}

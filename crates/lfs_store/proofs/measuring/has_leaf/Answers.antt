@@ -1,7 +1,4 @@
-use Rattle.std.specs.Prelude.{Result}
-use Rattle.std.proofs.Common.{rules, ◌+◌, ◌*◌, Bool, refl, subst}
-use Rattle.lfs_files.specs.declared.fault.LogFault.{LogFault}
-use Rattle.lfs_store.specs.Keeping.{ReadsLog}
+use Rattle.std.proofs.Common.{rules, Bool, refl, subst}
 use Rattle.lfs_store.specs.Measuring.{TellsStored}
 use Rattle.lfs_store.proofs.Endings.{exit_is}
 use Rattle.lfs_store.proofs.Keepings.{looked_done, looked_fails}

@@ -1,7 +1,7 @@
-use Rattle.std.proofs.Common.{◌+◌, ◌≡◌, ◌≤◌, ℕ, subst, arith}
+use Rattle.std.proofs.Common.{◌+◌, ◌≡◌, ◌≤◌, arith}
 use Rattle.lfs_store.proofs.Endings.{exit_is}
 use Rattle.lfs_cleaner.proofs.of_log.LogReads.{fault_more}
-use Rattle.lfs_store.proofs.ReadParts.{ReadUpTo, read_more, reads_part}
+use Rattle.lfs_store.proofs.ReadParts.{read_more, reads_part}
 use Rattle.lfs_store.proofs.reading.read_part.Goals as goal
 
 pub loop-at-preserved : goal.loop-at-preserved

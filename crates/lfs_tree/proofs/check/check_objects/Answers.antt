@@ -1,8 +1,6 @@
-use Rattle.std.specs.Prelude.{Err}
-use Rattle.std.proofs.Common.{ap, refl, subst, arith}
+use Rattle.std.proofs.Common.{refl, arith}
 use Rattle.lfs_model.specs.TreeOf.{AreTexts}
 use Rattle.lfs_tree.specs.Checking.{slots_fail, texts_fail}
-use Rattle.lfs_tree.specs.Objects.{SlotStage}
 use Rattle.lfs_tree.proofs.LinkTexts.{decided_false, decided_true}
 use Rattle.lfs_tree.proofs.Seeing.{leads_then, sees_first, sees_then}
 use Rattle.lfs_tree.proofs.check.check_objects.Goals as goal

@@ -1,8 +1,6 @@
-use Rattle.std.specs.Prelude.{min}
-use Rattle.std.proofs.Common.{◌≡◌, ◌<◌, ◌-◌, ◌*◌, ℕ, ap, subst, arith, ◌∙◌, refl}
-use Rattle.lfs_dirs.specs.Directory.{first_slots, per_block, slot_count}
+use Rattle.std.proofs.Common.{◌*◌, ℕ, ap, arith, ◌∙◌, refl}
+use Rattle.lfs_dirs.specs.Directory.{per_block}
 use Rattle.lfs_dirs.proofs.Widths.{block_before, blocks_past, blocks_up}
-use Rattle.lfs_tree.specs.Naming.{TakesSlots}
 use Rattle.lfs_verify.proofs.Takes.{looks_none, looks_then}
 use Rattle.lfs_tree.proofs.GoodBlocks.{blocks_begin, blocks_end, blocks_fail, blocks_go_on}
 use Rattle.lfs_tree.proofs.Seeing.{inode_then, sees_first, sees_then}

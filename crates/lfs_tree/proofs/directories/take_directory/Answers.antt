@@ -1,7 +1,6 @@
-use Rattle.std.proofs.Common.{◌≡◌, ◌∙◌, Bool, Some, None, sym, subst, arith}
+use Rattle.std.proofs.Common.{◌≡◌, ◌∙◌, Some, None, sym, arith}
 use Rattle.std.proofs.lemmas.Result.{IfOk-weaker}
 use Rattle.lfs_files.specs.Headers.{as_header}
-use Rattle.lfs_tree.specs.Reading.{InodeAnswer}
 use Rattle.lfs_tree.proofs.GoodBlocks.{names_none, nothing_taken}
 use Rattle.lfs_tree.proofs.Seeing.{inode_then, sees_first, sees_then}
 use Rattle.lfs_tree.proofs.directories.take_directory.Goals as goal

@@ -1,6 +1,3 @@
-use Rattle.std.proofs.Common.{◌∙◌, Some, ap, Bool, subst}
-use Rattle.lfs_model.specs.Entry as entry
-use Rattle.lfs_tree.specs.Reading.{InodeAnswer}
 use Rattle.lfs_tree.proofs.headers.read_header.Goals as goal
 
 pub returns-clause-answer : goal.returns-clause-answer

@@ -1,8 +1,6 @@
-use Rattle.std.proofs.Common.{◌+◌, List, Option, arith, subst, sym, ◌∙◌}
+use Rattle.std.proofs.Common.{arith}
 use Rattle.lfs_model.proofs.Exits.{any_error}
-use Rattle.lfs_files.specs.declared.header.Header.{Header}
 use Rattle.lfs_verify.proofs.Takes.{looks_then}
-use Rattle.lfs_tree.specs.Reading.{TellsHeaders}
 use Rattle.lfs_tree.proofs.Seeing.{leads_then, sees_first, sees_then, told_next}
 use Rattle.lfs_tree.proofs.headers.read_headers.Goals as goal
 

@@ -1,7 +1,6 @@
-use Rattle.std.proofs.Common.{◌≡◌, ℕ, true, slice_index, subst, sym, arith, ⊎_elim}
+use Rattle.std.proofs.Common.{◌≡◌, arith, ⊎_elim}
 use Rattle.std.proofs.lemmas.Bool.{cases_eq}
-use Rattle.lfs_tree.specs.Naming.{leads}
-use Rattle.lfs_tree.specs.Reaching.{Climbs, MarksDirectory, root}
+use Rattle.lfs_tree.specs.Reaching.{root}
 use Rattle.lfs_tree.proofs.reached.all_climb.Goals as goal
 
 pub loop-number-init : goal.loop-number-init

@@ -1,4 +1,4 @@
-use Rattle.std.proofs.Common.{◌<◌, ◌∙◌, length, sym, arith}
+use Rattle.std.proofs.Common.{◌<◌, length, arith}
 use Rattle.lfs_tree.proofs.Climbing.{fewer_left, way_begins, way_done, way_goes_on}
 use Rattle.lfs_tree.proofs.reached.climb.Goals as goal
 

@@ -1,4 +1,3 @@
-use Rattle.std.proofs.Common.{sym, ◌∙◌}
 use Rattle.lfs_tree.proofs.Climbing.{directory_climbs, directory_passed}
 use Rattle.lfs_tree.proofs.reached.climb_directory.Goals as goal
 

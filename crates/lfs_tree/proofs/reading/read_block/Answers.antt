@@ -1,6 +1,5 @@
-use Rattle.std.proofs.Common.{◌∙◌, ap, refl, arith}
+use Rattle.std.proofs.Common.{◌∙◌, refl, arith}
 use Rattle.std.proofs.lemmas.Result.{on_ok_weaker, on_err_weaker}
-use Rattle.std.specs.Prelude.{Err}
 use Rattle.lfs_model.specs.Entry.{Data}
 use Rattle.lfs_verify.proofs.Takes.{reads_then}
 use Rattle.lfs_tree.proofs.Seeing.{block_there, block_not, data_is, data_not_lost, is_inside, is_long, looks_call, reads_of, sees_first}

@@ -1,8 +1,7 @@
 use Rattle.std.specs.Prelude.{Err}
 use Rattle.lfs_tree.proofs.Exits.{passed_on}
-use Rattle.std.proofs.Common.{ap, ◌≡◌, ◌∙◌, Some, None, subst, sym, arith, refl}
+use Rattle.std.proofs.Common.{ap, ◌≡◌, ◌∙◌, arith, refl}
 use Rattle.lfs_verify.proofs.Takes.{looks_none, looks_then}
-use Rattle.lfs_tree.specs.Objects.{AreNamed, TakesObject}
 use Rattle.lfs_tree.proofs.Named.{base_at, named_first, named_more, noted_begin}
 use Rattle.lfs_tree.proofs.ObjectNames.{good_if_stage, held_headers, no_names, nobody, stage_if_good}
 use Rattle.lfs_tree.proofs.Seeing.{leads_then, sees_first, sees_then}

@@ -1,8 +1,8 @@
-use Rattle.std.proofs.Common.{◌≡◌, ◌∙◌, ap, sym, arith, subst, get_or, Bool, List, Some, None, ℕ}
-use Rattle.std.specs.FinMap.{find, put}
+use Rattle.std.proofs.Common.{◌≡◌, ◌∙◌, ap, sym, arith, get_or, List, Some, None, ℕ}
+use Rattle.std.specs.FinMap.{find}
 use Rattle.lfs_model.specs.Tree.{byte_cmp}
 use Rattle.lfs_model.specs.TreeOf.{map_of}
-use Rattle.lfs_tree.specs.Naming.{HasNames, Notes, is_directory, leads}
+use Rattle.lfs_tree.specs.Naming.{is_directory, leads}
 use Rattle.lfs_tree.proofs.GoodSlots.{slot_taken, slot_twice}
 use Rattle.lfs_tree.proofs.slots.take_slot.Goals as goal
 

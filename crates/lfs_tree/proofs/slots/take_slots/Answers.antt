@@ -1,6 +1,4 @@
-use Rattle.std.proofs.Common.{◌-◌, arith, refl, subst}
-use Rattle.lfs_tree.specs.Naming.{TakesSlots}
-use Rattle.std.proofs.Common.{[], ◌∷◌}
+use Rattle.std.proofs.Common.{◌-◌, arith, refl}
 use Rattle.lfs_tree.proofs.GoodSlots.{slots_begin, slots_fail, slots_go_on}
 use Rattle.lfs_tree.proofs.slots.take_slots.Goals as goal
 

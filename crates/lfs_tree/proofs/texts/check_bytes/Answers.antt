@@ -1,5 +1,4 @@
-use Rattle.std.specs.Prelude.{min}
-use Rattle.std.proofs.Common.{◌≡◌, ◌<◌, ◌-◌, ◌*◌, arith, ◌∙◌, refl}
+use Rattle.std.proofs.Common.{arith, ◌∙◌, refl}
 use Rattle.lfs_model.proofs.Exits.{any_error}
 use Rattle.lfs_verify.proofs.Takes.{looks_none, looks_then}
 use Rattle.lfs_tree.proofs.LinkTexts.{texts_fail, texts_go_on}

@@ -1,8 +1,7 @@
-use Rattle.std.proofs.Common.{◌≡◌, ◌∙◌, Bool, Some, None, sym, subst, arith}
+use Rattle.std.proofs.Common.{◌≡◌, ◌∙◌, Some, None, sym, arith}
 use Rattle.std.proofs.lemmas.Result.{IfOk-weaker, on_err_weaker}
 use Rattle.lfs_model.proofs.Exits.{any_error}
 use Rattle.lfs_files.specs.Headers.{as_header}
-use Rattle.lfs_tree.specs.Reading.{InodeAnswer}
 use Rattle.lfs_tree.proofs.LinkTexts.{text_decided}
 use Rattle.lfs_tree.proofs.ObjectNames.{head_told}
 use Rattle.lfs_tree.proofs.Seeing.{inode_then, sees_first, sees_then}

@@ -1,8 +1,6 @@
 use Rattle.lfs_model.specs.Entry.{Double}
 use Rattle.std.proofs.Common.{sym, ◌∙◌, ap, arith}
 use Rattle.lfs_model.specs.Content.{block}
-use Rattle.lfs_model.specs.Reach.{view}
-use Rattle.lfs_model.specs.Stands.{Blocks}
 use Rattle.lfs_verify.proofs.Takes.{reads_first, reads_then, read_in, unread, goes_true, goes_false, reached_inside, reached_good, no_word}
 use Rattle.lfs_verify.proofs.BlockSteps.{double_passed}
 use Rattle.lfs_verify.proofs.blocks.data_of_double.Goals as goal

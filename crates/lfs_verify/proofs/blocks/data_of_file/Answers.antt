@@ -1,7 +1,5 @@
 use Rattle.lfs_verify.proofs.RootSteps.{root_at, first_leaf_at}
-use Rattle.std.proofs.Common.{◌≡◌, ◌+◌, ◌*◌, subst, arith}
-use Rattle.lfs_model.specs.Reach.{view}
-use Rattle.lfs_model.specs.Stands.{Blocks}
+use Rattle.std.proofs.Common.{arith}
 use Rattle.lfs_verify.proofs.Takes.{reads_first, reads_then, goes_true, goes_false, walked_as, reads_thrice}
 use Rattle.lfs_verify.proofs.BlockSteps.{size_there}
 use Rattle.lfs_verify.proofs.blocks.data_of_file.Goals as goal

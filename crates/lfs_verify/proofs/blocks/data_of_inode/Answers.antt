@@ -1,6 +1,4 @@
-use Rattle.std.proofs.Common.{◌+◌, ◌*◌, arith}
-use Rattle.lfs_model.specs.Reach.{view}
-use Rattle.lfs_model.specs.Stands.{Blocks}
+use Rattle.std.proofs.Common.{arith}
 use Rattle.lfs_verify.proofs.Takes.{goes_true, goes_false, walked_as}
 use Rattle.lfs_verify.proofs.BlockSteps.{direct_words, size_there}
 use Rattle.lfs_verify.proofs.blocks.data_of_inode.Goals as goal

@@ -1,8 +1,6 @@
 use Rattle.lfs_model.specs.Content.{block}
 use Rattle.lfs_model.specs.Entry.{Leaf}
 use Rattle.std.proofs.Common.{sym, ◌∙◌, arith, ap}
-use Rattle.lfs_model.specs.Reach.{view}
-use Rattle.lfs_model.specs.Stands.{Blocks}
 use Rattle.lfs_verify.proofs.Takes.{reads_first, reads_then, read_in, unread, goes_true, goes_false, walked_as}
 use Rattle.lfs_verify.proofs.Takes.{reached_inside, reached_good, no_word}
 use Rattle.lfs_verify.proofs.BlockSteps.{leaf_passed, leaf_words, leaf_before}

@@ -1,6 +1,4 @@
-use Rattle.std.proofs.Common.{◌≡◌, ◌+◌, ◌*◌, subst, arith}
-use Rattle.lfs_model.specs.Reach.{view}
-use Rattle.lfs_model.specs.Stands.{Blocks}
+use Rattle.std.proofs.Common.{arith}
 use Rattle.lfs_verify.proofs.Takes.{reads_first, reads_then, goes_true, goes_false, walked_as}
 use Rattle.lfs_verify.proofs.BlockSteps.{under_at}
 use Rattle.lfs_verify.proofs.Keeping.{keeps_none, keeps_then}

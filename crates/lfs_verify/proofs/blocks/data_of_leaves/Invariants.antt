@@ -1,7 +1,6 @@
 use Rattle.lfs_verify.specs.Keeping.{OfWalk}
 use Rattle.std.proofs.Common.{◌≡◌, ◌+◌, ◌*◌}
-use Rattle.lfs_model.specs.Checkpoint.{CheckpointValue}
-use Rattle.lfs_model.specs.Content.{Content, block}
+use Rattle.lfs_model.specs.Content.{block}
 use Rattle.lfs_model.specs.Entry.{Double, Inode, header}
 use Rattle.lfs_model.specs.Reach.{view, address}
 use Rattle.lfs_verify.specs.Walk.{Walked}

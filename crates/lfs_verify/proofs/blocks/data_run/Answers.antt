@@ -1,5 +1,4 @@
-use Rattle.std.proofs.Common.{◌≡◌, ◌+◌, ◌*◌, ◌∙◌, subst, arith}
-use Rattle.lfs_model.specs.Reach.{view}
+use Rattle.std.proofs.Common.{◌∙◌, arith}
 use Rattle.lfs_verify.proofs.Takes.{reads_first, reads_then, walked_as, goes_true, goes_false}
 use Rattle.lfs_verify.proofs.DataSteps.{data_goes}
 use Rattle.lfs_verify.proofs.Keeping.{keeps_none, keeps_then}

@@ -1,9 +1,7 @@
 use Rattle.lfs_verify.proofs.RootSteps.{root_at}
-use Rattle.std.proofs.Common.{sym, ◌∙◌, ap, arith, refl}
+use Rattle.std.proofs.Common.{sym, ◌∙◌, ap, arith}
 use Rattle.lfs_model.specs.Content.{block}
-use Rattle.lfs_model.specs.Entry.{Inode, Double}
-use Rattle.lfs_model.specs.Reach.{address, view}
-use Rattle.lfs_model.specs.Stands.{Leaves}
+use Rattle.lfs_model.specs.Entry.{Double}
 use Rattle.lfs_verify.proofs.Takes.{reads_first, reads_then, read_in, unread, goes_true, goes_false, reached_inside, reached_good, no_word}
 use Rattle.lfs_verify.proofs.LeafSteps.{no_leaves}
 use Rattle.lfs_verify.proofs.blocks.leaves_of_file.Goals as goal

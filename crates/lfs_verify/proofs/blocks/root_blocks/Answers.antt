@@ -1,6 +1,3 @@
-use Rattle.std.proofs.Common.{refl}
-use Rattle.lfs_model.specs.Entry.{Inode}
-use Rattle.lfs_model.specs.Reach.{address}
 use Rattle.lfs_verify.proofs.Takes.{reads_first, reads_then, goes_true, goes_false}
 use Rattle.lfs_verify.proofs.RootSteps.{single_goes, double_goes}
 use Rattle.lfs_verify.proofs.blocks.root_blocks.Goals as goal

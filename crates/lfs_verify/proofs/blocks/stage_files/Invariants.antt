@@ -1,7 +1,5 @@
 use Rattle.lfs_verify.specs.Keeping.{OfWalk}
 use Rattle.std.proofs.Common.{◌≡◌, ◌≤◌}
-use Rattle.lfs_model.specs.Checkpoint.{CheckpointValue}
-use Rattle.lfs_model.specs.Content.{Content}
 use Rattle.lfs_model.specs.Reach.{view}
 use Rattle.lfs_verify.specs.FileStages.{file_step}
 use Rattle.lfs_verify.specs.Kept.{there_below, KeepsInodes}

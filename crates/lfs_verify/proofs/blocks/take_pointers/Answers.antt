@@ -1,5 +1,4 @@
 use Rattle.std.proofs.Common.{arith}
-use Rattle.lfs_model.specs.Content.{block}
 use Rattle.lfs_verify.specs.Take.{SomeWord}
 use Rattle.lfs_verify.proofs.Takes.{no_word, takes_as, takes_none}
 use Rattle.lfs_verify.proofs.blocks.take_pointers.Goals as goal

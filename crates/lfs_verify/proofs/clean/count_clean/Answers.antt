@@ -1,4 +1,4 @@
-use Rattle.std.proofs.Common.{◌+◌, sym, arith}
+use Rattle.std.proofs.Common.{sym, arith}
 use Rattle.lfs_verify.proofs.CleanSteps.{clean_none, clean_on, clean_off}
 use Rattle.lfs_verify.proofs.clean.count_clean.Goals as goal
 use Rattle.lfs_verify.proofs.clean.count_clean.Goals.{then-used-segment-eq0, else-used-segment-eq0}

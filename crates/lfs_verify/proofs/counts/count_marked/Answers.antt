@@ -1,4 +1,4 @@
-use Rattle.std.proofs.Common.{◌+◌, sym, arith}
+use Rattle.std.proofs.Common.{sym, arith}
 use Rattle.lfs_verify.proofs.Sectors.{marked_none, marked_on, marked_off}
 use Rattle.lfs_verify.proofs.counts.count_marked.Goals as goal
 use Rattle.lfs_verify.proofs.counts.count_marked.Goals.{then-marks-segment-ne0, else-marks-segment-ne0}

@@ -1,5 +1,4 @@
-use Rattle.std.proofs.Common.{◌≡◌, ◌+◌, ◌∙◌, sym, below_more, subst, arith}
-use Rattle.lfs_model.specs.Reach.{view}
+use Rattle.std.proofs.Common.{◌≡◌, ◌∙◌, sym, below_more, subst, arith}
 use Rattle.lfs_verify.specs.Kept.{KeepsBelow}
 use Rattle.lfs_verify.proofs.Takes.{reads_first, reads_then, walked_as, goes_true, goes_false}
 use Rattle.lfs_verify.proofs.InodeSteps.{in_marks, inode_goes}

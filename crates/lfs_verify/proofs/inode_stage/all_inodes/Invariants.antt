@@ -1,7 +1,6 @@
 use Rattle.lfs_verify.specs.Keeping.{OfWalk, OfContent}
 use Rattle.std.proofs.Common.{◌≡◌, ◌<◌, ◌≤◌, ◌⊎◌, ◌+◌, ℕ, length, get_or, vec_capacity}
-use Rattle.lfs_model.specs.Checkpoint.{CheckpointValue, layout_version}
-use Rattle.lfs_model.specs.Content.{Content}
+use Rattle.lfs_model.specs.Checkpoint.{layout_version}
 use Rattle.lfs_model.specs.Reach.{view}
 use Rattle.lfs_verify.specs.Kept.{there_below, KeepsBelow}
 use Rattle.lfs_verify.specs.Walk.{Walked}

@@ -1,8 +1,6 @@
 use Rattle.lfs_verify.proofs.Tests.{fails_by}
 use Rattle.std.proofs.Common.{⊎_elim, refl, ap, arith}
 use Rattle.lfs_model.specs.Content.{block}
-use Rattle.lfs_model.specs.Reach.{view}
-use Rattle.lfs_model.specs.Stands.{Inodes}
 use Rattle.lfs_verify.proofs.Steps.{inodes_of}
 use Rattle.lfs_verify.proofs.Takes.{reads_first, reads_then, read_in, unread, goes_true, goes_false}
 use Rattle.lfs_verify.proofs.RootKinds.{rootless, other_kind, root_kind}

@@ -1,4 +1,4 @@
-use Rattle.std.proofs.Common.{arith, ◌+◌}
+use Rattle.std.proofs.Common.{arith}
 use Rattle.lfs_model.specs.Content.{block}
 use Rattle.lfs_model.specs.Entry.{IsInode}
 use Rattle.lfs_verify.proofs.Takes.{block_taken, no_inode, takes_as, takes_none}

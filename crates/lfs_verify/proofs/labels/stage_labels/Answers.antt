@@ -1,6 +1,5 @@
 use Rattle.lfs_verify.proofs.Tests.{fails_by, fails_as}
-use Rattle.std.proofs.Common.{rules, ◌≡◌, ◌<◌, ◌≤◌, true, false, ⊎_elim, sym, ◌∙◌, subst, arith, below_more}
-use Rattle.std.proofs.lemmas.Bool.{cases_lt}
+use Rattle.std.proofs.Common.{rules, arith, below_more}
 use Rattle.lfs_verify.proofs.LabelSteps.{all_agree, each_agrees}
 use Rattle.lfs_verify.proofs.labels.stage_labels.Goals as goal
 

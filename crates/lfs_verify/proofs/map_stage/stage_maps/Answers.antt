@@ -1,6 +1,5 @@
-use Rattle.std.proofs.Common.{◌≡◌, ◌+◌, ◌∙◌, refl, subst, arith}
+use Rattle.std.proofs.Common.{◌∙◌, refl, arith}
 use Rattle.lfs_model.specs.Reach.{view}
-use Rattle.lfs_model.specs.Stands.{Maps}
 use Rattle.lfs_verify.proofs.Steps.{maps_of}
 use Rattle.lfs_verify.proofs.Takes.{reads_first, reads_then, goes_true, goes_false, walked_as}
 use Rattle.lfs_verify.proofs.MapSteps.{lists_all, none_fails, root_fails, none_holds, root_reached}

@@ -1,6 +1,5 @@
 use Rattle.lfs_verify.specs.Keeping.{OfContent}
 use Rattle.std.proofs.Common.{◌≡◌, ◌+◌, length}
-use Rattle.lfs_model.specs.Content.{Content}
 use Rattle.lfs_model.specs.Reach.{view}
 use Rattle.lfs_verify.specs.MapTables.{ListsUpTo, IsEmptyFrom}
 use Rattle.lfs_verify.specs.Walk.{Walked}

@@ -1,5 +1,5 @@
 use Rattle.lfs_verify.specs.Take.{SomeWord}
-use Rattle.std.proofs.Common.{refl, arith, ◌+◌, true, false, inl}
+use Rattle.std.proofs.Common.{refl, arith, true, false, inl}
 use Rattle.lfs_verify.proofs.Takes.{block_taken, takes_none, takes_as, no_word}
 use Rattle.lfs_verify.proofs.MapSteps.{lists_passed, lists_taken, empty_taken, map_goes}
 use Rattle.lfs_verify.proofs.map_stage.take_map.Goals as goal

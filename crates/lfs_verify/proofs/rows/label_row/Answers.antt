@@ -1,5 +1,5 @@
 use Rattle.lfs_verify.proofs.Tests.{fails_as}
-use Rattle.std.proofs.Common.{rules, ◌≡◌, ◌+◌, ◌*◌, ℕ, List, refl, sym, ◌∙◌, ap, subst, arith}
+use Rattle.std.proofs.Common.{rules, ◌≡◌, ◌+◌, ◌*◌, refl, ◌∙◌, ap, subst, arith}
 use Rattle.lfs_model.specs.Entry.{entries_in}
 use Rattle.lfs_verify.specs.Rows.{from}
 use Rattle.lfs_verify.proofs.Takes.{looks_then, reads_first, reads_then, read_in, unread}

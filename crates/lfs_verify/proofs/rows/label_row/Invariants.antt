@@ -1,6 +1,5 @@
 use Rattle.lfs_verify.specs.Keeping.{OfContent}
 use Rattle.std.proofs.Common.{◌≡◌, ◌<◌, ◌≤◌, ◌+◌, ◌-◌, ◌*◌, ◌↔◌, ℕ, get_or, length}
-use Rattle.lfs_model.specs.Content.{Content}
 use Rattle.lfs_model.specs.Reach.{row_by}
 use Rattle.lfs_verify.specs.Rows.{HasRow, from}
 use Rattle.lfs_verify.proofs.LabelSteps.{LabelledTo}

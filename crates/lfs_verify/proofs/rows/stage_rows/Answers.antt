@@ -1,7 +1,5 @@
 use Rattle.lfs_verify.proofs.Tests.{fails_by, fails_as}
-use Rattle.std.proofs.Common.{rules, true, false, ◌≤◌, ◌≡◌, ◌<◌, ◌+◌, ◌*◌, ℕ, length, get_or, ◌∙◌, ⊎_elim, subst, sym, arith, below_more}
-use Rattle.std.proofs.lemmas.Bool.{cases_lt}
-use Rattle.lfs_model.specs.Reach.{view, row_by}
+use Rattle.std.proofs.Common.{rules, ◌+◌, ◌*◌, arith, below_more}
 use Rattle.lfs_verify.proofs.Takes.{reads_first, reads_then}
 use Rattle.lfs_verify.proofs.RowSteps.{rows_of, no_rows, too_many}
 use Rattle.lfs_verify.proofs.LabelSteps.{labels_stay, labels_there}

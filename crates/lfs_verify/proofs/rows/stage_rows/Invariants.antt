@@ -1,7 +1,5 @@
 use Rattle.lfs_verify.specs.Keeping.{OfWalk, OfContent}
 use Rattle.std.proofs.Common.{◌≡◌, ◌<◌, ◌≤◌, ◌+◌, ◌*◌, ℕ, get_or}
-use Rattle.lfs_model.specs.Checkpoint.{CheckpointValue}
-use Rattle.lfs_model.specs.Content.{Content}
 use Rattle.lfs_model.specs.Reach.{row_by, view}
 use Rattle.lfs_verify.specs.Labels.{HasLabels}
 use Rattle.lfs_verify.specs.Rows.{HasRow}

@@ -1,4 +1,4 @@
-use Rattle.std.proofs.Common.{◌<◌, ◌∙◌, ℕ, subst, ap, sym}
+use Rattle.std.proofs.Common.{◌∙◌, subst, ap, sym}
 use Rattle.lfs_model.proofs.Exits.{same_error}
 use Rattle.lfs_inodes.specs.MapValue.{MapValue}
 use Rattle.lfs_verify.specs.Lending.{LendsTable}

@@ -1,6 +1,4 @@
-use Rattle.std.proofs.Common.{◌≡◌}
 use Rattle.lfs_model.proofs.Exits.{same_error}
-use Rattle.lfs_verify.specs.declared.fault.MountFault.TheVariants as fault
 use Rattle.lfs_verify.proofs.UsageLoads.{fault_then}
 use Rattle.lfs_verify.proofs.tables.load_tables.Goals as goal
 

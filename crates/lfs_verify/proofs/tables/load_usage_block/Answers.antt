@@ -1,4 +1,4 @@
-use Rattle.std.proofs.Common.{◌<◌, ◌*◌, ◌-◌, ◌∙◌, sym, ℕ, subst, ap}
+use Rattle.std.proofs.Common.{◌*◌, ◌-◌, ◌∙◌, sym, ℕ, subst, ap}
 use Rattle.lfs_model.proofs.Exits.{same_error}
 use Rattle.lfs_verify.specs.Lending.{LendsTable}
 use Rattle.lfs_verify.proofs.tables.load_usage_block.Goals as goal

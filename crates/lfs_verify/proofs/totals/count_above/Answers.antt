@@ -1,4 +1,4 @@
-use Rattle.std.proofs.Common.{◌+◌, sym, arith}
+use Rattle.std.proofs.Common.{sym, arith}
 use Rattle.lfs_verify.proofs.Occurrences.{above_start, above_on, above_off}
 use Rattle.lfs_verify.proofs.totals.count_above.Goals as goal
 use Rattle.lfs_verify.proofs.totals.count_above.Goals.{then-marks-sector, else-marks-sector}

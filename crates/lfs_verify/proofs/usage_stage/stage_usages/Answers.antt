@@ -1,6 +1,4 @@
-use Rattle.std.proofs.Common.{◌≡◌, ◌∙◌, refl, below_more, subst, arith}
-use Rattle.lfs_model.specs.Reach.{view}
-use Rattle.lfs_model.specs.Stands.{Usages}
+use Rattle.std.proofs.Common.{◌≡◌, ◌∙◌, refl, below_more, arith}
 use Rattle.lfs_verify.proofs.Takes.{reads_first, reads_then, goes_true, goes_false, walked_as}
 use Rattle.lfs_verify.proofs.UsageSteps.{usages_of}
 use Rattle.lfs_verify.proofs.Keeping.{keeps_none, keeps_then}

@@ -1,6 +1,5 @@
 use Rattle.lfs_verify.specs.Keeping.{OfContent}
 use Rattle.std.proofs.Common.{◌≡◌, ◌<◌, ◌↔◌, ◌+◌, ◌/◌, ℕ, length, get_or}
-use Rattle.lfs_model.specs.Content.{Content}
 use Rattle.lfs_model.specs.Reach.{view}
 use Rattle.lfs_verify.specs.UsageTables.{SaysUpTo}
 use Rattle.lfs_verify.specs.Walk.{Walked}

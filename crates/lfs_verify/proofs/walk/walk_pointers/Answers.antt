@@ -1,5 +1,4 @@
 use Rattle.lfs_model.specs.Damage.{stage}
-use Rattle.lfs_model.specs.Reach.{view}
 use Rattle.lfs_verify.proofs.Steps.{roots_of, leaves_of}
 use Rattle.lfs_verify.proofs.CodeSteps.{passed_of, walk_pass, walk_fails}
 use Rattle.lfs_verify.proofs.Takes.{reads_first, reads_then}

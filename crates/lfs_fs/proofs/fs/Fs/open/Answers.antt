@@ -1,5 +1,4 @@
-use Rattle.lfs_fs.proofs.Prelude.{err_from_is_err_and, ap, refl, Err, Open}
-use Rattle.lfs_fs.proofs.calls.Answers.{looked, unlooked}
+use Rattle.lfs_fs.proofs.Prelude.{refl}
 use Rattle.lfs_fs.proofs.open_files.Opens.{opens_directory, opens_file, opens_too_many}
 use Rattle.lfs_fs.proofs.paths.Steps.{open_refused}
 use Rattle.lfs_fs.proofs.Exits.{header_fails, header_read, returned}

@@ -1,5 +1,4 @@
-use Rattle.lfs_fs.proofs.Prelude.{err_from_is_err_and, ap, refl, Err, Readdir}
-use Rattle.lfs_fs.proofs.calls.Answers.{looked, unlooked}
+use Rattle.lfs_fs.proofs.Prelude.{refl}
 use Rattle.lfs_fs.proofs.paths.Steps.{readdir_refused}
 use Rattle.lfs_fs.proofs.read.Calls.{no_directory, readdir_fails, readdir_gives}
 use Rattle.lfs_fs.proofs.Exits.{asked_fails, header_fails, header_read, returned}

@@ -1,5 +1,3 @@
-use Rattle.lfs_fs.proofs.Prelude.{err_from_is_err_and, ap, Err, stat_call}
-use Rattle.lfs_fs.proofs.calls.Answers.{looked, unlooked}
 use Rattle.lfs_fs.proofs.paths.Steps.{stat_refused}
 use Rattle.lfs_fs.proofs.read.Calls.{stat_gives, stat_quiet}
 use Rattle.lfs_fs.proofs.Exits.{header_fails, header_read, returned}

@@ -1,4 +1,4 @@
-use Rattle.lfs_fs.proofs.Prelude.{err_from_is_err_and, refl, Widen, seen}
+use Rattle.lfs_fs.proofs.Prelude.{refl, seen}
 use Rattle.lfs_steps.proofs.widen.Steps.{widen_refused}
 use Rattle.lfs_fs.proofs.Exits.{returned}
 use Rattle.lfs_fs.proofs.fs.Fs.widen.Goals as goal

@@ -1,5 +1,4 @@
-use Rattle.lfs_fs.proofs.Prelude.{err_from_is_err_and, rules, Err, ◌≡◌, ◌≢◌, ap, refl, sym, ◌∙◌}
-use Rattle.lfs_fs.proofs.calls.Answers.{looked, unlooked}
+use Rattle.lfs_fs.proofs.Prelude.{rules, ◌≡◌, ◌≢◌, refl, sym, ◌∙◌}
 use Rattle.lfs_fs.proofs.widen.Ends.{narrow_reached, no_directory, old_volume, wide_already}
 use Rattle.lfs_fs.proofs.Exits.{header_fails, header_read, returned}
 use Rattle.lfs_fs.proofs.fs.Fs.widen_at.Goals as goal

@@ -1,6 +1,3 @@
-use Rattle.std.proofs.Common.{List, subst}
-use Rattle.lfs_cleaner.specs.log.memory.declared.batch.BlockEdit.{BlockEdit}
-use Rattle.lfs_store.specs.Drafting.{NoBlock, LastBlock}
 use Rattle.lfs_store.proofs.DraftedBlocks.{says_block, says_no_block}
 use Rattle.lfs_store.proofs.draft.Draft.find_block.Goals as goal
 

@@ -1,6 +1,3 @@
-use Rattle.std.proofs.Common.{List, subst}
-use Rattle.lfs_cleaner.specs.log.memory.declared.batch.HeaderEdit.{HeaderEdit}
-use Rattle.lfs_store.specs.Drafting.{NoHeader, LastHeader}
 use Rattle.lfs_store.proofs.Drafts.{says_header, says_no_header}
 use Rattle.lfs_store.proofs.draft.Draft.find_header.Goals as goal
 

@@ -1,7 +1,5 @@
-use Rattle.std.proofs.Common.{List, refl, subst}
-use Rattle.lfs_cleaner.specs.log.memory.declared.batch.BlockEdit.{BlockEdit}
+use Rattle.std.proofs.Common.{refl}
 use Rattle.lfs_cleaner.proofs.of_log.of_memory.Going.{ok_then}
-use Rattle.lfs_store.specs.Drafting.{LastBlock}
 use Rattle.lfs_store.proofs.Fitting.{block_replaced, block_appended}
 use Rattle.lfs_store.proofs.Runs.{placed_again, placed_behind}
 use Rattle.lfs_store.proofs.draft.Draft.put_block.Goals as goal

@@ -1,7 +1,5 @@
-use Rattle.std.proofs.Common.{List, refl, subst}
-use Rattle.lfs_cleaner.specs.log.memory.declared.batch.HeaderEdit.{HeaderEdit}
+use Rattle.std.proofs.Common.{refl}
 use Rattle.lfs_cleaner.proofs.of_log.of_memory.Going.{ok_then}
-use Rattle.lfs_store.specs.Drafting.{LastHeader}
 use Rattle.lfs_store.proofs.Fitting.{header_replaced, header_appended}
 use Rattle.lfs_store.proofs.draft.Draft.put_header.Goals as goal
 

@@ -1,6 +1,3 @@
-use Rattle.std.proofs.Common.{sym, subst}
-use Rattle.lfs_cleaner.specs.log.LogState.{LogState}
-use Rattle.lfs_store.specs.Outcomes.{Accepted}
 use Rattle.lfs_store.proofs.store.Store.accept.Goals as goal
 
 pub returns-clause-accepts : goal.returns-clause-accepts

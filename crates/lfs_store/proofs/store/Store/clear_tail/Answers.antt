@@ -1,6 +1,3 @@
-use Rattle.std.proofs.Common.{◌/◌, subst}
-use Rattle.lfs_store.specs.declared.draft.Draft.{Draft}
-use Rattle.lfs_store.specs.Drafting.{PutsBlock}
 use Rattle.lfs_store.proofs.Shrunken.{clears_tail}
 use Rattle.lfs_store.proofs.Keepings.{uncounted_reads}
 use Rattle.lfs_store.proofs.store.Store.clear_tail.Goals as goal

@@ -1,7 +1,4 @@
-use Rattle.std.specs.Prelude.{Result}
-use Rattle.std.proofs.Common.{◌≡◌, true, false, refl, sym, ◌∙◌}
-use Rattle.lfs_files.specs.declared.fault.LogFault.{LogFault}
-use Rattle.lfs_store.specs.Outcomes.{Committed}
+use Rattle.std.proofs.Common.{◌≡◌, true, false, refl}
 use Rattle.lfs_store.proofs.Acceptings.{commits_log, readies_saves}
 use Rattle.lfs_store.proofs.Endings.{exit_is, committed_halted, committed_saved, still_unsaved}
 use Rattle.lfs_store.proofs.store.Store.commit.Goals as goal

@@ -1,8 +1,4 @@
-use Rattle.std.specs.Prelude.{IfErr}
-use Rattle.std.proofs.Common.{rules, ◌≡◌, subst}
-use Rattle.lfs_cleaner.specs.log.LogState.{LogState, IsReadFault}
-use Rattle.lfs_files.specs.declared.fault.StoreFault.{StoreFault}
-use Rattle.lfs_files.specs.declared.fault.StoreFault.TheVariants.{NoMemory}
+use Rattle.std.proofs.Common.{rules}
 use Rattle.lfs_store.proofs.Cuttings.{cuts_even}
 use Rattle.lfs_store.proofs.Keepings.{drafts_uncounted, uncounted_then}
 use Rattle.lfs_store.proofs.store.Store.cut_blocks.Goals as goal

@@ -1,7 +1,4 @@
-use Rattle.std.proofs.Common.{◌/◌, rules, subst, sym}
-use Rattle.lfs_store.specs.declared.draft.Draft.{Draft}
-use Rattle.lfs_store.specs.Drafting.{PutsBlock}
-use Rattle.lfs_store.specs.Writing.{CutsDraft}
+use Rattle.std.proofs.Common.{rules}
 use Rattle.lfs_store.proofs.Cuttings.{cuts_none, cuts_inside}
 use Rattle.lfs_store.proofs.Keepings.{uncounted_reads}
 use Rattle.lfs_store.proofs.store.Store.cut_last.Goals as goal

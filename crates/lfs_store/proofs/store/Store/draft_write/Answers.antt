@@ -1,8 +1,7 @@
-use Rattle.std.proofs.Common.{◌≡◌, ◌≤◌, ◌+◌, ◌/◌, refl, arith, rules, ℕ, length, sym, subst}
+use Rattle.std.proofs.Common.{◌≡◌, ◌+◌, ◌/◌, refl, arith, rules, ℕ, length, subst}
 use Rattle.lfs_cleaner.proofs.of_log.of_memory.Going.{ok_then}
 use Rattle.lfs_store.specs.Drafting.{PutsHeader}
 use Rattle.std.specs.Int.{div_ceil}
-use Rattle.lfs_store.specs.Growing.{IsRun}
 use Rattle.lfs_store.specs.Writing.{resized}
 use Rattle.lfs_cleaner.proofs.of_log.Unsaved.{none_left}
 use Rattle.lfs_cleaner.proofs.of_log.LogReads.{fault_more}

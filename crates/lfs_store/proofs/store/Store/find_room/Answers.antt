@@ -1,7 +1,4 @@
-use Rattle.std.specs.Prelude.{Result}
-use Rattle.lfs_files.specs.declared.fault.LogFault.{LogFault}
 use Rattle.lfs_cleaner.proofs.of_log.of_memory.Going.{ok_then}
-use Rattle.lfs_store.specs.Outcomes.{RoomMade}
 use Rattle.lfs_cleaner.proofs.RoomBounds.{halts_first}
 use Rattle.lfs_store.proofs.Acceptings.{readies_none}
 use Rattle.lfs_store.proofs.EarlyRoom.{readies_then}

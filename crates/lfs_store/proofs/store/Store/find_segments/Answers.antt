@@ -1,7 +1,5 @@
-use Rattle.std.proofs.Common.{rules, ◌≡◌, Err, subst}
-use Rattle.lfs_files.specs.declared.fault.LogFault.{LogFault}
+use Rattle.std.proofs.Common.{rules, ◌≡◌}
 use Rattle.lfs_files.specs.declared.fault.LogFault.TheVariants.{Device, Halted}
-use Rattle.lfs_store.specs.Outcomes.{RoomMade}
 use Rattle.lfs_store.proofs.Acceptings.{cannot_lack, where_ok}
 use Rattle.lfs_store.proofs.store.Store.find_segments.Goals as goal
 

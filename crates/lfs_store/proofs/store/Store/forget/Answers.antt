@@ -1,9 +1,6 @@
-use Rattle.std.specs.Prelude.{Result, OnErr}
-use Rattle.std.proofs.Common.{◌∙◌, subst, sym}
+use Rattle.std.proofs.Common.{subst}
 use Rattle.lfs_cleaner.specs.log.verify.declared.totals.BlockTotals.{BlockTotals}
-use Rattle.lfs_store.specs.Recounting.{CountsGone, Recounts}
-use Rattle.lfs_cleaner.specs.log.LogState.{IsKept, IsReadFault}
-use Rattle.lfs_files.specs.declared.fault.LogFault.{LogFault}
+use Rattle.lfs_store.specs.Recounting.{Recounts}
 use Rattle.lfs_store.proofs.Endings.{exit_is}
 use Rattle.lfs_cleaner.proofs.of_log.LogReads.{fault_more}
 use Rattle.lfs_store.proofs.Recounted.{gone_counts, kept_read, kept_more, removed_more}

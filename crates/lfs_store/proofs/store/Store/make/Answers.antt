@@ -1,4 +1,3 @@
-use Rattle.lfs_files.specs.Headers.{first_header}
 use Rattle.lfs_store.proofs.StoreMade.{counts_made, makes}
 use Rattle.lfs_store.proofs.store.Store.make.Goals as goal
 

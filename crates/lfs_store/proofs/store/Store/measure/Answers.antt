@@ -1,9 +1,6 @@
-use Rattle.std.specs.Prelude.{min, Option, Result, OnErr}
+use Rattle.std.specs.Prelude.{min, Option}
 use Rattle.std.proofs.Common.{◌≤◌, ◌*◌, ℕ, subst, arith}
-use Rattle.lfs_cleaner.specs.log.LogState.{IsReadFault}
 use Rattle.lfs_cleaner.specs.log.memory.files.declared.header.Header.{Header}
-use Rattle.lfs_files.specs.declared.fault.LogFault.{LogFault}
-use Rattle.lfs_store.specs.declared.totals.Measure.{Measure}
 use Rattle.lfs_store.proofs.Endings.{exit_is}
 use Rattle.lfs_store.specs.declared.draft.Draft.{Draft}
 use Rattle.lfs_store.specs.Measuring.{CountsStored, CountsPointers}

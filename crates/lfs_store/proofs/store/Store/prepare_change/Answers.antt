@@ -1,13 +1,10 @@
-use Rattle.std.specs.Prelude.{Result}
 use Rattle.std.proofs.Common.{rules, ◌≤◌, ◌+◌, ◌/◌, sym, subst, arith}
 use Rattle.lfs_cleaner.specs.log.LogState.{LogState}
 use Rattle.lfs_cleaner.proofs.of_log.of_memory.Going.{ok_then}
 use Rattle.lfs_model.specs.declared.limits.TheConstants.{MOST_UNSAVED}
-use Rattle.lfs_files.specs.declared.fault.LogFault.{LogFault}
 use Rattle.lfs_store.specs.declared.draft.Draft.{Draft}
 use Rattle.lfs_store.specs.Accepting.{HasClean}
 use Rattle.lfs_store.specs.StoreState.{asked_by}
-use Rattle.lfs_store.specs.Outcomes.{RoomMade}
 use Rattle.lfs_store.proofs.EarlyRoom.{told_cleaned}
 use Rattle.lfs_store.proofs.Endings.{exit_is, made_then}
 use Rattle.lfs_store.proofs.store.Store.prepare_change.Goals as goal

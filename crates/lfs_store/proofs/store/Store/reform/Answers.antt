@@ -1,4 +1,3 @@
-use Rattle.lfs_files.specs.Headers.{reformed}
 use Rattle.lfs_store.proofs.StoreMade.{header_counts, reforms}
 use Rattle.lfs_store.proofs.store.Store.reform.Goals as goal
 

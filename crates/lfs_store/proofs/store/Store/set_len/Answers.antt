@@ -1,4 +1,4 @@
-use Rattle.std.proofs.Common.{◌/◌, arith}
+use Rattle.std.proofs.Common.{arith}
 use Rattle.lfs_store.proofs.Between.{counts_between, sets_between, sized_file}
 use Rattle.lfs_store.proofs.Endings.{exit_is}
 use Rattle.lfs_store.proofs.Keepings.{counted_fault, counted_redrafts, measured_fault, measured_redrafts, reads_redrafts}

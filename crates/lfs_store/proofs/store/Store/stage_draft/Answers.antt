@@ -1,4 +1,4 @@
-use Rattle.std.proofs.Common.{rules, ◌≡◌, true, false, sym, ◌∙◌, Err}
+use Rattle.std.proofs.Common.{rules, ◌≡◌, true, false, Err}
 use Rattle.lfs_cleaner.specs.log.memory.files.declared.fault.LogFault.TheVariants.{Device}
 use Rattle.lfs_store.proofs.Acceptings.{asks_much, where_err}
 use Rattle.lfs_store.proofs.Endings.{accepted_halted, accepted_refused, accepted_staged, accepted_unready}

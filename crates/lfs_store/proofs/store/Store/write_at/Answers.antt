@@ -1,6 +1,4 @@
-use Rattle.std.proofs.Common.{◌≤◌, ◌/◌, sym, subst, arith}
-use Rattle.lfs_store.specs.declared.draft.Draft.{Draft}
-use Rattle.lfs_cleaner.specs.log.memory.Batch.{IsNoChange, room_for}
+use Rattle.std.proofs.Common.{arith}
 use Rattle.lfs_store.proofs.Between.{asked_between, counts_between, writes_between, written_file}
 use Rattle.lfs_store.proofs.Endings.{exit_is}
 use Rattle.lfs_store.proofs.Keepings.{counted_fault, counted_redrafts, measured_fault, measured_redrafts, reads_redrafts}
