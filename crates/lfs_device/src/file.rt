@@ -27,6 +27,7 @@ pub struct FileDeviceIn<W: World> {
     ghost fits: { sectors < 2 ^ 32 },
     opened: Snapshot<Metadata>,
     history: Snapshot<History>,
+    last_error: Option<i32>,
     ghost whole: { AreWhole (calls_of history.value) } by { AreWhole-prop (calls_of history.value) },
 }
 
@@ -66,7 +67,14 @@ impl<W: World> FileDeviceIn<W> {
             sectors: u32::try_from(len / 512).unwrap_or(u32::MAX),
             opened: Snapshot::of(&metadata),
             history: Snapshot::of(&History::Opened),
+            last_error: None,
         })
+    }
+
+    /// The system's number (`errno`) of the newest call that failed: none where none did, or where
+    /// the system gave none, as at the end of the file.
+    pub fn last_error(&self) -> Option<i32> {
+        self.last_error
     }
 }
 
@@ -103,7 +111,8 @@ impl<W: World> SectorDevice for FileDeviceIn<W> {
         ensures told { (state_of_file self.new).told ≡ (state_of_file self.old).told }
         ensures never_unreadable { ¬ (IsErrOf result ReadFault.Unreadable) }
     {
-        if self.file.read_exact_at(out, offset(sector)).is_err() {
+        if let Err(error) = self.file.read_exact_at(out, offset(sector)) {
+            self.last_error = error.raw_os_error();
             note(Call::Failed, &mut self.history);
             return Err(ReadFault::Failed);
         }
@@ -134,7 +143,8 @@ impl<W: World> SectorDevice for FileDeviceIn<W> {
         ensures spreads { CrashSpreads sector bytes.now (state_of_file self.old)
             (state_of_file self.new) }
     {
-        if self.file.write_all_at(bytes, offset(sector)).is_err() {
+        if let Err(error) = self.file.write_all_at(bytes, offset(sector)) {
+            self.last_error = error.raw_os_error();
             note(
                 Call::Refused(sector, Snapshot::of(bytes)),
                 &mut self.history,
@@ -149,7 +159,8 @@ impl<W: World> SectorDevice for FileDeviceIn<W> {
     }
 
     fn sync(&mut self) -> Result<(), DeviceFault> {
-        if self.file.sync_all().is_err() {
+        if let Err(error) = self.file.sync_all() {
+            self.last_error = error.raw_os_error();
             note(Call::Failed, &mut self.history);
             return Err(DeviceFault);
         }

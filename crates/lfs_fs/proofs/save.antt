@@ -1,3 +1,4 @@
 pub mod Declined
 pub mod Ends
 pub mod Room
+pub mod Saved

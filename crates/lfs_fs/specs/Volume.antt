@@ -122,6 +122,10 @@ module _ {D : Type 0} (state : D → DeviceState) where
     pub running : v.log.halted ≡ false → Runs v p.state
     pub leaves : LeavesSome (state v.log.device)
 
+  -- a stop now leaves the state that the volume is in, without its files of no name
+  abbrev pub LeavesAll : Mounted D → Type 0
+  LeavesAll v = (p : Point) → v.log.halted ≡ false → IsAt v p → LeavesOne (state v.log.device) (drop_nameless p.state)
+
   -- A volume whose log was only read.
   pub record IsStill (old new : Mounted D) : Type 0 where
     pub reads : Reads state old.log new.log

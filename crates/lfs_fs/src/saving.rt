@@ -1,6 +1,7 @@
-//! The calls that save.
+//! The calls that save, and whether all is saved.
+ghost use Rattle.std.specs.Prelude.{◌≡◌, IsTrue};
 ghost use Rattle.lfs_model.specs.Call.{Fsync, Sync, Done};
-ghost use Rattle.lfs_fs.specs.Volume.{Serves};
+ghost use Rattle.lfs_fs.specs.Volume.{LeavesAll, Serves};
 ghost use Rattle.lfs_fs.specs.Seen.{seen, answer_by};
 
 use crate::error::FsError;
@@ -8,6 +9,16 @@ use crate::fs::Fs;
 use lfs_device::SectorDevice;
 
 impl<D: SectorDevice> Fs<D> {
+    /// Whether all that was done is saved: a stop now takes away nothing but files without a name.
+    /// A `sync` would write nothing.
+    #[tactic(auto, using(saved_left))]
+    pub fn is_saved(&self) -> bool
+        ensures value { result ≡ (seen self.now).log.saved }
+        ensures kept { IsTrue result → LeavesAll D.SectorDevice.state (seen self.now) }
+    {
+        self.store.is_saved()
+    }
+
     /// Saves the whole volume: after Ok every call before this one survives a stop (POSIX.1-2017,
     /// sync). Where all is saved nothing is written.
     ///

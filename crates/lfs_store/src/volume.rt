@@ -44,6 +44,13 @@ impl<D: SectorDevice> Store<D> {
         self.log.are_tables_whole();
     }
 
+    /// Whether nothing that was done waits for a checkpoint.
+    pub fn is_saved(&self) -> bool
+        ensures { result ≡ (volume_of self.now).saved }
+    {
+        self.log.is_saved()
+    }
+
     /// The device as it is, to look at.
     pub fn device(&self) -> &D
         ensures { result.now ≡ (volume_of self.now).device }
