@@ -13,6 +13,7 @@ use crate::remembering::LineKeeper;
 use crate::request::{Action, Request, read_request};
 use crate::simulation;
 use crate::simulation::{Plan, read_plan};
+use crate::terminals::Terminals;
 use lfs_device::{Left, MemDevice, SectorDevice, ThisWorld, World};
 use lfs_recover::image::fault::{Ending, Fault, Outcome, Refusal, Told};
 use lfs_recover::image::foreign::explained;
@@ -281,6 +282,7 @@ fn sim<I: Read, W: Write>(
 fn act<Here: World, R: Files<File = File> + Clock, I: Read, W: Write>(
     rt: &R,
     alloc: Global,
+    terminals: Terminals,
     image: &str,
     action: Action<'_>,
     input: &mut I,
@@ -301,7 +303,9 @@ fn act<Here: World, R: Files<File = File> + Clock, I: Read, W: Write>(
         Action::Recover(asked) => recover::<Here, R, W>(rt, alloc, image, asked, output),
         Action::Change(asked) => change_volume::<Here, R, W>(rt, alloc, image, asked, output),
         Action::Run => run::<Here, R, I, W>(rt, alloc, image, input, output),
-        Action::Put(source) => put_into::<Here, R, I, W>(rt, alloc, image, source, input, output),
+        Action::Put(source) => {
+            put_into::<Here, R, I, W>(rt, alloc, terminals, image, source, input, output)
+        }
     }
 }
 
@@ -331,6 +335,7 @@ fn help<W: Write>(text: &str, output: &mut W) -> Result<Ending, Fault> {
 fn answer<'a, R: Files<File = File> + Clock, I: Read, W: Write>(
     rt: &R,
     alloc: Global,
+    terminals: Terminals,
     words: &'a [String],
     input: &mut I,
     output: &mut W,
@@ -341,7 +346,9 @@ fn answer<'a, R: Files<File = File> + Clock, I: Read, W: Write>(
     match read_request(alloc, words)? {
         Request::Help(text) => told(IN_MEMORY, None, help(text.as_str(), output)),
         Request::Image { image, action } => {
-            let ending = act::<ThisWorld, R, I, W>(rt, alloc, image, action, input, output);
+            let ending = act::<ThisWorld, R, I, W>(
+                rt, alloc, terminals, image, action, input, output,
+            );
             told(image, action.path(), ending)
         }
         Request::Strict { image } => {
@@ -370,6 +377,7 @@ fn answer<'a, R: Files<File = File> + Clock, I: Read, W: Write>(
 fn answer_and_flush<'a, R: Files<File = File> + Clock, I: Read, W: Write>(
     rt: &R,
     alloc: Global,
+    terminals: Terminals,
     words: &'a [String],
     input: &mut I,
     output: &mut W,
@@ -377,7 +385,7 @@ fn answer_and_flush<'a, R: Files<File = File> + Clock, I: Read, W: Write>(
     ensures strict { IfOk result (λ told. told.outcome ≡ Outcome.CallRefused
         → HasWord words.now (codes "--strict")) }
 {
-    let answered = answer(rt, alloc, words, input, output);
+    let answered = answer(rt, alloc, terminals, words, input, output);
     let flushed = flush(output);
     let told = answered?;
     flushed?;
@@ -389,6 +397,7 @@ fn answer_and_flush<'a, R: Files<File = File> + Clock, I: Read, W: Write>(
 fn answer_buffered<'a, R: Files<File = File> + Clock, I: Read, O: Write>(
     rt: &R,
     alloc: Global,
+    terminals: Terminals,
     words: &'a [String],
     input: &mut I,
     output: &mut O,
@@ -397,7 +406,7 @@ fn answer_buffered<'a, R: Files<File = File> + Clock, I: Read, O: Write>(
         → HasWord words.now (codes "--strict")) }
 {
     match BufWriter::new(alloc, output) {
-        Ok(mut buffered) => answer_and_flush(rt, alloc, words, input, &mut buffered),
+        Ok(mut buffered) => answer_and_flush(rt, alloc, terminals, words, input, &mut buffered),
         Err(_) => Err(Fault::Memory(AllocError)),
     }
 }
@@ -416,9 +425,10 @@ fn tell<I, E: Write>(alloc: Global, told: Told<'_>, input: &LineKeeper<I>, error
 /// done, 1 a command refused, or input, output or memory failed, 2 a bad line of the script or a
 /// bad command line, 3 a call of a script refused, where the words ask for an end there. Where it
 /// isn't 0, a text for people goes to `errors`, and behind a look beside another program's writes.
-pub fn command<R: Files<File = File> + Clock, I: Read, O: Write, E: Write>(
+pub fn command_at<R: Files<File = File> + Clock, I: Read, O: Write, E: Write>(
     rt: &R,
     alloc: Global,
+    terminals: Terminals,
     words: &[String],
     input: &mut I,
     output: &mut O,
@@ -428,7 +438,7 @@ pub fn command<R: Files<File = File> + Clock, I: Read, O: Write, E: Write>(
     ensures strict { result ≡ 3 → HasWord words.now (codes "--strict") }
 {
     let mut input = LineKeeper::new(alloc, input);
-    match answer_buffered(rt, alloc, words, &mut input, output) {
+    match answer_buffered(rt, alloc, terminals, words, &mut input, output) {
         Ok(told) => {
             let status = told.outcome.status();
             if told.has_text() {
@@ -442,4 +452,19 @@ pub fn command<R: Files<File = File> + Clock, I: Read, O: Write, E: Write>(
             status
         }
     }
+}
+
+/// As `command_at`, where no stream is a terminal.
+pub fn command<R: Files<File = File> + Clock, I: Read, O: Write, E: Write>(
+    rt: &R,
+    alloc: Global,
+    words: &[String],
+    input: &mut I,
+    output: &mut O,
+    errors: &mut E,
+) -> u8
+    ensures most { result ≤ 3 }
+    ensures strict { result ≡ 3 → HasWord words.now (codes "--strict") }
+{
+    command_at(rt, alloc, Terminals::NONE, words, input, output, errors)
 }

@@ -1,4 +1,5 @@
 //! The command that puts a file into a volume, from standard input or from a file of the host.
+use crate::terminals::Terminals;
 use lfs_device::{SectorDevice, World};
 use lfs_recover::image::fault::{Ending, Fault, Refusal};
 use lfs_recover::image::host::HostFault;
@@ -97,6 +98,7 @@ fn put_from<D: SectorDevice, R: Files<File = File>, I: Read, W: Write>(
 pub fn put_into<Here: World, R: Files<File = File> + Clock, I: Read, W: Write>(
     rt: &R,
     alloc: Global,
+    terminals: Terminals,
     image: &str,
     source: Source<'_>,
     input: &mut I,
