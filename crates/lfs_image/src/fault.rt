@@ -71,6 +71,8 @@ pub enum Refusal {
     Full(u64),
     /// A file is to have the name under which files stand until they are whole.
     Unfinished,
+    /// Standard input, of which a file is to be made, has no byte.
+    NoInput,
 }
 
 impl Refusal {
@@ -78,7 +80,7 @@ impl Refusal {
     pub fn name(self) -> &'static str {
         match self {
             Refusal::Inval | Refusal::Unfinished => "Inval",
-            Refusal::Image(_) => "Image",
+            Refusal::Image(_) | Refusal::NoInput => "Image",
             Refusal::Format(fault) => fault.name(),
             Refusal::Damaged(_) => "Damaged",
             Refusal::Mount(fault) | Refusal::Foreign(fault) => fault.name(),
@@ -103,7 +105,7 @@ impl Refusal {
     /// Whether it is about the path that a command has.
     pub fn is_of_path(self) -> bool {
         match self {
-            Refusal::Unfinished | Refusal::Full(_) => true,
+            Refusal::Unfinished | Refusal::NoInput | Refusal::Full(_) => true,
             Refusal::Call(fault) => !matches!(
                 fault,
                 FsError::NoMemory
@@ -130,6 +132,7 @@ impl Refusal {
             Refusal::Call(fault) => reason::of_call(fault),
             Refusal::Full(_) => reason::of_call(FsError::NoSpace),
             Refusal::Unfinished => reason::UNFINISHED,
+            Refusal::NoInput => reason::NO_INPUT,
         }
     }
 }

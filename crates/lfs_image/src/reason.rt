@@ -9,6 +9,9 @@ const DEVICE: &str = "a read, a write or a sync of it failed";
 /// Of a file that is to have the name under which files stand until they are whole.
 pub const UNFINISHED: &str = "this is the name under which `put` keeps a file that isn't whole yet";
 
+/// Of standard input without a byte, of which a file is to be made.
+pub const NO_INPUT: &str = "standard input has no byte; with - as FILE an empty file is put";
+
 /// Of an image that isn't mounted, and whose first two sectors begin as no checkpoint does.
 pub const FOREIGN: &str =
     "this is no Pansuyog volume, or both its checkpoints are lost; mkfs would empty it";
