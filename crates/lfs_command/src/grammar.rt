@@ -168,7 +168,7 @@ const OF_FILE: Parameter = Parameter {
     name: FILE,
     form: Form::OptionalWord,
     value: FILE,
-    help: "A file of the host, or else standard input",
+    help: "A file of the host, or - for standard input",
 };
 
 const TO_FOLDER: Parameter = Parameter {
@@ -297,7 +297,8 @@ const VOLUME_USAGES: &[Usage] = &[
         name: "run",
         about: "Run the script on standard input, and print a reply to each line",
         details: "Run the script on standard input, and print a reply to each line. The image is\n\
-            locked meanwhile. What the script doesn't sync may be gone at its end.",
+            locked meanwhile. What the script doesn't sync may be gone at its end; a last\n\
+            line on standard error says so then.",
         parameters: &[THE_IMAGE, STRICTLY],
     },
     Usage {
@@ -354,10 +355,12 @@ const FILE_USAGES: &[Usage] = &[
         name: "put",
         about: "Make a file of standard input, or of a file of the host",
         details: "Make the bytes of FILE, or of standard input, those of the file PATH, and print\n\
-            `ok` and their number. The new file stands as `.lfs-put` in the same directory\n\
-            until it is whole and synced, and then takes the place of the old one: after any\n\
-            stop the old file or the new one is there. What stood as `.lfs-put` is removed.\n\
-            Of a symbolic link the link itself is replaced; a directory is refused.",
+            `ok` and their number. Without FILE standard input has to have a byte and to be\n\
+            no terminal; ./- is a file with the name -. The new file stands as `.lfs-put` in\n\
+            the same directory until it is whole and synced, and then takes the place of the\n\
+            old one: after any stop the old file or the new one is there. What stood as\n\
+            `.lfs-put` is removed. Of a symbolic link the link itself is replaced; a\n\
+            directory is refused.",
         parameters: &[THE_IMAGE, THE_PATH, OF_FILE],
     },
     Usage {

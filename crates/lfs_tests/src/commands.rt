@@ -1,5 +1,5 @@
 // Rows of commands over image files and over volumes in memory, carried out one after another.
-use lfs_command::command;
+use lfs_command::{Terminals, command, command_at};
 use rand_core::Rng;
 use rand_pcg::Pcg32;
 use std::alloc::{AllocError, Global};
@@ -83,6 +83,8 @@ type Piece<'a> = (u64, u64, &'a [u8]);
 enum Step<'a> {
     /// Command lines, the standard input of each, its exit status, and what it says.
     Says(&'a [&'a str], &'a [u8], u8, Said<'a>),
+    /// A command line at a terminal where this is typed, its exit status, and what it says.
+    AtTerminal(&'a str, &'a [u8], u8, Said<'a>),
     /// A command line that is given so many letters, its exit status, and what it says.
     Reads(&'a str, usize, u8, Said<'a>),
     /// A command line that is given a text so many times and these bytes behind it, its exit
@@ -171,6 +173,36 @@ fn says<R: Files<File = File> + Clock + AllocGlobal>(
     said: Said<'_>,
 ) -> bool {
     speaks(rt, line, &mut input, status, said)
+}
+
+// The same at a terminal.
+fn says_at_terminal<R: Files<File = File> + Clock + AllocGlobal>(
+    rt: &R,
+    line: &str,
+    mut input: &[u8],
+    status: u8,
+    said: Said<'_>,
+) -> bool {
+    let alloc = rt.alloc();
+    let Ok(words) = words(alloc, line) else {
+        return false;
+    };
+    let terminals = Terminals {
+        input: true,
+        errors: true,
+    };
+    let mut output = Vec::new(alloc);
+    let mut errors = Vec::new(alloc);
+    let found = command_at(
+        rt,
+        alloc,
+        terminals,
+        words.as_slice(),
+        &mut input,
+        &mut output,
+        &mut errors,
+    );
+    found == status && said.is(line, status, output.as_slice(), errors.as_slice())
 }
 
 // The same over these bytes and a failed read behind them.
@@ -328,6 +360,9 @@ fn locked<R: Files<File = File> + Clock + AllocGlobal>(
 fn is_well<R: Files<File = File> + Clock + AllocGlobal>(rt: &R, step: Step<'_>) -> bool {
     match step {
         Step::Says(lines, input, status, said) => each_says(rt, lines, input, status, said),
+        Step::AtTerminal(line, input, status, said) => {
+            says_at_terminal(rt, line, input, status, said)
+        }
         Step::Reads(line, letters, status, said) => reads(rt, line, letters, status, said),
         Step::Repeats(line, times, text, last, status, said) => {
             let input = repeated(rt.alloc(), times, text, last);
@@ -610,7 +645,10 @@ const SCRIPTS: &[Step] = &[
         &["lfs run b.img"],
         b"create /f\npwrite 0 0 616263\npread 0 3 5\npread 0 0 0\npread 0 1 65536\npread 0 0 65537\npwrite 0 99999999 -\n",
         0,
-        Said::Reply(b"ok 0\nok 3\nok -\nok -\nok 6263\nerr Inval\nok 0\n"),
+        Said::Tells(
+            b"ok 0\nok 3\nok -\nok -\nok 6263\nerr Inval\nok 0\n",
+            b"lfs: b.img: what was done since the last `sync` isn't saved; end the script with the line sync\n",
+        ),
     ),
     Step::Says(&["lfs mount b.img"], b"", 0, EMPTY),
     Step::Says(&["lfs mkfs b.img --segments 64"], b"", 0, OK),
@@ -1581,6 +1619,9 @@ fn a_stop_at_each_write(rt: HostRuntime) {
 
 const CALL_REFUSED: &[u8] = b"lfs: s.img: a call of the script was refused\n";
 
+const REFUSED_UNSAVED: &[u8] =
+    b"lfs: s.img: a call of the script was refused\nlfs: s.img: what was done since the last `sync` isn't saved; end the script with the line sync\n";
+
 // The script ends at the first refusal, and what was synced before it stays.
 const STRICT: &[Step] = &[
     Step::Says(&["lfs mkfs s.img --segments 64"], b"", 0, OK),
@@ -1594,7 +1635,7 @@ const STRICT: &[Step] = &[
         &["lfs run s.img --strict", "lfs run --strict s.img"],
         b"create /a\nopen /b\ncreate /c\nsync\n",
         3,
-        Said::Tells(b"ok 0\nerr NoEntry\n", CALL_REFUSED),
+        Said::Tells(b"ok 0\nerr NoEntry\n", REFUSED_UNSAVED),
     ),
     Step::Says(&["lfs mount s.img"], b"", 0, EMPTY),
     Step::Says(
@@ -1613,7 +1654,10 @@ const STRICT: &[Step] = &[
         &["lfs run s.img --strict"],
         b"create /a\nfrob\nopen /b\n",
         2,
-        Said::Reply(b"ok 0\nbad 2\n"),
+        Said::Tells(
+            b"ok 0\nbad 2\n",
+            b"lfs: line 2: no command has the word 'frob'\nlfs: s.img: what was done since the last `sync` isn't saved; end the script with the line sync\n",
+        ),
     ),
     Step::Says(
         &["lfs run s.img"],
@@ -1818,6 +1862,111 @@ const UNFINISHED: Said = Said::OfPath(
 
 const TOO_LONG: Said = Said::OfPath(b"err NameTooLong\n", b"a name or a path is too long");
 
+const UNSAVED: &[u8] =
+    b"lfs: n.img: what was done since the last `sync` isn't saved; end the script with the line sync\n";
+
+// Where something that a script did isn't saved at its end, a last line tells so. The end saves
+// nothing.
+const UNSAVED_ENDS: &[Step] = &[
+    Step::Says(&["lfs mkfs n.img --segments 64"], b"", 0, OK),
+    Step::Says(
+        &["lfs run n.img", "lfs run --strict n.img"],
+        b"mkdir /d\ncreate /a",
+        0,
+        Said::Tells(b"ok\nok 0\n", UNSAVED),
+    ),
+    Step::Says(
+        &["lfs run n.img"],
+        b"create /a\nsync\ncreate /b\nfrob\n",
+        2,
+        Said::Tells(
+            b"ok 0\nok\nok 1\nbad 4\n",
+            b"lfs: line 4: no command has the word 'frob'\nlfs: n.img: what was done since the last `sync` isn't saved; end the script with the line sync\n",
+        ),
+    ),
+    Step::Says(
+        &["lfs mount n.img"],
+        b"",
+        0,
+        Said::Reply(b"ok 1\n1 a file 2 1 0 -\n"),
+    ),
+    // A sync of one file saves all, and looks change nothing.
+    Step::Says(
+        &["lfs run n.img"],
+        b"open /a\npwrite 0 0 61\nfsync 0\n",
+        0,
+        Said::Tells(b"ok 0\nok 1\nok\n", b""),
+    ),
+    Step::Says(
+        &["lfs run n.img", "lfs run --strict n.img"],
+        b"open /a\npread 0 0 9\nreaddir /\ntree\nspace\nclose 0\n",
+        0,
+        Said::Tells(
+            b"ok 0\nok 61\nok 1\na 2 file\nok 1\n1 a file 2 1 1 61\nok 2 2 736 3008\nok\n",
+            b"",
+        ),
+    ),
+    Step::Says(
+        &["lfs sim --segments 64 --stop 100 --left old"],
+        b"create /a\n",
+        0,
+        Said::Tells(b"ok 0\nwrites 0\nok 0\n", b""),
+    ),
+    Step::Remove("n.img"),
+];
+
+#[test]
+fn ends_of_scripts_that_save_nothing(rt: HostRuntime) {
+    want(&rt, UNSAVED_ENDS);
+}
+
+const NO_INPUT: Said = Said::OfPath(
+    b"err Image\n",
+    b"standard input has no byte; with - as FILE an empty file is put",
+);
+
+const NO_WORD: Said = Said::Tells(
+    b"",
+    b"lfs: put has no FILE, and standard input is a terminal; say one of\n  lfs put IMAGE PATH FILE\n  ... | lfs put IMAGE PATH -\n",
+);
+
+// Standard input without a word for it has a byte, and is no terminal. The path comes before it.
+const INPUTS: &[Step] = &[
+    Step::Says(&["lfs mkfs p.img --segments 64"], b"", 0, OK),
+    Step::Says(&["lfs put p.img /f"], b"old", 0, Said::Reply(b"ok 3\n")),
+    Step::Change("-", 6, &[(0, 0, b"hello\n")]),
+    Step::Says(&["lfs put p.img /f", "lfs put p.img /g"], b"", 1, NO_INPUT),
+    Step::Says(&["lfs put p.img /"], b"", 1, THE_ROOT),
+    Step::AtTerminal("lfs put p.img /f", b"new", 2, NO_WORD),
+    Step::AtTerminal("lfs put none.img \\2F", b"", 2, NO_WORD),
+    Step::Says(
+        &["lfs mount p.img"],
+        b"",
+        0,
+        Said::Reply(b"ok 1\n1 f file 2 1 3 6f6c64\n"),
+    ),
+    Step::Says(&["lfs put p.img /f -"], b"new", 0, Said::Reply(b"ok 3\n")),
+    Step::Says(&["lfs put p.img /g -"], b"", 0, Said::Reply(b"ok 0\n")),
+    Step::AtTerminal("lfs put p.img /h -", b"typed", 0, Said::Reply(b"ok 5\n")),
+    Step::AtTerminal("lfs put p.img /i -", b"", 0, Said::Reply(b"ok 0\n")),
+    Step::AtTerminal("lfs put p.img /k ./-", b"no", 0, Said::Reply(b"ok 6\n")),
+    Step::Says(
+        &["lfs mount p.img"],
+        b"",
+        0,
+        Said::Reply(
+            b"ok 5\n1 f file 3 1 3 6e6577\n1 g file 2 1 0 -\n1 h file 4 1 5 7479706564\n1 i file 5 1 0 -\n1 k file 6 1 6 68656c6c6f0a\n",
+        ),
+    ),
+    Step::Remove("-"),
+    Step::Remove("p.img"),
+];
+
+#[test]
+fn standard_input_is_put(rt: HostRuntime) {
+    want(&rt, INPUTS);
+}
+
 // The new file takes the least number that is free, while the old one still has its own.
 const PUTS: &[Step] = &[
     Step::Says(&["lfs mkfs p.img --segments 64"], b"", 0, OK),
@@ -1840,7 +1989,7 @@ const PUTS: &[Step] = &[
         0,
         Said::Reply(b"ok 1\n1 f file 3 1 6 6e65770a00ff\n"),
     ),
-    Step::Says(&["lfs put p.img f"], b"", 0, Said::Reply(b"ok 0\n")),
+    Step::Says(&["lfs put p.img f -"], b"", 0, Said::Reply(b"ok 0\n")),
     Step::Says(
         &["lfs mount p.img"],
         b"",
