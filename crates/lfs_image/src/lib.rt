@@ -15,6 +15,7 @@ mod mounts;
 pub mod printing;
 mod reason;
 pub mod room;
+mod sparse;
 pub mod viewing;
 mod walking;
 
