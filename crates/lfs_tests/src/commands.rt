@@ -5,7 +5,7 @@ use rand_pcg::Pcg32;
 use std::alloc::{AllocError, Global};
 use std::fs::{File, Permissions};
 use std::io::{Read, Write};
-use std::os::unix::fs::{FileExt, MetadataExt, PermissionsExt};
+use std::os::unix::fs::{FileExt, MetadataExt, PermissionsExt, symlink};
 use std::process::Abort;
 use std::rt::Files;
 use std::time::Clock;
@@ -119,6 +119,10 @@ enum Step<'a> {
     Locked(&'a str, &'a [&'a str], u8, Said<'a>),
     /// Lets nobody write a file.
     Protect(&'a str),
+    /// Gives a file a further name.
+    Name(&'a str, &'a str),
+    /// Makes a symbolic link of this name with this text.
+    Link(&'a str, &'a str),
 }
 
 fn words(alloc: Global, line: &str) -> Result<Vec<String>, AllocError> {
@@ -395,6 +399,8 @@ fn is_well<R: Files<File = File> + Clock + AllocGlobal>(rt: &R, step: Step<'_>) 
         Step::Protect(path) => {
             fs::set_permissions(rt, path, Permissions::from_mode(0o444)).is_ok()
         }
+        Step::Name(path, name) => fs::hard_link(rt, path, name).is_ok(),
+        Step::Link(path, text) => symlink(rt, text, path).is_ok(),
     }
 }
 
@@ -1488,6 +1494,206 @@ const MEDIA: &[Step] = &[
 #[test]
 fn images_that_others_use(rt: HostRuntime) {
     want(&rt, MEDIA);
+}
+
+const DONE: Said = Said::Tells(b"ok\n", b"");
+
+const ONE_FILE_STAYS: Said = Said::Tells(
+    b"err Image\n",
+    b"lfs: q.img: this seems to be a volume with 1 file; make a new one over it? [y/N] \
+    lfs: q.img: the answer wasn't yes, so nothing was done\n",
+);
+
+// Where the input ends the text begins a line of its own.
+const ENDED_STAYS: Said = Said::Tells(
+    b"err Image\n",
+    b"lfs: q.img: this seems to be a volume with 1 file; make a new one over it? [y/N] \n\
+    lfs: q.img: the answer wasn't yes, so nothing was done\n",
+);
+
+// A file that has bytes is emptied only where a person at a terminal agrees.
+const QUESTIONS: &[Step] = &[
+    Step::Change("q.want", LEN, NEW),
+    Step::AtTerminal("lfs mkfs q.img --segments 64", b"", 0, DONE),
+    Step::Same("q.img", "q.want"),
+    Step::AtTerminal(
+        "lfs mkfs q.img --segments 72",
+        b"n\n",
+        1,
+        Said::Tells(
+            b"err Image\n",
+            b"lfs: q.img: this seems to be a volume with 0 files; make a new one over it? [y/N] \
+            lfs: q.img: the answer wasn't yes, so nothing was done\n",
+        ),
+    ),
+    // A file with two names is one.
+    Step::Says(
+        &["lfs run q.img"],
+        b"create /f\nlink /f /g\nmkdir /d\nsymlink 66 /s\nsync\n",
+        0,
+        Said::Reply(b"ok 0\nok\nok\nok\nok\n"),
+    ),
+    Step::AtTerminal("lfs mkfs q.img --segments 64", b"no\n", 1, ONE_FILE_STAYS),
+    Step::AtTerminal("lfs mkfs q.img --segments 64", b"\n", 1, ONE_FILE_STAYS),
+    Step::AtTerminal("lfs mkfs q.img --segments 64", b"yy\n", 1, ONE_FILE_STAYS),
+    Step::AtTerminal("lfs mkfs q.img --segments 64", b"y \n", 1, ONE_FILE_STAYS),
+    Step::AtTerminal("lfs mkfs q.img --segments 64", b"n\ny\n", 1, ONE_FILE_STAYS),
+    Step::AtTerminal("lfs mkfs q.img --segments 64", b"", 1, ENDED_STAYS),
+    Step::AtTerminal("lfs mkfs q.img --segments 64", b"yes", 1, ENDED_STAYS),
+    Step::Says(&["lfs ls q.img"], b"", 0, Said::Reply(b"d/\nf\ng\ns\n")),
+];
+
+// What a question calls the file, and answers that agree.
+const AGREED: &[Step] = &[
+    Step::Change("q.want", LEN, NEW),
+    Step::Change("q.img", 3_000, &[]),
+    Step::AtTerminal(
+        "lfs mkfs q.img --segments 64",
+        b"y\n",
+        0,
+        Said::Tells(
+            b"ok\n",
+            b"lfs: q.img: this seems to be another file of 3,000 bytes; make a volume over it? [y/N] ",
+        ),
+    ),
+    Step::Same("q.img", "q.want"),
+    Step::Change("q.img", 1, &[]),
+    Step::AtTerminal(
+        "lfs mkfs q.img --segments 64",
+        b"Yes\n",
+        0,
+        Said::Tells(
+            b"ok\n",
+            b"lfs: q.img: this seems to be another file of 1 byte; make a volume over it? [y/N] ",
+        ),
+    ),
+    Step::Same("q.img", "q.want"),
+    // A checkpoint that names a segment of usage that isn't there.
+    Step::Change("q.img", LEN, &[(1, 160, &[6])]),
+    Step::AtTerminal(
+        "lfs mkfs q.img --segments 64",
+        b"YES\n",
+        0,
+        Said::Tells(
+            b"ok\n",
+            b"lfs: q.img: this seems to be a damaged volume; make a new one over it? [y/N] ",
+        ),
+    ),
+    Step::Same("q.img", "q.want"),
+    Step::Change("q.img", LEN, &[(0, 0, b"SLFSCKP1"), (1, 0, &[0])]),
+    Step::AtTerminal(
+        "lfs mkfs q.img --segments 64",
+        b"Y\n",
+        0,
+        Said::Tells(
+            b"ok\n",
+            b"lfs: q.img: this seems to be a damaged volume; make a new one over it? [y/N] ",
+        ),
+    ),
+    Step::Same("q.img", "q.want"),
+    // Nothing is asked of an empty file, and by force of none.
+    Step::AtTerminal("lfs mkfs q.img --segments 64 --force", b"", 0, DONE),
+    Step::Change("q.img", 0, &[]),
+    Step::AtTerminal("lfs mkfs q.img --segments 64", b"", 0, DONE),
+    Step::Same("q.img", "q.want"),
+    Step::Remove("q.img"),
+    Step::Remove("q.want"),
+];
+
+#[test]
+fn volumes_over_files(rt: HostRuntime) {
+    want(&rt, QUESTIONS);
+    want(&rt, AGREED);
+}
+
+// A new image stands under another name until it is whole, which one program has at a time. What
+// a stop left under that name begins anew, but never a file that has another name too.
+const UNMADE: &[Step] = &[
+    Step::Change("u.want", LEN, NEW),
+    Step::Change(
+        "u.img.lfs-make",
+        9_000,
+        &[(0, 0, b"left"), (17, 100, b"left")],
+    ),
+    Step::Says(&["lfs mkfs u.img --segments 64"], b"", 0, OK),
+    Step::Same("u.img", "u.want"),
+    Step::Lacks("u.img.lfs-make"),
+    Step::Remove("u.img"),
+    Step::Change("u.img.lfs-make", 0, &[]),
+    Step::Locked(
+        "u.img.lfs-make",
+        &["lfs mkfs u.img --segments 64"],
+        1,
+        Said::Tells(
+            b"err Image\n",
+            b"lfs: u.img: it is in use: another program has held its lock for a second\n",
+        ),
+    ),
+    Step::Lacks("u.img"),
+    Step::Remove("u.img.lfs-make"),
+    Step::Change("kept.img", 4, &[(0, 0, b"kept")]),
+    Step::Change("kept.want", 4, &[(0, 0, b"kept")]),
+    Step::Name("kept.img", "u.img.lfs-make"),
+    Step::Says(&["lfs mkfs u.img --segments 64"], b"", 0, OK),
+    Step::Same("u.img", "u.want"),
+    Step::Lacks("u.img.lfs-make"),
+    Step::Same("kept.img", "kept.want"),
+    Step::Remove("u.img"),
+    Step::Link("u.img.lfs-make", "kept.img"),
+    Step::Says(&["lfs mkfs u.img --segments 64"], b"", 1, ASIDE),
+    Step::Same("kept.img", "kept.want"),
+    Step::Remove("u.img.lfs-make"),
+    Step::Says(
+        &["lfs export u.want u.img.lfs-make"],
+        b"",
+        0,
+        Said::Reply(b"ok 0 files 0 bytes\n"),
+    ),
+    Step::Says(&["lfs mkfs u.img --segments 64"], b"", 1, ASIDE),
+    Step::Lacks("u.img"),
+    Step::RemoveFolder("u.img.lfs-make"),
+    Step::Remove("kept.img"),
+    Step::Remove("kept.want"),
+    Step::Remove("u.want"),
+];
+
+const ASIDE: Said = Said::Tells(
+    b"err Image\n",
+    b"lfs: u.img: something other than a file has its name with `.lfs-make` behind\n",
+);
+
+// Where a symbolic link leads to nothing, what it leads to is made.
+const LED_TO: &[Step] = &[
+    Step::Change("l.want", LEN, NEW),
+    Step::Link("l.img", "./m.img"),
+    Step::Link("m.img", "n.img"),
+    Step::Says(&["lfs mkfs l.img --segments 64"], b"", 0, OK),
+    Step::Same("n.img", "l.want"),
+    Step::LeadsTo("l.img", "./m.img"),
+    Step::LeadsTo("m.img", "n.img"),
+    Step::Lacks("l.img.lfs-make"),
+    Step::Lacks("n.img.lfs-make"),
+    Step::Remove("m.img"),
+    Step::Link("m.img", "none/n.img"),
+    Step::Says(
+        &["lfs mkfs l.img --segments 64"],
+        b"",
+        1,
+        Said::Tells(
+            b"err Image\n",
+            b"lfs: l.img: there is no such file or folder\n",
+        ),
+    ),
+    Step::Remove("l.img"),
+    Step::Remove("m.img"),
+    Step::Remove("n.img"),
+    Step::Remove("l.want"),
+];
+
+#[test]
+fn images_under_way(rt: HostRuntime) {
+    want(&rt, UNMADE);
+    want(&rt, LED_TO);
 }
 
 const NOT_THERE: Said = Said::OfPath(b"err NoEntry\n", b"the volume has nothing of this name");
