@@ -66,28 +66,14 @@ const LOCK_PAUSE: Duration = Duration::from_millis(1);
 
 /// Keeps other programs out. One that looks may hold the lock for a short time, so it is tried for about a second. A file system without
 /// locks refuses nothing.
-fn lock(file: &File) -> io::Result<()> {
+pub(crate) fn lock(file: &File) -> io::Result<()> {
     for _ in 0..LOCK_TRIES {
         match file.try_lock() {
             Err(TryLockError::WouldBlock) => sleep(LOCK_PAUSE),
             _ => return Ok(()),
         }
     }
-    Err(io::Error::new(
-        ErrorKind::WouldBlock,
-        "another program has held the lock of the image for a second",
-    ))
-}
-
-/// Lets the name of a new file stay too, where the file system can.
-fn sync_folder_of(path: &Path) {
-    let folder = match path.parent() {
-        Some(folder) if folder != Path::new("") => folder,
-        _ => Path::new("."),
-    };
-    if let Ok(folder) = File::open(folder) {
-        let _ = folder.sync_all();
-    }
+    Err(io::Error::new(ErrorKind::WouldBlock, "it is in use by another program"))
 }
 
 impl FileDevice {
@@ -99,15 +85,10 @@ impl FileDevice {
         Ok(FileDevice { file })
     }
 
-    /// Makes a file with the sectors of a volume of so many segments, and locks it: `ErrorKind::AlreadyExists` where something has its name.
-    pub fn create(path: impl AsRef<Path>, segments: u32) -> io::Result<FileDevice> {
-        let path = path.as_ref();
-        let file = OpenOptions::new().read(true).write(true).create_new(true).open(path)?;
-        lock(&file)?;
-        file.set_len(SECTOR as u64 * sectors_of(segments))?;
-        file.sync_all()?;
-        sync_folder_of(path);
-        Ok(FileDevice { file })
+    /// Gives the file this length, with nothing in it.
+    pub(crate) fn clear(&mut self, length: u64) -> io::Result<()> {
+        self.file.set_len(0)?;
+        self.file.set_len(length)
     }
 }
 
