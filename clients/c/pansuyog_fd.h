@@ -175,10 +175,11 @@ static inline int32_t pansuyog_read_fd(pansuyog *volume, int fd, pansuyog_failed
     pansuyog_clear(failed);
     if (size < 0) return pansuyog_fail(failed, PANSUYOG_AT_READ, 0);
     if (pansuyog_sync_all(fd)) return pansuyog_fail(failed, PANSUYOG_AT_SYNC, 0);
-    uint32_t sectors = size / PANSUYOG_SECTOR > PANSUYOG_MOST_SECTORS ? PANSUYOG_MOST_SECTORS : (uint32_t)(size / PANSUYOG_SECTOR);
+    off_t most = (off_t)PANSUYOG_MOST_SECTORS * PANSUYOG_SECTOR;
+    uint32_t sectors = (uint32_t)((size > most ? most : size) / PANSUYOG_SECTOR);
     int32_t code = pansuyog_begin(volume, sectors);
     for (uint32_t sector = 0; code == PANSUYOG_OK && sector < sectors;) {
-        size_t want = sectors - sector < PANSUYOG_RUN ? sectors - sector : PANSUYOG_RUN;
+        size_t want = sectors - sector < PANSUYOG_RUN ? sectors - sector : (size_t)PANSUYOG_RUN;
         off_t offset = (off_t)sector * PANSUYOG_SECTOR;
         size_t count = pansuyog_read_most(fd, run, want * PANSUYOG_SECTOR, offset) / PANSUYOG_SECTOR;
         /* Where a run can't be read its first sector is tried alone. */

@@ -46,7 +46,7 @@ fn append(image: &str) -> Result<()> {
 }
 
 fn count(image: &str) -> Result<()> {
-    let mut volume = Volume::mount(FileDevice::open(image)?)?;
+    let mut volume = Volume::mount(FileDevice::open_to_look(image)?)?;
     let (handle, records) = opened(&mut volume)?;
     let mut bytes = [0; RECORD];
     for number in 0..records {

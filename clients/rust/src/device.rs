@@ -1,7 +1,7 @@
 //! Devices: what a volume is read from, and what its writes and syncs go to.
-use std::fs::{File, OpenOptions, TryLockError};
+use std::fs::{self, File, OpenOptions, TryLockError};
 use std::io::{self, ErrorKind, Seek, SeekFrom};
-use std::os::unix::fs::FileExt;
+use std::os::unix::fs::{FileExt, FileTypeExt};
 use std::path::Path;
 use std::thread::sleep;
 use std::time::Duration;
@@ -73,16 +73,44 @@ pub(crate) fn lock(file: &File) -> io::Result<()> {
             _ => return Ok(()),
         }
     }
-    Err(io::Error::new(ErrorKind::WouldBlock, "it is in use by another program"))
+    Err(in_use())
+}
+
+fn in_use() -> io::Error {
+    io::Error::new(ErrorKind::WouldBlock, "it is in use by another program")
+}
+
+/// Refuses what can be no image. It is looked up before it is opened, since opening a pipe waits for its other end.
+fn look_up(path: &Path) -> io::Result<()> {
+    let kind = fs::metadata(path)?.file_type();
+    if kind.is_dir() {
+        return Err(ErrorKind::IsADirectory.into());
+    }
+    if kind.is_file() || kind.is_block_device() {
+        return Ok(());
+    }
+    Err(io::Error::new(ErrorKind::InvalidInput, "it is neither a file nor a block device"))
 }
 
 impl FileDevice {
     /// Opens a file or a block device that is there, and locks it as the program `lfs` does: `ErrorKind::WouldBlock` where another program
     /// has it. The lock goes with the device.
     pub fn open(path: impl AsRef<Path>) -> io::Result<FileDevice> {
+        look_up(path.as_ref())?;
         let file = OpenOptions::new().read(true).write(true).open(path)?;
         lock(&file)?;
         Ok(FileDevice { file })
+    }
+
+    /// Opens a file or a block device for reading alone, and takes the lock that `lfs` takes to look, which others may have too:
+    /// `ErrorKind::WouldBlock` where a program that writes has it. A write to it fails.
+    pub fn open_to_look(path: impl AsRef<Path>) -> io::Result<FileDevice> {
+        look_up(path.as_ref())?;
+        let file = File::open(path)?;
+        match file.try_lock_shared() {
+            Err(TryLockError::WouldBlock) => Err(in_use()),
+            _ => Ok(FileDevice { file }),
+        }
     }
 
     /// Gives the file this length, with nothing in it.

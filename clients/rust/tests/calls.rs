@@ -447,6 +447,27 @@ fn an_image_is_used_by_one_volume() {
 }
 
 #[test]
+fn an_image_is_looked_at_by_several_volumes() {
+    let image = Image::new("looks");
+    pansuyog::make(&image.0, 64, Version::Two).unwrap();
+    let look = || FileDevice::open_to_look(&image.0);
+    let (mut first, second) = (Volume::mount(look().unwrap()).unwrap(), look().unwrap());
+    assert_eq!(first.readdir("/").unwrap(), []);
+    assert_eq!(FileDevice::open(&image.0).unwrap_err().kind(), io::ErrorKind::WouldBlock);
+    first.create("/f").unwrap();
+    assert!(matches!(first.sync(), Err(Error::Write(_))));
+    drop((first, second));
+    let volume = mounted(&image.0);
+    assert_eq!(look().unwrap_err().kind(), io::ErrorKind::WouldBlock);
+    drop(volume);
+    assert_eq!(FileDevice::open_to_look("/").unwrap_err().kind(), io::ErrorKind::IsADirectory);
+    assert_eq!(
+        FileDevice::open_to_look("/dev/null").unwrap_err().kind(),
+        io::ErrorKind::InvalidInput
+    );
+}
+
+#[test]
 fn a_volume_is_made_where_no_file_is() {
     let image = Image::new("made");
     for segments in [0, 63, 65, 1032, u32::MAX] {
