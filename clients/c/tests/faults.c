@@ -1,7 +1,7 @@
 /* Preloaded into a program, it lets calls of the system fail. FAULTS of the environment has words for what does:
  *     link    no link is made, as on a file system without them
  *     race    another program takes the name that a file is to get
- *     read    each second read is interrupted, and none gives more than 700 bytes
+ *     read    two of three reads are interrupted, and none gives more than 300 bytes
  *     write   there is no space for a write
  *     sync    a sync behind a write fails
  * And the program ends at its call number STOP of those that change a file, before it is made. */
@@ -38,8 +38,8 @@ static int has_written;
 #define READS(name, offset_type)                                               \
     ssize_t name(int fd, void *bytes, size_t count, offset_type offset) {      \
         static unsigned calls;                                                 \
-        if (calls++ % 2 == 0 && fails("read", EINTR)) return -1;               \
-        if (is_asked("read") && count > 700) count = 700;                      \
+        if (calls++ % 3 != 2 && fails("read", EINTR)) return -1;               \
+        if (is_asked("read") && count > 300) count = 300;                      \
         return NEXT(name)(fd, bytes, count, offset);                           \
     }
 
