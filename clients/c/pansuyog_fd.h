@@ -225,10 +225,13 @@ static inline int32_t pansuyog_open_made(const char *path, const char *made, pan
         if (fd < 0) return pansuyog_fail(failed, PANSUYOG_AT_OPEN, 0);
         int32_t code = pansuyog_lock_fd(fd, LOCK_EX, failed);
         int is_named = !fstat(fd, &here) && !lstat(made, &named) && here.st_dev == named.st_dev && here.st_ino == named.st_ino;
-        errno = EEXIST;
-        if (code == PANSUYOG_OK && is_named && !S_ISREG(here.st_mode)) code = pansuyog_fail(failed, PANSUYOG_AT_OPEN, 0);
-        if (code == PANSUYOG_OK && is_named && here.st_nlink < 2) return fd;
-        if (code == PANSUYOG_OK && is_named) unlink(made);
+        if (code == PANSUYOG_OK && is_named) {
+            int is_file = S_ISREG(here.st_mode);
+            if (is_file && here.st_nlink < 2) return fd;
+            errno = EEXIST;
+            if (!is_file || unlink(made)) code = pansuyog_fail(failed, PANSUYOG_AT_OPEN, 0);
+        }
+        /* Another program has named or removed it meanwhile, or it was the second name of a volume: all is looked at anew. */
         close(fd);
         if (code != PANSUYOG_OK) return code;
     }

@@ -65,6 +65,7 @@ fn open_made(path: &Path, made: &Path) -> Result<File> {
             }
             fs::remove_file(made)?;
         }
+        // Another program has named or removed it meanwhile, or it was the second name of a volume: all is looked at anew.
     }
 }
 
