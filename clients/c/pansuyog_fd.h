@@ -286,12 +286,15 @@ static inline int32_t pansuyog_make(const char *path, uint32_t segments, uint32_
     if (segments < 64 || segments > 1024 || segments % 8 || version < 1 || version > 2) return PANSUYOG_INVAL;
     errno = ENAMETOOLONG;
     if (snprintf(made, sizeof made, "%s.lfs-make", path) >= (int)sizeof made) return pansuyog_fail(failed, PANSUYOG_AT_OPEN, 0);
-    int32_t fd = pansuyog_open_made(path, made, failed);
-    if (fd < 0) return fd;
-    int32_t code = pansuyog_fill_made(fd, segments, version, failed);
-    if (code == PANSUYOG_OK) code = pansuyog_name_made(made, path, failed);
-    if (code != PANSUYOG_OK) unlink(made);
-    close(fd);
+    int32_t fd = pansuyog_open_made(path, made, failed), code = fd;
+    if (fd >= 0) {
+        code = pansuyog_fill_made(fd, segments, version, failed);
+        if (code == PANSUYOG_OK) code = pansuyog_name_made(made, path, failed);
+        if (code != PANSUYOG_OK) unlink(made);
+        close(fd);
+    }
+    /* A name that is there may be of a moment ago, by a program that was stopped. */
+    if (code == PANSUYOG_EXIST) pansuyog_sync_folder(path, NULL);
     return code == PANSUYOG_OK ? pansuyog_sync_folder(path, failed) : code;
 }
 

@@ -24,6 +24,13 @@ pub fn make(path: impl AsRef<Path>, segments: u32, version: Version) -> Result<(
     if !(64..=1_024).step_by(8).any(|it| it == segments) {
         return Err(Error::Inval);
     }
+    let named = make_named(path, segments, version);
+    // A name that is there may be of a moment ago, by a program that was stopped.
+    let synced = sync_folder_of(path);
+    named.and(synced)
+}
+
+fn make_named(path: &Path, segments: u32, version: Version) -> Result<()> {
     let made = made_of(path);
     // It has the lock until it is dropped.
     let mut device = FileDevice::from(open_made(path, &made)?);
@@ -31,8 +38,7 @@ pub fn make(path: impl AsRef<Path>, segments: u32, version: Version) -> Result<(
     if named.is_err() {
         let _ = fs::remove_file(&made);
     }
-    named?;
-    sync_folder_of(path)
+    named
 }
 
 /// The name of a file until its volume is whole.
