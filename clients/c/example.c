@@ -19,8 +19,15 @@ static int32_t append(pansuyog *volume, int fd, uint32_t log, const char *record
     return code < 0 ? code : pansuyog_save_fd(volume, fd, failed);
 }
 
+static int32_t show(pansuyog *volume, uint32_t log) {
+    static char bytes[65536];
+    int32_t count;
+    for (uint64_t at = 0; (count = pansuyog_pread(volume, log, at, bytes, sizeof bytes)) > 0; at += (uint64_t)count)
+        fwrite(bytes, 1, (size_t)count, stdout);
+    return count;
+}
+
 int main(int argc, char **argv) {
-    static char records[65536];
     pansuyog volume;
     pansuyog_failed_t failed;
     if (argc != 3) {
@@ -36,9 +43,8 @@ int main(int argc, char **argv) {
     int32_t log = code < 0 ? code : pansuyog_open(&volume, "/log", 4);
     if (log == PANSUYOG_NO_ENTRY) log = pansuyog_create(&volume, "/log", 4);
     code = log < 0 ? log : append(&volume, fd, (uint32_t)log, argv[2], &failed);
-    if (code == 0) code = pansuyog_pread(&volume, (uint32_t)log, 0, records, sizeof records);
+    if (code == 0) code = show(&volume, (uint32_t)log);
     if (code < 0) pansuyog_perror(argv[1], code, &failed);
-    else fwrite(records, 1, (size_t)code, stdout);
     pansuyog_free(volume);
     return code < 0;
 }

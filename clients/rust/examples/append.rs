@@ -23,18 +23,26 @@ fn append(volume: &mut Volume<FileDevice>, log: Handle, record: &str) -> Result<
     volume.sync()
 }
 
-/// All records, with this one behind them.
-fn records_with(path: &str, record: &str) -> Result<Vec<u8>, Error> {
+fn show(volume: &mut Volume<FileDevice>, log: Handle) -> Result<(), Error> {
+    let (mut bytes, mut at) = (vec![0; 65_536], 0);
+    loop {
+        let count = volume.pread(log, at, &mut bytes)?;
+        if count == 0 {
+            return Ok(());
+        }
+        io::stdout().write_all(&bytes[..count])?;
+        at += count as u64;
+    }
+}
+
+fn run(path: &str, record: &str) -> Result<(), Error> {
     let mut volume = opened(path)?;
     let log = match volume.open("/log") {
         Err(Error::NoEntry) => volume.create("/log")?,
         opened => opened?,
     };
     append(&mut volume, log, record)?;
-    let mut records = vec![0; 65_536];
-    let count = volume.pread(log, 0, &mut records)?;
-    records.truncate(count);
-    Ok(records)
+    show(&mut volume, log)
 }
 
 fn main() -> ExitCode {
@@ -43,8 +51,7 @@ fn main() -> ExitCode {
         eprintln!("usage: append FILE RECORD");
         return ExitCode::from(2);
     };
-    let shown = records_with(path, record).and_then(|it| Ok(io::stdout().write_all(&it)?));
-    match shown {
+    match run(path, record) {
         Ok(()) => ExitCode::SUCCESS,
         Err(error) => {
             eprintln!("{path}: {error}");
