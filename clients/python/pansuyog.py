@@ -531,6 +531,7 @@ class Files(Calls):
         A name that no call takes is refused before anything is put. What is neither a file, a folder nor a link, as a FIFO, is left out: a
         warning, `Omitted`, names it, and so does the answer."""
         path, omitted = _bytes(path), []
+        # It has to be a directory.
         self.readdir(path)
         plan = list(self._planned(os.fsencode(folder), path, self._longest_name(path), omitted))
         files, size, saved = 0, 0, 0

@@ -1,4 +1,6 @@
-"""Tests of the client over the library: python3 test_library.py LIBRARY. Some need the program too, which LFS of the environment names."""
+"""Tests of the client over the library: python3 test_library.py LIBRARY. Some need the program too, which LFS of the environment names.
+
+Where they are loaded over the program, as `test_pansuyog.py` does, those of the library alone are skipped."""
 import contextlib
 import errno
 import fcntl
@@ -43,6 +45,13 @@ class Library:
 
 def used():
     return test_pansuyog.used
+
+
+class OfTheLibrary(unittest.TestCase):
+    def setUp(self):
+        if used().name != Library.name:
+            self.skipTest("of the library alone")
+        super().setUp()
 
 
 def spelt(word, answer):
@@ -108,7 +117,7 @@ class Scripts(unittest.TestCase):
                 self.assertEqual(reply(volume, "tree"), text_of(f"{path}.tree").rstrip("\n"))
 
 
-class Sessions(OnAVolume):
+class Sessions(OfTheLibrary, OnAVolume):
     def test_a_file_without_names_is_gone_after_a_stop(self):
         volume = self.mounted()
         handle = volume.create("/f")
@@ -216,10 +225,11 @@ def is_no_link(*_):
 STEPS = ("open", "ftruncate", "pwrite", "fsync", "link", "rename", "unlink")
 
 
-class Making(unittest.TestCase):
+class Making(OfTheLibrary):
     """New images, where a file may have two names, and where it can't."""
 
     def setUp(self):
+        super().setUp()
         folder = tempfile.TemporaryDirectory()
         self.addCleanup(folder.cleanup)
         self.folder, self.image = folder.name, f"{folder.name}/disk.img"
@@ -352,7 +362,7 @@ class Making(unittest.TestCase):
         self.assertEqual(os.path.getsize(self.image), 8)
 
 
-class Devices(OnAVolume):
+class Devices(OfTheLibrary, OnAVolume):
     def test_a_damaged_volume_tells_its_stage(self):
         for sector, place, byte, stage in DAMAGES:
             used().make(self.image, 64, force=True)
@@ -557,7 +567,7 @@ class Devices(OnAVolume):
         return False
 
 
-class Installed(unittest.TestCase):
+class Installed(OfTheLibrary):
     def test_a_library_beside_the_module_is_found(self):
         with tempfile.TemporaryDirectory() as folder:
             shutil.copy(f"{HERE}/pansuyog.py", folder)
@@ -574,7 +584,7 @@ class Installed(unittest.TestCase):
             self.assertTrue(os.path.exists(f"{folder}/libpansuyog.so.0") and os.path.exists(f"{folder}/pansuyog.py"))
 
 
-class Recorder(test_pansuyog.Recorder):
+class Recorder(OfTheLibrary, test_pansuyog.Recorder):
     """An hour's recorder in compressed time: a record for each second, saved by itself, and about once a minute the recorder is killed."""
 
     def test_every_acknowledged_record_is_there_after_each_kill(self):

@@ -667,16 +667,15 @@ class Child(OnAVolume):
             self.mounted()._call("frob")
 
 
-# Runs the tests of the client over the program, as where Python has no ctypes.
+# Runs the tests of both files over the program, but for the recorder's, as where Python has no ctypes.
 BARE = """
 import sys, unittest
 sys.modules["ctypes"] = None
 import test_pansuyog, test_library
 test_pansuyog.program = sys.argv.pop(1)
 test_pansuyog.used = test_pansuyog.Program(test_pansuyog.program)
-of = unittest.defaultTestLoader.loadTestsFromTestCase
-names = "Calls Files BesideTheProgram Page Refusals OnlyRead Child".split()
-suite = unittest.TestSuite([*(of(getattr(test_pansuyog, it)) for it in names), of(test_library.Scripts)])
+load = unittest.defaultTestLoader
+suite = unittest.TestSuite([load.loadTestsFromModule(test_library), load.loadTestsFromTestCase(test_pansuyog.Child)])
 sys.exit(not unittest.TextTestRunner(sys.stderr).run(suite).wasSuccessful())
 """
 
@@ -685,6 +684,7 @@ class WithoutCtypes(unittest.TestCase):
     def test_the_program_needs_none(self):
         ran = subprocess.run([sys.executable, "-W", "error::ResourceWarning", "-c", BARE, program], cwd=HERE, stderr=subprocess.PIPE, text=True, check=False)
         self.assertEqual(ran.returncode, 0, ran.stderr)
+        self.assertGreater(int(re.search(r"Ran (\d+) tests", ran.stderr).group(1)), 50)
 
     def test_the_library_does(self):
         code = "import sys; sys.modules['ctypes'] = None; import pansuyog; pansuyog.Volume('disk.img', library='/dev/null')"
