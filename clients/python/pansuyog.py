@@ -1151,7 +1151,8 @@ def _sync_folder(image, path):
         os.fsync(folder)
     except OSError as error:
         if error.errno != errno.EINVAL:
-            raise _refused_image(image, f"the folder that has it can't be synced: {_reason(error)}") from error
+            refusal = _refused_image(image, f"the folder that has it can't be synced: {_reason(error)}")
+            raise _Failure("sync", error).marked(refusal) from error
     finally:
         os.close(folder)
 
@@ -1313,10 +1314,14 @@ class Volume(Files):
         zeros = memoryview(bytes(_RESERVED))
         try:
             for offset in range(0, size, _RESERVED):
-                _write_all(self._file, zeros[: size - offset], offset)
-            os.fsync(self._file)
-        except OSError as error:
-            raise _refused_image(self._image, f"there is no room for all of its sectors: {_reason(error)}") from error
+                with _failing("write"):
+                    _write_all(self._file, zeros[: size - offset], offset)
+            with _failing("sync"):
+                os.fsync(self._file)
+        except _Failure as failure:
+            if failure.error.errno in _NO_ROOM:
+                raise _refused_image(self._image, f"there is no room for all of its sectors: {_reason(failure.error)}") from failure
+            raise _refused_device(self._image, failure) from failure
 
     def _begin(self, name, *numbers):
         """Reads the image, and makes or mounts its volume."""

@@ -8,6 +8,7 @@ import glob
 import os
 import random
 import shutil
+import stat
 import subprocess
 import sys
 import tempfile
@@ -354,6 +355,25 @@ class Making(OfTheLibrary):
             with self.assertRaisesRegex(pansuyog.Image, f"^{self.image}: there is no room for all of its sectors: No space left on device$"):
                 used().make(self.image, 64, reserve=True)
         self.assertEqual(os.listdir(self.folder), [])
+        broken = OSError(errno.EIO, os.strerror(errno.EIO))
+        for name, what in (("pwrite", "write"), ("fsync", "sync")):
+            with mock.patch(f"os.{name}", side_effect=broken):
+                with self.assertRaisesRegex(pansuyog.Device, f"^{self.image}: a {what} of it failed: Input/output error$"):
+                    used().make(self.image, 64, reserve=True)
+            self.assertEqual(os.listdir(self.folder), [])
+
+    def test_a_folder_that_is_not_synced_is_told(self):
+        sync = os.fsync
+
+        def failing(file):
+            if stat.S_ISDIR(os.fstat(file).st_mode):
+                raise OSError(errno.EIO, os.strerror(errno.EIO))
+            sync(file)
+
+        with mock.patch("os.fsync", failing), self.assertRaises(pansuyog.Image) as caught:
+            used().make(self.image, 64)
+        self.assertEqual(str(caught.exception), f"{self.image}: the folder that has it can't be synced: Input/output error")
+        self.assertTrue(caught.exception.needs_restart)
 
     def test_a_file_that_cannot_be_so_long_keeps_its_content(self):
         put(self.image, b"a letter")
