@@ -534,6 +534,8 @@ class Files(Calls):
         # It has to be a directory.
         self.readdir(path)
         plan = list(self._planned(os.fsencode(folder), path, self._longest_name(path), omitted))
+        for shown in omitted:
+            _leave_out(shown, "it is neither a file, a folder nor a link")
         files, size, saved = 0, 0, 0
         try:
             for it in plan:
@@ -643,7 +645,6 @@ class Files(Calls):
                 it = self._planned_entry(entry, _below(path, entry.name))
                 if it is None:
                     omitted.append(os.fsdecode(entry.path))
-                    _leave_out(omitted[-1], "it is neither a file, a folder nor a link")
                     continue
                 _check_put(it, longest)
                 yield it
