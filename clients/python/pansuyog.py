@@ -961,11 +961,20 @@ class _Failure(Exception):
 
 @contextlib.contextmanager
 def _failing(what):
-    """Lets an error of the system be told as the failure of a read, a write or a sync."""
+    """Lets an error of the system be told as the failure of a read or a write."""
     try:
         yield
     except OSError as error:
         raise _Failure(what, error) from error
+
+
+def _sync(file, read_only=False):
+    """Syncs an image, so that what is read of it stays. One that is only read may be on a file system that has nothing to sync."""
+    try:
+        os.fsync(file)
+    except OSError as error:
+        if not read_only or error.errno not in (errno.EINVAL, errno.EROFS):
+            raise _Failure("sync", error) from error
 
 
 def _reason(error):
@@ -1058,8 +1067,7 @@ def _copied(image, file):
 
 def _copy(file, copy):
     """Copies all sectors of an image that a volume may have. Zeros stay holes."""
-    with _failing("sync"):
-        os.fsync(file)
+    _sync(file, True)
     size = min(os.lseek(file, 0, os.SEEK_END), _MOST_SECTORS * _SECTOR)
     os.ftruncate(copy, size)
     for offset in range(0, size, _RUN * _SECTOR):
@@ -1317,8 +1325,7 @@ class Volume(Files):
             for offset in range(0, size, _RESERVED):
                 with _failing("write"):
                     _write_all(self._file, zeros[: size - offset], offset)
-            with _failing("sync"):
-                os.fsync(self._file)
+            _sync(self._file)
         except _Failure as failure:
             if failure.error.errno in _NO_ROOM:
                 raise _refused_image(self._image, f"there is no room for all of its sectors: {_reason(failure.error)}") from failure
@@ -1344,8 +1351,7 @@ class Volume(Files):
 
     def _read_all(self):
         """Gives the library all sectors that can be read: how many there are."""
-        with _failing("sync"):
-            os.fsync(self._file)
+        _sync(self._file, self._is_read_only)
         with _failing("read"):
             sectors = min(os.lseek(self._file, 0, os.SEEK_END) // _SECTOR, _MOST_SECTORS)
         if self._functions["begin"](self._raw, sectors) < 0:
@@ -1387,8 +1393,7 @@ class Volume(Files):
         if count < 0:
             raise RuntimeError(f"the library has no order {number}")
         if count == 0:
-            with _failing("sync"):
-                os.fsync(self._file)
+            _sync(self._file, self._is_read_only)
             return 1
         with _failing("write"):
             _write_all(self._file, memoryview(self._run)[: count * _SECTOR], first.value * _SECTOR)

@@ -594,6 +594,13 @@ class OnlyRead(OnAVolume):
         with self.mounted():
             self.assertRaisesRegex(pansuyog.Image, "it is in use", self.mounted, read_only=True)
 
+    def test_a_file_system_may_have_nothing_to_sync(self):
+        with mock.patch("os.fsync", side_effect=OSError(22, "Invalid argument")):
+            self.assertEqual(self.mounted(read_only=True).read("/l"), b"kept")
+        with mock.patch("os.fsync", side_effect=OSError(5, "Input/output error")):
+            with self.assertRaisesRegex(pansuyog.Device, f"^{self.image}: a sync of it failed: Input/output error$"):
+                self.mounted(read_only=True)
+
     def test_what_is_no_volume_is_refused(self):
         self.assertRaisesRegex(pansuyog.Image, "no such file", used.mounted, f"{self.image}.none", read_only=True)
         os.chmod(self.image, 0o644)
