@@ -1095,12 +1095,13 @@ def _opened_unmade(image, path):
             os.unlink(place)
     file = _opened(place, os.O_RDWR | os.O_CREAT | os.O_NOFOLLOW)
     try:
-        if not _has_name_alone(file, place):
-            raise BlockingIOError(errno.EWOULDBLOCK, "another make had it")
+        is_ours = _has_name_alone(file, place)
         if os.path.lexists(path):
-            with contextlib.suppress(FileNotFoundError):
+            if is_ours:
                 os.unlink(place)
             raise _refused_image(image, _PRESENT)
+        if not is_ours:
+            raise BlockingIOError(errno.EWOULDBLOCK, "another make had it")
     except BaseException:
         os.close(file)
         raise
