@@ -18,6 +18,7 @@ mod new_image;
 pub mod printing;
 mod reason;
 pub mod room;
+mod sparse;
 pub mod viewing;
 mod walking;
 

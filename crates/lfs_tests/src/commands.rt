@@ -5,7 +5,7 @@ use rand_pcg::Pcg32;
 use std::alloc::{AllocError, Global};
 use std::fs::{File, Permissions};
 use std::io::{Read, Write};
-use std::os::unix::fs::{FileExt, PermissionsExt, symlink};
+use std::os::unix::fs::{FileExt, MetadataExt, PermissionsExt, symlink};
 use std::process::Abort;
 use std::rt::Files;
 use std::time::Clock;
@@ -108,6 +108,8 @@ enum Step<'a> {
     /// The files have one length, and the same bytes as far as a volume of 64 segments goes.
     Same(&'a str, &'a str),
     Lacks(&'a str),
+    /// A file takes less than half the room that it would without holes.
+    HasHoles(&'a str),
     Remove(&'a str),
     RemoveFolder(&'a str),
     /// A symbolic link has this text.
@@ -341,6 +343,13 @@ fn same<R: Files<File = File> + Clock + AllocGlobal>(rt: &R, one: &str, other: &
     }
 }
 
+fn has_holes<R: Files<File = File> + Clock + AllocGlobal>(rt: &R, path: &str) -> bool {
+    match fs::metadata(rt, path) {
+        Ok(metadata) => metadata.blocks().saturating_mul(1_024) < metadata.len(),
+        Err(_) => false,
+    }
+}
+
 fn leads_to<R: Files<File = File> + Clock + AllocGlobal>(rt: &R, path: &str, text: &str) -> bool {
     match fs::read_link(rt, path) {
         Ok(found) => found.as_str() == text,
@@ -382,6 +391,7 @@ fn is_well<R: Files<File = File> + Clock + AllocGlobal>(rt: &R, step: Step<'_>) 
         Step::Damage(sector, at, byte, reply) => is_refused(rt, (sector, at, &[byte]), reply),
         Step::Same(one, other) => same(rt, one, other),
         Step::Lacks(path) => matches!(fs::exists(rt, path), Ok(false)),
+        Step::HasHoles(path) => has_holes(rt, path),
         Step::Remove(path) => fs::remove_file(rt, path).is_ok(),
         Step::RemoveFolder(path) => fs::remove_dir_all(rt, path).is_ok(),
         Step::LeadsTo(path, text) => leads_to(rt, path, text),
@@ -1001,7 +1011,10 @@ const RECOVERED: &[Step] = &[
         &["lfs recover r.img r.root"],
         b"",
         1,
-        Said::Reply(b"lost / sector 3\nfound /lost+found/2\nok 1 files whole, 0 in part\n"),
+        Said::Reply(
+            b"note: slot 0 holds no checkpoint: a newer state may be lost\n\
+            lost / sector 3\nfound /lost+found/2\nok 1 files whole, 0 in part\n",
+        ),
     ),
     Step::Same("r.root/lost+found/2", "r.want"),
     Step::Change("r.img", LEN, &[(1, 0, b"s")]),
@@ -1040,6 +1053,184 @@ const RECOVERED: &[Step] = &[
 #[test]
 fn damaged_volumes_are_recovered(rt: HostRuntime) {
     want(&rt, RECOVERED);
+}
+
+// What is stored is never all zero, and has no bytes past the end: the file's block, the block of the
+// root's names, a leaf and a double root of zeros, a further byte, and a further block.
+const PARTS: &[Step] = &[
+    Step::Change("p.img", 0, &[]),
+    Step::Change("p.img", LEN, NEW),
+    Step::Change("p.img", LEN, ONE_BYTE),
+    Step::Change("p.img", LEN, &[(8, 0, &[0])]),
+    Step::Change("p.want", 1, &[]),
+    Step::Says(
+        &["lfs recover p.img p.block"],
+        b"",
+        1,
+        Said::Reply(b"part /f\n  block 0 sector 8\nok 0 files whole, 1 in part\n"),
+    ),
+    Step::Same("p.block/f", "p.want"),
+    Step::Change("p.img", LEN, &[(8, 0, b"ab")]),
+    Step::Change("p.want", 1, &[(0, 0, b"a")]),
+    Step::Says(
+        &["lfs recover p.img p.byte"],
+        b"",
+        1,
+        Said::Reply(b"part /f\n  past the end sector 8\nok 0 files whole, 1 in part\n"),
+    ),
+    Step::Same("p.byte/f", "p.want"),
+    Step::Change("p.img", LEN, &[(8, 1, &[0]), (6, 0, &[0; 6])]),
+    Step::Says(
+        &["lfs recover p.img p.names"],
+        b"",
+        1,
+        Said::Reply(
+            b"part /\n  block 0 sector 6\nfound /lost+found/2\nok 1 files whole, 0 in part\n",
+        ),
+    ),
+    Step::Same("p.names/lost+found/2", "p.want"),
+    Step::Change(
+        "p.img",
+        LEN,
+        &[(6, 0, &[2, 0, 0, 0, 1, 0x66]), (7, 12, &[0])],
+    ),
+    Step::Says(
+        &["lfs recover p.img p.further"],
+        b"",
+        1,
+        Said::Reply(b"part /f\n  past the end sector 8\nok 0 files whole, 1 in part\n"),
+    ),
+    // 114 blocks, the last two of which are behind the leaf.
+    Step::Change("p.img", LEN, &[(7, 12, &[0, 0xe4]), (7, 480, &[9])]),
+    Step::Says(
+        &["lfs recover p.img p.leaf"],
+        b"",
+        1,
+        Said::Reply(b"part /f\n  blocks 112 to 113 sector 9\nok 0 files whole, 1 in part\n"),
+    ),
+    // The greatest size, with a double root alone.
+    Step::Change(
+        "p.img",
+        LEN,
+        &[(7, 12, &[0, 0xe0, 0x81]), (7, 480, &[0, 0, 0, 0, 9])],
+    ),
+    Step::Says(
+        &["lfs recover p.img p.root"],
+        b"",
+        1,
+        Said::Reply(b"part /f\n  blocks 240 to 16623 sector 9\nok 0 files whole, 1 in part\n"),
+    ),
+    Step::HasHoles("p.root/f"),
+    // The block of the map.
+    Step::Change("p.img", LEN, &[(4, 4, &[0, 0, 0, 0, 0])]),
+    Step::Says(
+        &["lfs recover p.img p.map"],
+        b"",
+        1,
+        Said::Reply(b"lost numbers 0 to 127 sector 4\nlost /\nok 0 files whole, 0 in part\n"),
+    ),
+    Step::Remove("p.img"),
+    Step::Remove("p.want"),
+    Step::RemoveFolder("p.block"),
+    Step::RemoveFolder("p.byte"),
+    Step::RemoveFolder("p.names"),
+    Step::RemoveFolder("p.further"),
+    Step::RemoveFolder("p.leaf"),
+    Step::RemoveFolder("p.root"),
+    Step::RemoveFolder("p.map"),
+];
+
+#[test]
+fn zeros_and_bytes_past_the_end_are_parts(rt: HostRuntime) {
+    want(&rt, PARTS);
+}
+
+// Two commits after that of `mkfs`: the second one of them is number 3, in slot 1.
+const LOST_SLOT: &[Step] = &[
+    Step::Says(&["lfs mkfs l.img --segments 64"], b"", 0, OK),
+    Step::Says(
+        &["lfs recover l.img l.new"],
+        b"",
+        0,
+        Said::Reply(b"ok 0 files whole, 0 in part\n"),
+    ),
+    Step::Says(
+        &["lfs run l.img"],
+        b"create /a\nsync\ncreate /b\nsync\n",
+        0,
+        Said::Reply(b"ok 0\nok\nok 1\nok\n"),
+    ),
+    Step::Says(
+        &["lfs recover l.img l.whole"],
+        b"",
+        0,
+        Said::Reply(b"ok 2 files whole, 0 in part\n"),
+    ),
+    Step::Change("l.img", LEN, &[(1, 0, &[0; 512])]),
+    Step::Says(
+        &["lfs recover l.img l.newest"],
+        b"",
+        1,
+        Said::Tells(
+            b"note: slot 1 holds no checkpoint: a newer state may be lost\n\
+            ok 1 files whole, 0 in part\n",
+            b"lfs: l.img: what is missing, or isn't under its own name, is named on standard output\n",
+        ),
+    ),
+    Step::Remove("l.img"),
+    Step::RemoveFolder("l.new"),
+    Step::RemoveFolder("l.whole"),
+    Step::RemoveFolder("l.newest"),
+];
+
+#[test]
+fn a_lost_slot_is_told(rt: HostRuntime) {
+    want(&rt, LOST_SLOT);
+}
+
+const HOLES: &[Step] = &[
+    Step::Says(&["lfs mkfs h.img --segments 64"], b"", 0, OK),
+    Step::Says(
+        &["lfs run h.img"],
+        b"create /h\ntruncate 0 1000000\nsync\npwrite 0 500000 61\nsync\n",
+        0,
+        Said::Reply(b"ok 0\nok\nok\nok 1\nok\n"),
+    ),
+    Step::Says(
+        &["lfs get h.img /h h.out"],
+        b"",
+        0,
+        Said::Reply(b"ok 1000000\n"),
+    ),
+    Step::Says(
+        &["lfs export h.img h.tree"],
+        b"",
+        0,
+        Said::Reply(b"ok 1 files 1000000 bytes\n"),
+    ),
+    Step::Says(
+        &["lfs recover h.img h.safe"],
+        b"",
+        0,
+        Said::Reply(b"ok 1 files whole, 0 in part\n"),
+    ),
+    Step::Change("h.want", 1_000_000, &[(976, 288, b"a")]),
+    Step::Same("h.out", "h.want"),
+    Step::Same("h.tree/h", "h.want"),
+    Step::Same("h.safe/h", "h.want"),
+    Step::HasHoles("h.out"),
+    Step::HasHoles("h.tree/h"),
+    Step::HasHoles("h.safe/h"),
+    Step::Remove("h.img"),
+    Step::Remove("h.out"),
+    Step::Remove("h.want"),
+    Step::RemoveFolder("h.tree"),
+    Step::RemoveFolder("h.safe"),
+];
+
+#[test]
+fn holes_stay_holes(rt: HostRuntime) {
+    want(&rt, HOLES);
 }
 
 const ONE_FILE: &[u8] = b"create /a\nsync\n";
