@@ -1546,6 +1546,7 @@ const QUESTIONS: &[Step] = &[
 // What a question calls the file, and answers that agree.
 const AGREED: &[Step] = &[
     Step::Change("q.want", LEN, NEW),
+    Step::Change("q.img", 0, &[]),
     Step::Change("q.img", 3_000, &[]),
     Step::AtTerminal(
         "lfs mkfs q.img --segments 64",
