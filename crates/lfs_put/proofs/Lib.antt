@@ -1,5 +1,6 @@
 mod CallLists
 mod Costs
+mod Fitting
 mod GetCalls
 mod InOrder
 mod PutCalls

@@ -31,9 +31,9 @@ largest_in need limit size entries {slot} {blocks} is largest form same = by (is
         subst (λ (n : ℕ). IsLargest need limit (slot_len form) n blocks) (sym none) (largest_in_empty need limit form empty)
 
 -- the same by the entries that were told
-of_entries : (need limit : ℕ) {size count slot blocks : ℕ} {entries : List DirectoryEntry} → IsSlotOf size count slot
+of_entries : (need limit : ℕ) (entries : List DirectoryEntry) {size count slot blocks : ℕ} → IsSlotOf size count slot
     → IsLargest need limit slot count blocks → count ≡ length entries → IsLargestIn need limit size (length entries) blocks
-of_entries need limit {size} {count} {slot} {blocks} has largest is =
+of_entries need limit entries {size} {count} {slot} {blocks} has largest is =
     subst (λ (n : ℕ). IsLargestIn need limit size n blocks) is (largest_in need limit size count has largest)
 
 module _ {D : Type 0} {state : D → DeviceState} where
@@ -63,8 +63,11 @@ module _ {D : Type 0} {state : D → DeviceState} where
         calls = made Space (Room data_blocks meta_blocks need limit) ∷ made (StatOf (codes "/")) (Status root)
             ∷ made (Readdir (codes "/")) (Refuse (refusal_of fault)) ∷ [];
         served = (b, first, (c, second, (d, third, refl)));
-        outcome = (made Space (Room data_blocks meta_blocks need limit) ∷ made (StatOf (codes "/")) (Status root) ∷ [],
-            Readdir (codes "/"), refl);
+        outcome = (
+          made Space (Room data_blocks meta_blocks need limit) ∷ made (StatOf (codes "/")) (Status root) ∷ [],
+          Readdir (codes "/"),
+          refl,
+        );
       }
 
       pub root_full : {count : ℕ} → TellsEntries state c d (Ok count) → MOST_ENTRIES ≤ count → TellsLargest state a d (Ok 0)
@@ -98,7 +101,7 @@ module _ {D : Type 0} {state : D → DeviceState} where
           entries = entries;
           rest = [];
           order = refl;
-          by = inr (inr (blocks, of_entries need limit has largest is, same, inl (refl, few)));
+          by = inr (inr (blocks, of_entries need limit entries has largest is, same, inl (refl, few)));
         };
       }
 
@@ -117,7 +120,7 @@ module _ {D : Type 0} {state : D → DeviceState} where
           entries = entries;
           rest = made ListTree (Rows (map row_of rows)) ∷ [];
           order = refl;
-          by = inr (inr (blocks, of_entries need limit has largest is, equal ∙ same, inr (rows, refl, free)));
+          by = inr (inr (blocks, of_entries need limit entries has largest is, equal ∙ same, inr (rows, refl, free)));
         };
       }
       by_rows e (Ok told) (entries, third, is) has largest same (rows, fourth, inr (taken, none)) = record {

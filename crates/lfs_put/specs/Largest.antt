@@ -1,12 +1,15 @@
 -- How large a new file may be: the greatest that keeps the need within the limit. What a call may need is an own choice.
 use Rattle.std.specs.Prelude.{◌≡◌, ◌⊎◌, ◌≤◌, ◌<◌, ℕ, ◌+◌, ◌*◌, List, [], ◌∷◌, ◌++◌, ◌==◌, IsTrue, Result, Ok, Err, codes, length, map}
+use Rattle.std.specs.Prelude.{None, Some}
 use Rattle.std.specs.Int.{div_ceil}
 use Rattle.std.specs.List.{list_any, range_with_len}
 use Rattle.lfs_model.specs.Call.{Call, DirectoryEntry, Entries, ListTree, Readdir, Refuse, Room, Rows, Space, Stat, StatOf, Status}
 use Rattle.lfs_model.specs.Device.{DeviceState}
-use Rattle.lfs_model.specs.Need.{pointers}
-use Rattle.lfs_model.specs.Tree.{slot_len}
-use Rattle.lfs_model.specs.declared.limits.TheConstants.{NEED_OF_META}
+use Rattle.lfs_model.specs.Need.{data_pieces, need, pointers}
+use Rattle.lfs_model.specs.Sound.{Sound}
+use Rattle.lfs_model.specs.Step.{name, with_new}
+use Rattle.lfs_model.specs.Tree.{Dir, File, Names, State, entry, node, slot_len}
+use Rattle.lfs_model.specs.declared.limits.TheConstants.{NEED_OF_META, NEED_OF_SEGMENT}
 use Rattle.lfs_fs.specs.Answers.{row_of}
 use Rattle.lfs_fs.specs.Refusals.{refusal_of}
 use Rattle.lfs_fs.specs.Volume.{Mounted, Serves}
@@ -40,6 +43,15 @@ pub record IsLargest (need limit slot entries blocks : ℕ) : Type 0 where
 abbrev pub IsLargestIn : ℕ → ℕ → ℕ → ℕ → ℕ → Type 0
 IsLargestIn need limit size entries blocks =
     (form : ℕ) → size ≡ slot_len form * entries → IsLargest need limit (slot_len form) entries blocks
+
+-- In a sound state of a volume of N segments, whose root has these names: a new file of as many full blocks as the largest has keeps the
+-- need within the limit, and one of more full blocks doesn't. The root hasn't its name yet.
+abbrev pub LargestFits : Type 0
+LargestFits = (N : ℕ) (s : State) → Sound N s → (form : ℕ) (m : Names) → node s.tree 1 ≡ Some (Dir form m) → (blocks : ℕ)
+    → IsLargestIn (need s.tree) (NEED_OF_SEGMENT * N) (slot_len form * length m) (length m) blocks
+    → (p : List ℕ) → entry s.tree 1 (name p) ≡ None → (b : List ℕ) (count : ℕ) → data_pieces (File b) ≡ range_with_len 0 count
+    → (0 < count → count ≡ blocks → need (with_new s.tree 1 p (File b)) ≤ NEED_OF_SEGMENT * N)
+    × (blocks < count → count ≤ MOST_BLOCKS → NEED_OF_SEGMENT * N < need (with_new s.tree 1 p (File b)))
 
 -- So many bytes has each entry of a directory of this size, which has so many; an empty one is taken for one of the first form.
 abbrev pub IsSlotOf : ℕ → ℕ → ℕ → Type 0
