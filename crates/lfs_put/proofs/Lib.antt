@@ -1,3 +1,4 @@
+mod Asking
 mod CallLists
 mod Costs
 mod Fitting

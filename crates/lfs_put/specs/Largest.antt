@@ -7,7 +7,7 @@ use Rattle.lfs_model.specs.Call.{Call, DirectoryEntry, Entries, ListTree, Readdi
 use Rattle.lfs_model.specs.Device.{DeviceState}
 use Rattle.lfs_model.specs.Need.{data_pieces, need, pointers}
 use Rattle.lfs_model.specs.Sound.{Sound}
-use Rattle.lfs_model.specs.Step.{name, with_new}
+use Rattle.lfs_model.specs.Step.{Step, name, with_new}
 use Rattle.lfs_model.specs.Tree.{Dir, File, Names, State, entry, node, slot_len}
 use Rattle.lfs_model.specs.declared.limits.TheConstants.{NEED_OF_META, NEED_OF_SEGMENT}
 use Rattle.lfs_fs.specs.Answers.{row_of}
@@ -52,6 +52,15 @@ LargestFits = (N : ℕ) (s : State) → Sound N s → (form : ℕ) (m : Names) �
     → (p : List ℕ) → entry s.tree 1 (name p) ≡ None → (b : List ℕ) (count : ℕ) → data_pieces (File b) ≡ range_with_len 0 count
     → (0 < count → count ≡ blocks → need (with_new s.tree 1 p (File b)) ≤ NEED_OF_SEGMENT * N)
     × (blocks < count → count ≤ MOST_BLOCKS → NEED_OF_SEGMENT * N < need (with_new s.tree 1 p (File b)))
+
+-- What the space, the size of the root and its listing tell of a state whose root has these names: the need and its limit, and with
+-- them what the largest is counted by.
+abbrev pub RootIsTold : Type 0
+RootIsTold = (N : ℕ) (s s' : State) (form : ℕ) (m : Names) → node s.tree 1 ≡ Some (Dir form m)
+    → ((data_blocks meta_blocks n l : ℕ) → Step N s Space (Room data_blocks meta_blocks n l) s'
+    → (n ≡ need s.tree) × (l ≡ NEED_OF_SEGMENT * N))
+    × ((root : Stat) → Step N s (StatOf (codes "/")) (Status root) s' → root.size ≡ slot_len form * length m)
+    × ((entries : List DirectoryEntry) → Step N s (Readdir (codes "/")) (Entries entries) s' → length entries ≡ length m)
 
 -- So many bytes has each entry of a directory of this size, which has so many; an empty one is taken for one of the first form.
 abbrev pub IsSlotOf : ℕ → ℕ → ℕ → Type 0
