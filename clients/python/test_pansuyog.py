@@ -425,7 +425,7 @@ class BesideTheProgram(OnAVolume):
         for number, size in enumerate((100, 57_344, 200_000, 65_000, 3)):
             self.put(f"/fill {number}", size, f"ok {size}\n")
             ran = subprocess.run([program, "df", self.image], capture_output=True, text=True, check=True)
-            free = int(re.search(r"free (\d+) bytes", ran.stdout).group(1))
+            free = int(re.search(r"takes up to (\d+) bytes", ran.stdout).group(1))
             self.put("/new", free + 1, "err NoSpace\n")
             self.put("/new", free, f"ok {free}\n")
             self.put("/more", 1, "err NoSpace\n")

@@ -2,6 +2,7 @@
 use crate::fault::{Fault, Refusal};
 use crate::looking::Looked;
 use crate::printing::{print, put, put_counts};
+use crate::room::put_largest;
 use lfs_device::SectorDevice;
 use lfs_put::largest_new_file;
 use lfs_script::fs::{Fs, FsError, Space};
@@ -39,9 +40,11 @@ fn put_picture<D: SectorDevice, W: Write>(fs: &Fs<D>, output: &mut W) -> Result<
 /// What a mounted volume tells of its room.
 #[derive(Clone, Copy)]
 struct Room {
+    /// The version of the volume's layout.
+    format: u32,
     space: Space,
     /// The bytes of the largest new file.
-    free: u64,
+    largest: u64,
 }
 
 // Writes what there is to say in numbers.
@@ -54,25 +57,29 @@ fn put_numbers<D: SectorDevice, W: Write>(
     let usage = fs.usage();
     let counts = [
         (b"checkpoint ".as_slice(), fs.checkpoint()),
+        (b"\nformat ", u64::from(room.format)),
         (b"\nsegments ", u64::from(usage.segments())),
         (b"\nclean ", u64::from(usage.clean())),
         (b"\ndata blocks ", space.data_blocks),
         (b"\nmeta blocks ", space.meta_blocks),
         (b"\nneed ", space.need),
         (b"\nlimit ", space.limit),
-        (b"\nfree ", room.free),
     ];
     put_counts(output, &counts)?;
-    put(
-        output,
-        b" bytes, in one new file\nlive blocks of each segment:",
-    )
+    put(output, b"\n")?;
+    put_largest(output, room.largest)?;
+    put(output, b"live blocks of each segment:")
 }
 
 fn room_of<D: SectorDevice>(fs: &mut Fs<D>) -> Result<Room, FsError> {
+    let format = fs.version()?;
     let space = fs.space()?;
-    let free = largest_new_file(fs)?;
-    Ok(Room { space, free })
+    let largest = largest_new_file(fs)?;
+    Ok(Room {
+        format,
+        space,
+        largest,
+    })
 }
 
 /// Describes a mounted volume.

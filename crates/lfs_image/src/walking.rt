@@ -15,15 +15,8 @@ struct Level {
 
 // The rows of a directory, which stand together: they are ordered by the number of the directory.
 fn level_of(rows: &[TreeRow], directory: u32) -> Level {
-    for (next, row) in rows.iter().enumerate() {
-        if row.directory >= directory {
-            return Level { directory, next };
-        }
-    }
-    Level {
-        directory,
-        next: rows.len(),
-    }
+    let next = rows.partition_point(|row| row.directory < directory);
+    Level { directory, next }
 }
 
 // The next entry of a directory, if it has one more.

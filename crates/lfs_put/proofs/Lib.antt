@@ -1,5 +1,7 @@
+mod Asking
 mod CallLists
 mod Costs
+mod Fitting
 mod GetCalls
 mod InOrder
 mod PutCalls

@@ -7,13 +7,17 @@ ghost use Rattle.lfs_put.specs.Largest.{Fits, IsLargest, cost_of_blocks, cost_of
 use lfs_model::limits;
 use lfs_model::limits::{
     BLOCK_POINTERS, DIRECT_BLOCKS, FILE_BLOCKS, FILE_LEAVES, NARROW_SLOT, NEED_OF_META, SECTOR_LEN,
+    WIDE_SLOT,
 };
 
 /// The bytes of a block.
 pub const BLOCK: u64 = SECTOR_LEN as u64;
 
-/// The bytes of a directory's entry.
-pub const SLOT: u64 = NARROW_SLOT as u64;
+/// The bytes of an entry in a directory of the first form.
+pub const NARROW: u64 = NARROW_SLOT as u64;
+
+/// The bytes of an entry in a directory of the second form.
+pub const WIDE: u64 = WIDE_SLOT as u64;
 
 /// The most blocks of a file.
 const MOST_BLOCKS: u64 = FILE_BLOCKS as u64;
@@ -57,33 +61,37 @@ fn cost_of(blocks: u64) -> u64
     blocks + NEED_OF_META * (1 + pointer_blocks(blocks))
 }
 
-// What a directory of so many entries adds to the need.
-fn directory_cost(entries: u64) -> u64
-    requires { entries ≤ MOST_ENTRIES }
-    ensures cost { result ≡ cost_of_entries entries }
+// What a directory of so many entries, of so many bytes each, adds to the need.
+fn directory_cost(slot: u64, entries: u64) -> u64
+    requires slot { slot ≤ WIDE }
+    requires entries { entries ≤ MOST_ENTRIES }
+    ensures cost { result ≡ cost_of_entries slot entries }
     ensures few { result ≤ MOST_COST }
 {
-    cost_of((SLOT * entries).div_ceil(BLOCK))
+    cost_of((slot * entries).div_ceil(BLOCK))
 }
 
 // Whether a new file of so many blocks fits.
-fn fits(need: u64, limit: u64, entries: u64, blocks: u64) -> bool
+fn fits(need: u64, limit: u64, slot: u64, entries: u64, blocks: u64) -> bool
+    requires slot { slot ≤ WIDE }
     requires entries { entries < MOST_ENTRIES }
     requires blocks { blocks ≤ MOST_BLOCKS }
-    ensures { IsTrue result ↔ Fits need limit entries blocks }
+    ensures { IsTrue result ↔ Fits need limit slot entries blocks }
 {
-    let added = cost_of(blocks) + directory_cost(entries + 1);
-    let most = u128::from(limit) + u128::from(directory_cost(entries));
+    let added = cost_of(blocks) + directory_cost(slot, entries + 1);
+    let most = u128::from(limit) + u128::from(directory_cost(slot, entries));
     u128::from(need) + u128::from(added) <= most
 }
 
-/// The greatest number of blocks of a new file that fits.
-pub fn most_blocks(need: u64, limit: u64, entries: u64) -> u64
-    requires { entries < MOST_ENTRIES }
-    ensures { IsLargest need limit entries result }
+/// The greatest number of blocks of a new file that fits, in a directory that has so many entries of
+/// so many bytes each.
+pub fn most_blocks(need: u64, limit: u64, slot: u64, entries: u64) -> u64
+    requires slot { slot ≤ WIDE }
+    requires entries { entries < MOST_ENTRIES }
+    ensures { IsLargest need limit slot entries result }
 {
     let mut blocks = MOST_BLOCKS;
-    while blocks > 0 && !fits(need, limit, entries, blocks) {
+    while blocks > 0 && !fits(need, limit, slot, entries, blocks) {
         blocks -= 1;
     }
     blocks

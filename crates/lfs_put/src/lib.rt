@@ -4,6 +4,7 @@
 mod changing;
 mod getting;
 mod largest;
+pub mod laws;
 mod putting;
 mod telling;
 

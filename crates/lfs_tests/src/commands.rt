@@ -1703,8 +1703,8 @@ const NOT_THERE: Said = Said::OfPath(b"err NoEntry\n", b"the volume has nothing 
 // segment 1: ten. Segment 0 is clean again. A new file may have 2,130 blocks: they need 2,256, with
 // its inode and 17 blocks of pointers.
 const FULLNESS: Said = Said::Reply(
-    b"checkpoint 2\nsegments 64\nclean 63\ndata blocks 4\nmeta blocks 4\nneed 752\nlimit 3008\n\
-    free 1090560 bytes, in one new file\nlive blocks of each segment:\n\
+    b"checkpoint 2\nformat 1\nsegments 64\nclean 63\ndata blocks 4\nmeta blocks 4\nneed 752\nlimit 3008\n\
+    one new file takes up to 1090560 bytes\nlive blocks of each segment:\n\
     .2..............................................................\n",
 );
 
@@ -1804,7 +1804,8 @@ const EXISTS: Said = Said::OfPath(b"err Exist\n", b"this is there already");
 const THE_ROOT: Said = Said::OfPath(b"err Busy\n", b"the root can't be removed or renamed");
 
 // A new volume of 64 segments takes one file of 2,154 blocks. With a file and a link it takes one of
-// 2,138: that and 18 inodes and blocks of pointers need what is left, 2,264.
+// 2,138: that and 18 inodes and blocks of pointers need what is left, 2,264. In all there are 2,281
+// blocks above the 727 of an empty volume: of these the file, the link and their names need 17.
 const CHANGES: &[Step] = &[
     Step::Says(&["lfs mkfs c.img --segments 64"], b"", 0, OK),
     Step::Says(
@@ -1812,8 +1813,8 @@ const CHANGES: &[Step] = &[
         b"",
         0,
         Said::Reply(
-            b"size 2098176 bytes, segments 64\nused 0 bytes, files 0\n\
-            free 1102848 bytes, in one new file\n",
+            b"size 2098176 bytes, segments 64\nfiles 0, bytes 0\ntotal 1167872 bytes\n\
+            used 0 bytes, 0 %\nfree 1167872 bytes\none new file takes up to 1102848 bytes\n",
         ),
     ),
     Step::Says(&["lfs mkdir c.img /d"], b"", 0, OK),
@@ -1887,8 +1888,8 @@ const CHANGES: &[Step] = &[
         b"",
         0,
         Said::Reply(
-            b"size 2098176 bytes, segments 64\nused 3 bytes, files 1\n\
-            free 1094656 bytes, in one new file\n",
+            b"size 2098176 bytes, segments 64\nfiles 1, bytes 3\ntotal 1167872 bytes\n\
+            used 8704 bytes, 1 %\nfree 1159168 bytes\none new file takes up to 1094656 bytes\n",
         ),
     ),
     Step::Says(&["lfs rm c.img /l"], b"", 0, OK),
@@ -2866,6 +2867,7 @@ fn trees_that_are_exported(rt: HostRuntime) {
 // With a file of 196 blocks, a block of pointers and its inode, a new one may have 1,951 blocks: they
 // and 17 more inodes and blocks of pointers need what is left, 2,070. With seven empty files more,
 // which fill the root's block, 1,904 and 16 need 2,016 of 2,021. One of these is for the ninth entry.
+// Above the 727 blocks of an empty volume 211 are needed, and then 260.
 const LARGEST: &[Step] = &[
     Step::Says(&["lfs mkfs n.img --segments 64"], b"", 0, OK),
     Step::Reads("lfs put n.img /a", 100_000, 0, Said::Reply(b"ok 100000\n")),
@@ -2874,8 +2876,8 @@ const LARGEST: &[Step] = &[
         b"",
         0,
         Said::Reply(
-            b"size 2098176 bytes, segments 64\nused 100000 bytes, files 1\n\
-            free 998912 bytes, in one new file\n",
+            b"size 2098176 bytes, segments 64\nfiles 1, bytes 100000\ntotal 1167872 bytes\n\
+            used 108032 bytes, 10 %\nfree 1059840 bytes\none new file takes up to 998912 bytes\n",
         ),
     ),
     Step::Reads(
@@ -2900,8 +2902,8 @@ const LARGEST: &[Step] = &[
         b"",
         0,
         Said::Reply(
-            b"size 2098176 bytes, segments 64\nused 100000 bytes, files 8\n\
-            free 974848 bytes, in one new file\n",
+            b"size 2098176 bytes, segments 64\nfiles 8, bytes 100000\ntotal 1167872 bytes\n\
+            used 133120 bytes, 12 %\nfree 1034752 bytes\none new file takes up to 974848 bytes\n",
         ),
     ),
     Step::Reads(
@@ -2920,6 +2922,18 @@ const LARGEST: &[Step] = &[
         b"",
         0,
         Said::Reply(b"1\n2\n3\n4\n5\n6\n7\na\n"),
+    ),
+    Step::Remove("n.img"),
+    Step::Says(&["lfs mkfs n.img --segments 64 --format 2"], b"", 0, OK),
+    Step::Says(
+        &["lfs info n.img"],
+        b"",
+        0,
+        Said::Reply(
+            b"checkpoint 1\nformat 2\nsegments 64\nclean 63\ndata blocks 0\nmeta blocks 1\nneed 727\nlimit 3008\n\
+            one new file takes up to 1102848 bytes\nlive blocks of each segment:\n\
+            1...............................................................\n",
+        ),
     ),
     Step::Remove("n.img"),
 ];
