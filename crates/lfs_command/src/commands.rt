@@ -296,8 +296,10 @@ fn act<Here: World, R: Files<File = File> + Clock, I: Read, W: Write>(
             let making = making_of(segments, version, force, reserve)?;
             making::mkfs::<Here, R, W>(rt, alloc, image, making, output)
         }
-        Action::Look(asked) => look::<Here, R, W>(rt, alloc, image, asked, output),
-        Action::Explain => explain::<Here, R, W>(rt, alloc, image, output),
+        Action::Look(asked, patience) => {
+            look::<Here, R, W>(rt, alloc, image, asked, patience, output)
+        }
+        Action::Explain(patience) => explain::<Here, R, W>(rt, alloc, image, patience, output),
         Action::Recover(asked) => recover::<Here, R, W>(rt, alloc, image, asked, output),
         Action::Change(asked) => change_volume::<Here, R, W>(rt, alloc, image, asked, output),
         Action::Run => run::<Here, R, I, W>(rt, alloc, image, input, output),
@@ -415,7 +417,7 @@ fn tell<I, E: Write>(alloc: Global, told: Told<'_>, input: &LineKeeper<I>, error
 /// Runs a command line, whose first word is the program's name, and answers the exit status: 0
 /// done, 1 a command refused, or input, output or memory failed, 2 a bad line of the script or a
 /// bad command line, 3 a call of a script refused, where the words ask for an end there. Where it
-/// isn't 0, a text for people goes to `errors`, and behind a look beside another program's writes.
+/// isn't 0, a text for people goes to `errors`.
 pub fn command<R: Files<File = File> + Clock, I: Read, O: Write, E: Write>(
     rt: &R,
     alloc: Global,

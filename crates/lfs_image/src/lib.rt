@@ -15,6 +15,8 @@ mod mounts;
 pub mod printing;
 mod reason;
 pub mod room;
+mod steadiness;
+mod unfinished;
 pub mod viewing;
 mod walking;
 
