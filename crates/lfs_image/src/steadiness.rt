@@ -264,9 +264,10 @@ impl Sight {
     }
 
     // The segment whose used part has the same bytes still, behind which more was written.
-    fn appended(&self, now: &Moment, bytes: &[u8]) -> Option<u32> {
+    fn appended(&self, now: &Moment, bytes: &[u8]) -> Option<usize> {
         let Part { segment, used } = self.part?;
-        let row = now.rows.get(segment as usize)?;
+        let segment = segment as usize;
+        let row = now.rows.get(segment)?;
         if row.used >= used && bytes == self.bytes.as_slice() {
             Some(segment)
         } else {
@@ -329,7 +330,7 @@ fn is_still_used(own: SegmentUsage, now: SegmentUsage) -> bool
 
 /// Whether each segment that one usage table shows as used is used with the same age in a later one.
 /// The segment that was only appended to counts too.
-pub fn are_still_used(own: &[SegmentUsage], now: &[SegmentUsage], appended: Option<u32>) -> bool
+pub fn are_still_used(own: &[SegmentUsage], now: &[SegmentUsage], appended: Option<usize>) -> bool
     ensures { IsTrue result → (s : ℕ) → s < length own.now → (appended ≡ Some s)
         ⊎ StaysUsed (get_or own.now s no_use) (get_or now.now s no_use) }
 {
@@ -337,7 +338,7 @@ pub fn are_still_used(own: &[SegmentUsage], now: &[SegmentUsage], appended: Opti
         return false;
     }
     for segment in 0..own.len() {
-        if appended != Some(segment as u32) && !is_still_used(own[segment], now[segment]) {
+        if appended != Some(segment) && !is_still_used(own[segment], now[segment]) {
             return false;
         }
     }
