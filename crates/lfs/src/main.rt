@@ -2,7 +2,8 @@
 #![tactic(auto)]
 
 pub use lfs_command::command;
-use std::io::ErrorKind;
+use lfs_command::{Terminals, command_at};
+use std::io::{ErrorKind, IsTerminal};
 use std::process::ExitCode;
 use std::{env, io};
 
@@ -15,11 +16,19 @@ fn words(rt: &HostRuntime) -> io::Result<Vec<String>> {
     Ok(words)
 }
 
+fn terminals(rt: &HostRuntime) -> Terminals {
+    Terminals {
+        input: rt.stdin().is_terminal(),
+        errors: rt.stderr().is_terminal(),
+    }
+}
+
 fn main(rt: HostRuntime) -> ExitCode {
     let status = match words(&rt) {
-        Ok(words) => command(
+        Ok(words) => command_at(
             &rt,
             rt.alloc(),
+            terminals(&rt),
             words.as_slice(),
             &mut rt.reader(),
             &mut rt.stdout(),

@@ -1,9 +1,10 @@
 -- What a command does that runs a script on a device. The command line is an own choice.
-use Rattle.std.specs.Prelude.{◌≡◌, ◌⊎◌, ℕ, true, false, Option, List}
+use Rattle.std.specs.Prelude.{◌≡◌, ◌⊎◌, ℕ, Bool, true, false, Option, List}
 use Rattle.std.specs.Io.KnownBytes.{Keeps}
 use Rattle.lfs_model.specs.Device.{AllLeft, DeviceState}
 use Rattle.lfs_recover.specs.script.fs.Mounting.{IsRefused}
 use Rattle.lfs_recover.specs.script.fs.log.verify.declared.fault.MountFault.{MountFault}
+use Rattle.lfs_recover.specs.script.Saved.{SessionSaved}
 use Rattle.lfs_recover.specs.script.Session.{SessionTold}
 use Rattle.lfs_recover.specs.script.Told.{Look}
 use Rattle.lfs_recover.specs.script.declared.script.StrictEnd.{StrictEnd}
@@ -41,3 +42,9 @@ PlaysToRefusal = IsPlayedStrictly Refused
 abbrev pub PlaysStrictly : Option (List ℕ) → Option (List ℕ) → Option (List ℕ) → Option (List ℕ) → DeviceState → DeviceState → List Look
     → List Look → Type 0
 PlaysStrictly r r' w w' d d' s s' = ((end : StrictEnd) × IsPlayedStrictly end r r' w w' d d' s s') ⊎ IsUnmounted r r' d d'
+
+-- What is told of it, whether all is saved at the end of the use; where there was no mount nothing is said by that.
+abbrev pub TellsSaved : Bool → Bool → Option (List ℕ) → Option (List ℕ) → Option (List ℕ) → DeviceState → DeviceState → List Look
+    → List Look → Type 0
+TellsSaved is_saved strict r r' w d d' s s' = ((end : StrictEnd) × (printed : Option (List ℕ))
+    × SessionSaved is_saved strict end r r' w printed d d' s s') ⊎ IsUnmounted r r' d d'

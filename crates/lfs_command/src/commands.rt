@@ -1,10 +1,10 @@
 //! The commands, over words and streams that are handed in.
-ghost use Rattle.std.specs.Prelude.{◌≡◌, ◌≢◌, ◌≤◌, Ok, IfOk, codes};
+ghost use Rattle.std.specs.Prelude.{◌≡◌, ◌≢◌, ◌≤◌, Ok, IfOk, codes, false, true};
 ghost use Rattle.std.specs.Io.KnownBytes.{Keeps};
 ghost use Rattle.lfs_model.specs.Device.{Carries};
 ghost use Rattle.lfs_device.specs.MemoryDevice.{device_state};
 ghost use Rattle.lfs_command.specs.Asking.{HasWord};
-ghost use Rattle.lfs_command.specs.Playing.{PlaysToRefusal, Plays, PlaysStrictly};
+ghost use Rattle.lfs_command.specs.Playing.{PlaysToRefusal, Plays, PlaysStrictly, TellsSaved};
 
 use crate::bad_line::{put_bad_line, reason_of};
 use crate::changing::change_volume;
@@ -13,14 +13,15 @@ use crate::remembering::LineKeeper;
 use crate::request::{Action, Request, read_request};
 use crate::simulation;
 use crate::simulation::{Plan, read_plan};
-use lfs_device::{Left, MemDevice, SectorDevice, ThisWorld, World};
+use crate::terminals::Terminals;
+use lfs_device::{FileDeviceIn, Left, MemDevice, SectorDevice, ThisWorld, World};
 use lfs_recover::image::fault::{Ending, Fault, Outcome, Refusal, Told};
-use lfs_recover::image::foreign::explained;
-use lfs_recover::image::image::Making;
+use lfs_recover::image::image;
+use lfs_recover::image::image::{Making, unmounted};
 use lfs_recover::image::looking::{end_look, show};
-use lfs_recover::image::printing::{flush, print, put_count, refuse};
+use lfs_recover::image::making::mkfs;
+use lfs_recover::image::printing::{flush, print, put, put_count, refuse};
 use lfs_recover::image::viewing::look;
-use lfs_recover::image::{image, making};
 use lfs_recover::script::{
     Looks, ScriptEnd, StrictEnd, Witness, read_u32, use_and_stop_told, use_volume_told,
 };
@@ -34,8 +35,35 @@ use std::time::Clock;
 /// What a command is about that has no image.
 const IN_MEMORY: &str = "a volume in memory";
 
-// How a volume is made that has so many segments, as a word still.
-fn making_of(segments: &str, version: u32, force: bool, reserve: bool) -> Result<Making, Fault> {
+/// What people are told of a script at whose end something isn't saved.
+const UNSAVED: &[u8] =
+    b": what was done since the last `sync` isn't saved; end the script with the line sync\n";
+
+/// How a script came to its end on an image, or why it didn't begin.
+#[derive(Drop)]
+struct Played<E> {
+    end: Result<E, Fault>,
+    /// Nothing is done that isn't saved.
+    is_saved: bool,
+}
+
+/// How a command line is answered.
+#[derive(Drop)]
+struct Answered<'a> {
+    told: Result<Told<'a>, Fault>,
+    /// The image of a script at whose end something isn't saved.
+    unsaved: Option<&'a str>,
+}
+
+// How a volume is made that has so many segments, as a word still. A person is asked where there is
+// one, unless it is forced.
+fn making_of(
+    terminals: Terminals,
+    segments: &str,
+    version: u32,
+    force: bool,
+    reserve: bool,
+) -> Result<Making, Fault> {
     let Some(segments) = read_u32(segments.as_bytes()) else {
         return Err(Fault::Segments);
     };
@@ -43,6 +71,7 @@ fn making_of(segments: &str, version: u32, force: bool, reserve: bool) -> Result
         segments,
         version,
         force,
+        asks: terminals.input && terminals.errors && !force,
         reserve,
     })
 }
@@ -87,61 +116,55 @@ fn play<D: SectorDevice, I: Read, W: Write, S: Witness<D, W>>(
     input: &mut I,
     output: &mut W,
     witness: &mut S,
-) -> (Result<Ending, Fault>, D)
+) -> (Played<Ending>, D)
     ensures plays { Plays (I.remaining input.old) (I.remaining input.new)
         (W.contents output.old) (W.contents output.new) (D.state device) (D.state result.1)
+        (S.looks witness.old) (S.looks witness.new) }
+    ensures saved { TellsSaved result.0.is_saved false (I.remaining input.old)
+        (I.remaining input.new) (W.contents output.old) (D.state device) (D.state result.1)
         (S.looks witness.old) (S.looks witness.new) }
     ensures carries { Carries (D.state device) (D.state result.1) }
 {
     match use_volume_told(alloc, false, input, output, witness, device) {
-        (Ok(end), device) => (end_plain(end, output), device),
-        (Err(fault), device) => (refuse(output, Refusal::from(fault)), device),
+        (Ok(used), device) => {
+            let end = end_plain(used.script, output);
+            let is_saved = used.is_saved;
+            (Played { end, is_saved }, device)
+        }
+        (Err(fault), device) => {
+            let end = refuse(output, Refusal::from(fault));
+            let is_saved = true;
+            (Played { end, is_saved }, device)
+        }
     }
 }
 
 // Says more of a volume that wasn't mounted, by its device.
-fn explain_ending<D: SectorDevice>(
+fn explain_ending<Here: World>(
     ending: Result<Ending, Fault>,
-    device: &mut D,
+    device: &mut FileDeviceIn<Here>,
 ) -> Result<Ending, Fault> {
     match ending {
         Ok(Ending::Refused(Refusal::Mount(fault))) => {
-            Ok(Ending::Refused(explained(fault, device)))
+            Ok(Ending::Refused(unmounted(fault, device)))
         }
         ending => ending,
     }
 }
 
 // The same of a strict run.
-fn explain_outcome<D: SectorDevice>(
+fn explain_outcome<Here: World>(
     outcome: Result<Outcome, Fault>,
-    device: &mut D,
+    device: &mut FileDeviceIn<Here>,
 ) -> Result<Outcome, Fault>
     ensures { result ≡ Ok Outcome.CallRefused → outcome ≡ Ok Outcome.CallRefused }
 {
     match outcome {
         Ok(Outcome::Ended(Ending::Refused(Refusal::Mount(fault)))) => {
-            let refusal = explained(fault, device);
+            let refusal = unmounted(fault, device);
             Ok(Outcome::Ended(Ending::Refused(refusal)))
         }
         outcome => outcome,
-    }
-}
-
-fn run<Here: World, R: Files<File = File> + Clock, I: Read, W: Write>(
-    rt: &R,
-    alloc: Global,
-    image: &str,
-    input: &mut I,
-    output: &mut W,
-) -> Result<Ending, Fault> {
-    match image::open_to_write::<Here, R>(rt, image) {
-        Ok(device) => {
-            let mut looks = Looks::new();
-            let (ending, mut device) = play(alloc, device, input, output, &mut looks);
-            explain_ending(ending, &mut device)
-        }
-        Err(fault) => refuse(output, Refusal::Image(fault)),
     }
 }
 
@@ -152,6 +175,31 @@ fn outcome_of(ending: Result<Ending, Fault>) -> Result<Outcome, Fault>
     match ending {
         Ok(ending) => Ok(Outcome::Ended(ending)),
         Err(fault) => Err(fault),
+    }
+}
+
+fn run<Here: World, R: Files<File = File> + Clock, I: Read, W: Write>(
+    rt: &R,
+    alloc: Global,
+    image: &str,
+    input: &mut I,
+    output: &mut W,
+) -> Played<Outcome>
+    ensures { result.end ≢ Ok Outcome.CallRefused }
+{
+    match image::open_to_write::<Here, R>(rt, image) {
+        Ok(device) => {
+            let mut looks = Looks::new();
+            let (played, mut device) = play(alloc, device, input, output, &mut looks);
+            Played {
+                end: outcome_of(explain_ending(played.end, &mut device)),
+                is_saved: played.is_saved,
+            }
+        }
+        Err(fault) => Played {
+            end: outcome_of(refuse(output, Refusal::Image(fault))),
+            is_saved: true,
+        },
     }
 }
 
@@ -176,19 +224,30 @@ fn play_strict<D: SectorDevice, I: Read, W: Write, S: Witness<D, W>>(
     input: &mut I,
     output: &mut W,
     witness: &mut S,
-) -> (Result<Outcome, Fault>, D)
+) -> (Played<Outcome>, D)
     ensures plays { PlaysStrictly (I.remaining input.old) (I.remaining input.new)
         (W.contents output.old) (W.contents output.new) (D.state device) (D.state result.1)
         (S.looks witness.old) (S.looks witness.new) }
-    ensures refused { result.0 ≡ Ok Outcome.CallRefused
+    ensures refused { result.0.end ≡ Ok Outcome.CallRefused
         → PlaysToRefusal (I.remaining input.old) (I.remaining input.new) (W.contents output.old)
         (W.contents output.new) (D.state device) (D.state result.1) (S.looks witness.old)
         (S.looks witness.new) }
+    ensures saved { TellsSaved result.0.is_saved true (I.remaining input.old)
+        (I.remaining input.new) (W.contents output.old) (D.state device) (D.state result.1)
+        (S.looks witness.old) (S.looks witness.new) }
     ensures carries { Carries (D.state device) (D.state result.1) }
 {
     match use_volume_told(alloc, true, input, output, witness, device) {
-        (Ok(end), device) => (end_strict(end, output), device),
-        (Err(fault), device) => (outcome_of(refuse(output, Refusal::from(fault))), device),
+        (Ok(used), device) => {
+            let end = end_strict(used.script, output);
+            let is_saved = used.is_saved;
+            (Played { end, is_saved }, device)
+        }
+        (Err(fault), device) => {
+            let end = outcome_of(refuse(output, Refusal::from(fault)));
+            let is_saved = true;
+            (Played { end, is_saved }, device)
+        }
     }
 }
 
@@ -198,14 +257,20 @@ fn run_strict<Here: World, R: Files<File = File> + Clock, I: Read, W: Write>(
     image: &str,
     input: &mut I,
     output: &mut W,
-) -> Result<Outcome, Fault> {
+) -> Played<Outcome> {
     match image::open_to_write::<Here, R>(rt, image) {
         Ok(device) => {
             let mut looks = Looks::new();
-            let (outcome, mut device) = play_strict(alloc, device, input, output, &mut looks);
-            explain_outcome(outcome, &mut device)
+            let (played, mut device) = play_strict(alloc, device, input, output, &mut looks);
+            Played {
+                end: explain_outcome(played.end, &mut device),
+                is_saved: played.is_saved,
+            }
         }
-        Err(fault) => outcome_of(refuse(output, Refusal::Image(fault))),
+        Err(fault) => Played {
+            end: outcome_of(refuse(output, Refusal::Image(fault))),
+            is_saved: true,
+        },
     }
 }
 
@@ -278,13 +343,15 @@ fn sim<I: Read, W: Write>(
 }
 
 // Does what is asked for with an image, in any world, which only contracts see.
-fn act<Here: World, R: Files<File = File> + Clock, I: Read, W: Write>(
+fn act<Here: World, R: Files<File = File> + Clock, I: Read, W: Write, E: Write>(
     rt: &R,
     alloc: Global,
+    terminals: Terminals,
     image: &str,
     action: Action<'_>,
     input: &mut I,
     output: &mut W,
+    errors: &mut E,
 ) -> Result<Ending, Fault> {
     match action {
         Action::Mkfs {
@@ -293,8 +360,8 @@ fn act<Here: World, R: Files<File = File> + Clock, I: Read, W: Write>(
             force,
             reserve,
         } => {
-            let making = making_of(segments, version, force, reserve)?;
-            making::mkfs::<Here, R, W>(rt, alloc, image, making, output)
+            let making = making_of(terminals, segments, version, force, reserve)?;
+            mkfs::<Here, R, I, W, E>(rt, alloc, image, making, input, output, errors)
         }
         Action::Look(asked, patience) => {
             look::<Here, R, W>(rt, alloc, image, asked, patience, output)
@@ -302,8 +369,9 @@ fn act<Here: World, R: Files<File = File> + Clock, I: Read, W: Write>(
         Action::Explain(patience) => explain::<Here, R, W>(rt, alloc, image, patience, output),
         Action::Recover(asked) => recover::<Here, R, W>(rt, alloc, image, asked, output),
         Action::Change(asked) => change_volume::<Here, R, W>(rt, alloc, image, asked, output),
-        Action::Run => run::<Here, R, I, W>(rt, alloc, image, input, output),
-        Action::Put(source) => put_into::<Here, R, I, W>(rt, alloc, image, source, input, output),
+        Action::Put(source) => {
+            put_into::<Here, R, I, W>(rt, alloc, terminals, image, source, input, output)
+        }
     }
 }
 
@@ -330,77 +398,133 @@ fn help<W: Write>(text: &str, output: &mut W) -> Result<Ending, Fault> {
     Ok(Ending::Done)
 }
 
-fn answer<'a, R: Files<File = File> + Clock, I: Read, W: Write>(
-    rt: &R,
-    alloc: Global,
-    words: &'a [String],
-    input: &mut I,
-    output: &mut W,
-) -> Result<Told<'a>, Fault>
-    ensures strict { IfOk result (λ told. told.outcome ≡ Outcome.CallRefused
-        → HasWord words.now (codes "--strict")) }
+// Answers what comes of a script on an image.
+fn answer_run<'a>(image: &'a str, played: Played<Outcome>) -> Answered<'a>
+    ensures { IfOk result.told (λ told. Ok told.outcome ≡ played.end) }
 {
-    match read_request(alloc, words)? {
-        Request::Help(text) => told(IN_MEMORY, None, help(text.as_str(), output)),
-        Request::Image { image, action } => {
-            let ending = act::<ThisWorld, R, I, W>(rt, alloc, image, action, input, output);
-            told(image, action.path(), ending)
-        }
-        Request::Strict { image } => {
-            match run_strict::<ThisWorld, R, I, W>(rt, alloc, image, input, output) {
-                Ok(outcome) => Ok(Told {
-                    subject: image,
-                    path: None,
-                    outcome,
-                }),
-                Err(fault) => Err(fault),
-            }
-        }
-        Request::Sim {
-            segments,
-            version,
-            stop,
-            left,
-        } => match read_plan(segments, version, stop, left) {
-            Ok(plan) => told(IN_MEMORY, None, sim(alloc, plan, input, output)),
-            Err(fault) => Err(fault),
-        },
+    let unsaved = if played.is_saved { None } else { Some(image) };
+    let told = match played.end {
+        Ok(outcome) => Ok(Told {
+            subject: image,
+            path: None,
+            outcome,
+        }),
+        Err(fault) => Err(fault),
+    };
+    Answered { told, unsaved }
+}
+
+// Answers what has nothing to save.
+fn answer_told<'a>(told: Result<Told<'a>, Fault>) -> Answered<'a>
+    ensures { result.told ≡ told }
+{
+    Answered {
+        told,
+        unsaved: None,
     }
 }
 
-// What came before a fault goes out before its text.
-fn answer_and_flush<'a, R: Files<File = File> + Clock, I: Read, W: Write>(
+fn answer<'a, R: Files<File = File> + Clock, I: Read, W: Write, E: Write>(
     rt: &R,
     alloc: Global,
+    terminals: Terminals,
     words: &'a [String],
     input: &mut I,
     output: &mut W,
-) -> Result<Told<'a>, Fault>
-    ensures strict { IfOk result (λ told. told.outcome ≡ Outcome.CallRefused
+    errors: &mut E,
+) -> Answered<'a>
+    ensures strict { IfOk result.told (λ told. told.outcome ≡ Outcome.CallRefused
         → HasWord words.now (codes "--strict")) }
 {
-    let answered = answer(rt, alloc, words, input, output);
-    let flushed = flush(output);
-    let told = answered?;
+    match read_request(alloc, words) {
+        Ok(Request::Help(text)) => {
+            answer_told(told(IN_MEMORY, None, help(text.as_str(), output)))
+        }
+        Ok(Request::Image { image, action }) => {
+            let ending = act::<ThisWorld, R, I, W, E>(
+                rt, alloc, terminals, image, action, input, output, errors,
+            );
+            answer_told(told(image, action.path(), ending))
+        }
+        Ok(Request::Run { image }) => {
+            answer_run(
+                image,
+                run::<ThisWorld, R, I, W>(rt, alloc, image, input, output),
+            )
+        }
+        Ok(Request::Strict { image }) => {
+            answer_run(
+                image,
+                run_strict::<ThisWorld, R, I, W>(rt, alloc, image, input, output),
+            )
+        }
+        Ok(
+            Request::Sim {
+                segments,
+                version,
+                stop,
+                left,
+            },
+        ) => match read_plan(segments, version, stop, left) {
+            Ok(plan) => answer_told(told(IN_MEMORY, None, sim(alloc, plan, input, output))),
+            Err(fault) => answer_told(Err(fault)),
+        },
+        Err(fault) => answer_told(Err(fault)),
+    }
+}
+
+// What is told where an output was flushed so.
+fn told_behind<'a>(
+    told: Result<Told<'a>, Fault>,
+    flushed: Result<(), Fault>,
+) -> Result<Told<'a>, Fault>
+    ensures { IfOk result (λ all. told ≡ Ok all) }
+{
+    let told = told?;
     flushed?;
     Ok(told)
 }
 
-// Hands the command a buffer before the output. Each part of a command flushes what it wrote, and a
-// script its replies before each read.
-fn answer_buffered<'a, R: Files<File = File> + Clock, I: Read, O: Write>(
+// What came before a fault goes out before its text.
+fn answer_and_flush<'a, R: Files<File = File> + Clock, I: Read, W: Write, E: Write>(
     rt: &R,
     alloc: Global,
+    terminals: Terminals,
+    words: &'a [String],
+    input: &mut I,
+    output: &mut W,
+    errors: &mut E,
+) -> Answered<'a>
+    ensures strict { IfOk result.told (λ told. told.outcome ≡ Outcome.CallRefused
+        → HasWord words.now (codes "--strict")) }
+{
+    let answered = answer(rt, alloc, terminals, words, input, output, errors);
+    let flushed = flush(output);
+    Answered {
+        told: told_behind(answered.told, flushed),
+        unsaved: answered.unsaved,
+    }
+}
+
+// Hands the command a buffer before the output. Each part of a command flushes what it wrote, and a
+// script its replies before each read.
+fn answer_buffered<'a, R: Files<File = File> + Clock, I: Read, O: Write, E: Write>(
+    rt: &R,
+    alloc: Global,
+    terminals: Terminals,
     words: &'a [String],
     input: &mut I,
     output: &mut O,
-) -> Result<Told<'a>, Fault>
-    ensures strict { IfOk result (λ told. told.outcome ≡ Outcome.CallRefused
+    errors: &mut E,
+) -> Answered<'a>
+    ensures strict { IfOk result.told (λ told. told.outcome ≡ Outcome.CallRefused
         → HasWord words.now (codes "--strict")) }
 {
     match BufWriter::new(alloc, output) {
-        Ok(mut buffered) => answer_and_flush(rt, alloc, words, input, &mut buffered),
-        Err(_) => Err(Fault::Memory(AllocError)),
+        Ok(mut buffered) => {
+            answer_and_flush(rt, alloc, terminals, words, input, &mut buffered, errors)
+        }
+        Err(_) => answer_told(Err(Fault::Memory(AllocError))),
     }
 }
 
@@ -414,10 +538,66 @@ fn tell<I, E: Write>(alloc: Global, told: Told<'_>, input: &LineKeeper<I>, error
     let _ = put_bad_line(errors, number, reason);
 }
 
+// Tells people that what a script did on an image isn't all saved.
+fn tell_unsaved<E: Write>(image: &str, errors: &mut E) -> Result<(), Fault> {
+    put(errors, b"lfs: ")?;
+    put(errors, image.as_bytes())?;
+    put(errors, UNSAVED)
+}
+
+// Tells people what came of a command, and answers the exit status.
+fn tell_outcome<I, E: Write>(
+    alloc: Global,
+    told: Result<Told<'_>, Fault>,
+    input: &LineKeeper<I>,
+    errors: &mut E,
+) -> u8
+    ensures most { result ≤ 3 }
+    ensures strict { result ≡ 3 → IfOk told (λ told. told.outcome ≡ Outcome.CallRefused) }
+{
+    match told {
+        Ok(told) => {
+            let status = told.outcome.status();
+            if told.has_text() {
+                tell(alloc, told, input, errors);
+            }
+            status
+        }
+        Err(fault) => {
+            let status = fault.status();
+            let _ = errors.writeln(fault);
+            status
+        }
+    }
+}
+
 /// Runs a command line, whose first word is the program's name, and answers the exit status: 0
 /// done, 1 a command refused, or input, output or memory failed, 2 a bad line of the script or a
 /// bad command line, 3 a call of a script refused, where the words ask for an end there. Where it
 /// isn't 0, a text for people goes to `errors`.
+/// A last line of it says that what a script did on an image isn't all saved.
+pub fn command_at<R: Files<File = File> + Clock, I: Read, O: Write, E: Write>(
+    rt: &R,
+    alloc: Global,
+    terminals: Terminals,
+    words: &[String],
+    input: &mut I,
+    output: &mut O,
+    errors: &mut E,
+) -> u8
+    ensures most { result ≤ 3 }
+    ensures strict { result ≡ 3 → HasWord words.now (codes "--strict") }
+{
+    let mut input = LineKeeper::new(alloc, input);
+    let answered = answer_buffered(rt, alloc, terminals, words, &mut input, output, errors);
+    let status = tell_outcome(alloc, answered.told, &input, errors);
+    if let Some(image) = answered.unsaved {
+        let _ = tell_unsaved(image, errors);
+    }
+    status
+}
+
+/// As `command_at`, where no stream is a terminal.
 pub fn command<R: Files<File = File> + Clock, I: Read, O: Write, E: Write>(
     rt: &R,
     alloc: Global,
@@ -429,19 +609,5 @@ pub fn command<R: Files<File = File> + Clock, I: Read, O: Write, E: Write>(
     ensures most { result ≤ 3 }
     ensures strict { result ≡ 3 → HasWord words.now (codes "--strict") }
 {
-    let mut input = LineKeeper::new(alloc, input);
-    match answer_buffered(rt, alloc, words, &mut input, output) {
-        Ok(told) => {
-            let status = told.outcome.status();
-            if told.has_text() {
-                tell(alloc, told, &input, errors);
-            }
-            status
-        }
-        Err(fault) => {
-            let status = fault.status();
-            let _ = errors.writeln(fault);
-            status
-        }
-    }
+    command_at(rt, alloc, Terminals::NONE, words, input, output, errors)
 }

@@ -170,7 +170,7 @@ const OF_FILE: Parameter = Parameter {
     name: FILE,
     form: Form::OptionalWord,
     value: FILE,
-    help: "A file of the host, or else standard input",
+    help: "A file of the host, or - for standard input",
 };
 
 const TO_FOLDER: Parameter = Parameter {
@@ -219,7 +219,7 @@ const BY_FORCE: Parameter = Parameter {
     name: FORCE,
     form: Form::Switch,
     value: "",
-    help: "Format IMAGE also where it is a block device",
+    help: "Ask nothing, and format IMAGE also where it is a block device",
 };
 
 const WITH_ROOM: Parameter = Parameter {
@@ -276,10 +276,12 @@ const VOLUME_USAGES: &[Usage] = &[
         verb: Verb::Mkfs,
         name: "mkfs",
         about: "Make an empty volume",
-        details: "Make an empty volume. A regular file is made, or emptied without a question. A\n\
-            block device keeps its length, and is formatted only with --force, and only\n\
-            while it isn't mounted. An image in a file is sparse without --reserve, so that\n\
-            a full disk shows only as the image is written.",
+        details: "Make an empty volume. A new file gets its name once it is whole. A file that is\n\
+            there is emptied: at a terminal, if it has bytes, only where the answer to a\n\
+            question is yes, or with --force. A block device keeps its length, and is\n\
+            formatted only with --force, and only while it isn't mounted. An image in a\n\
+            file is sparse without --reserve, so that a full disk shows only as the image\n\
+            is written.",
         parameters: &[THE_IMAGE, THE_SEGMENTS, THE_FORMAT, BY_FORCE, WITH_ROOM],
     },
     Usage {
@@ -306,7 +308,8 @@ const VOLUME_USAGES: &[Usage] = &[
         name: "run",
         about: "Run the script on standard input, and print a reply to each line",
         details: "Run the script on standard input, and print a reply to each line. The image is\n\
-            locked meanwhile. What the script doesn't sync may be gone at its end.",
+            locked meanwhile. What the script doesn't sync may be gone at its end; a last\n\
+            line on standard error says so then.",
         parameters: &[THE_IMAGE, STRICTLY],
     },
     Usage {
@@ -363,10 +366,12 @@ const FILE_USAGES: &[Usage] = &[
         name: "put",
         about: "Make a file of standard input, or of a file of the host",
         details: "Make the bytes of FILE, or of standard input, those of the file PATH, and print\n\
-            `ok` and their number. The new file stands as `.lfs-put` in the same directory\n\
-            until it is whole and synced, and then takes the place of the old one: after any\n\
-            stop the old file or the new one is there. What stood as `.lfs-put` is removed.\n\
-            Of a symbolic link the link itself is replaced; a directory is refused.",
+            `ok` and their number. Without FILE standard input has to have a byte and to be\n\
+            no terminal; ./- is a file with the name -. The new file stands as `.lfs-put` in\n\
+            the same directory until it is whole and synced, and then takes the place of the\n\
+            old one: after any stop the old file or the new one is there. What stood as\n\
+            `.lfs-put` is removed. Of a symbolic link the link itself is replaced; a\n\
+            directory is refused.",
         parameters: &[THE_IMAGE, THE_PATH, OF_FILE],
     },
     Usage {

@@ -9,8 +9,10 @@ mod putting;
 mod remembering;
 mod request;
 mod simulation;
+mod terminals;
 
-pub use commands::command;
+pub use commands::{command, command_at};
 pub use lfs_device as device;
 pub use lfs_recover::put::{PutFault, UNFINISHED, put};
 pub use lfs_recover::script;
+pub use terminals::Terminals;

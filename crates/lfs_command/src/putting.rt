@@ -1,7 +1,10 @@
 //! The command that puts a file into a volume, from standard input or from a file of the host.
+use crate::terminals::Terminals;
 use lfs_device::{SectorDevice, World};
+use lfs_model::limits::SECTOR_LEN;
 use lfs_recover::image::fault::{Ending, Fault, Refusal};
 use lfs_recover::image::host::HostFault;
+use lfs_recover::image::image::end_caused;
 use lfs_recover::image::looking::read_path;
 use lfs_recover::image::printing::{print_copied, refuse};
 use lfs_recover::image::room::refusal_of;
@@ -18,9 +21,17 @@ use std::time::Clock;
 #[derive(Clone, Copy)]
 pub struct Source<'a> {
     pub path: &'a str,
-    /// A file of the host. Without one it is standard input.
+    /// A file of the host, or `-` for standard input. Without one it is standard input too, if that
+    /// is no terminal and has a byte.
     pub file: Option<&'a str>,
 }
+
+/// The word for standard input in the place of a file of the host.
+const STANDARD_INPUT: &str = "-";
+
+/// What people are told who give no file at a terminal.
+const NO_FILE: &str =
+    "lfs: put has no FILE, and standard input is a terminal; say one of\n  lfs put IMAGE PATH FILE\n  ... | lfs put IMAGE PATH -";
 
 // Ends a put: prints the number of bytes, or the line of a refusal.
 fn end_put<D: SectorDevice, W: Write>(
@@ -55,7 +66,7 @@ fn put_open<D: SectorDevice, W: Write>(
     }
 }
 
-// Puts a file of the host, which is looked for behind the path and before the volume is changed.
+// Puts a file of the host.
 fn put_file<D: SectorDevice, R: Files<File = File>, W: Write>(
     rt: &R,
     alloc: Global,
@@ -64,17 +75,43 @@ fn put_file<D: SectorDevice, R: Files<File = File>, W: Write>(
     name: &str,
     output: &mut W,
 ) -> Result<Ending, Fault> {
-    match check_place(alloc, fs, path) {
-        Ok(()) => {}
-        Err(fault) => return end_put(fs, Err(fault), output),
-    }
     match host::open_file(rt, name) {
         Ok(file) => put_open(alloc, fs, path, name, file, output),
         Err(fault) => Err(Fault::of_host(alloc, name, fault)),
     }
 }
 
-// Puts a file of the host, or standard input.
+// Puts what a reader gives, which may be nothing.
+fn put_input<D: SectorDevice, I: Read, W: Write>(
+    alloc: Global,
+    fs: &mut Fs<D>,
+    path: &[u8],
+    input: &mut I,
+    output: &mut W,
+) -> Result<Ending, Fault> {
+    let done = put(alloc, fs, path, input);
+    end_put(fs, done, output)
+}
+
+// Puts what a reader gives, where that is something. A whole block is read first: what is written
+// behind it begins with a block too.
+fn put_some_input<D: SectorDevice, I: Read, W: Write>(
+    alloc: Global,
+    fs: &mut Fs<D>,
+    path: &[u8],
+    input: &mut I,
+    output: &mut W,
+) -> Result<Ending, Fault> {
+    let mut first = [0; SECTOR_LEN];
+    match input.read(&mut first) {
+        Ok(0) => refuse(output, Refusal::NoInput),
+        Ok(count) => put_input(alloc, fs, path, &mut first[..count].chain(input), output),
+        Err(_) => Err(Fault::Input),
+    }
+}
+
+// Puts a file of the host, or standard input. The path is looked at before either, and both are
+// before the volume is changed.
 fn put_from<D: SectorDevice, R: Files<File = File>, I: Read, W: Write>(
     rt: &R,
     alloc: Global,
@@ -84,35 +121,46 @@ fn put_from<D: SectorDevice, R: Files<File = File>, I: Read, W: Write>(
     input: &mut I,
     output: &mut W,
 ) -> Result<Ending, Fault> {
+    match check_place(alloc, fs, path) {
+        Ok(()) => {}
+        Err(fault) => return end_put(fs, Err(fault), output),
+    }
     match file {
+        Some(STANDARD_INPUT) => put_input(alloc, fs, path, input, output),
         Some(name) => put_file(rt, alloc, fs, path, name, output),
-        None => {
-            let done = put(alloc, fs, path, input);
-            end_put(fs, done, output)
-        }
+        None => put_some_input(alloc, fs, path, input, output),
     }
 }
 
-/// Makes a file of the volume of an image. The spelling of the path comes before the image.
+// The fault of a command line without FILE, where nobody may have meant standard input.
+fn unnamed_terminal(alloc: Global) -> Fault {
+    match NO_FILE.to_string(alloc) {
+        Ok(text) => Fault::Line(text),
+        Err(error) => Fault::Memory(error),
+    }
+}
+
+/// Makes a file of the volume of an image. A terminal that no word asks for and the spelling of the
+/// path come before the image.
 pub fn put_into<Here: World, R: Files<File = File> + Clock, I: Read, W: Write>(
     rt: &R,
     alloc: Global,
+    terminals: Terminals,
     image: &str,
     source: Source<'_>,
     input: &mut I,
     output: &mut W,
 ) -> Result<Ending, Fault> {
+    if terminals.input && source.file.is_none() {
+        return Err(unnamed_terminal(alloc));
+    }
     let path = read_path(alloc, source.path)?;
     match image::mount_to_write::<Here, R>(rt, alloc, image) {
-        Ok(mut fs) => put_from(
-            rt,
-            alloc,
-            &mut fs,
-            path.as_slice(),
-            source.file,
-            input,
-            output,
-        ),
+        Ok(mut fs) => {
+            let path = path.as_slice();
+            let ending = put_from(rt, alloc, &mut fs, path, source.file, input, output);
+            end_caused(ending, fs.device())
+        }
         Err(refusal) => refuse(output, refusal),
     }
 }

@@ -38,7 +38,6 @@ pub enum Action<'a> {
     Explain(Patience),
     Recover(Recovery<'a>),
     Change(Change<'a>),
-    Run,
     Put(Source<'a>),
 }
 
@@ -50,7 +49,7 @@ impl<'a> Action<'a> {
             Action::Put(source) => Some(source.path),
             Action::Change(change) => change.path(),
             Action::Explain(_) | Action::Recover(_) => None,
-            Action::Mkfs { .. } | Action::Run => None,
+            Action::Mkfs { .. } => None,
         }
     }
 }
@@ -63,6 +62,10 @@ pub enum Request<'a> {
     Image {
         image: &'a str,
         action: Action<'a>,
+    },
+    /// A script is run on an image.
+    Run {
+        image: &'a str,
     },
     /// A script is run on an image, to the first call that is refused.
     Strict {
@@ -208,7 +211,9 @@ fn asked<'a>(verb: Verb, found: &ArgMatches<'a>) -> Option<Request<'a>> {
         Verb::Run if found.get_flag(STRICT) => Some(Request::Strict {
             image: found.get_str(IMAGE)?,
         }),
-        Verb::Run => on_image(Some(Action::Run), found),
+        Verb::Run => Some(Request::Run {
+            image: found.get_str(IMAGE)?,
+        }),
         Verb::Sim => read_sim(found),
     }
 }
@@ -248,10 +253,7 @@ fn as_asked<'a>(words: &[String], request: Request<'a>) -> Request<'a>
     ensures { IsStrict result → HasWord words.now (codes "--strict") }
 {
     match request {
-        Request::Strict { image } if !has_word(words, "--strict") => Request::Image {
-            image,
-            action: Action::Run,
-        },
+        Request::Strict { image } if !has_word(words, "--strict") => Request::Run { image },
         request => request,
     }
 }

@@ -2,7 +2,7 @@
 use Rattle.lfs_fs.proofs.Prelude.{◌≡◌, ◌⊎◌, ℕ, false, List, ◌∷◌, sym, ◌∙◌, ap, subst, inl, inr, Answer, Call, CheckpointValue, Content}
 use Rattle.lfs_fs.proofs.Prelude.{AllLeft, DeviceState, Carries, IsLawful, LeavesOnly, Only, Point, Line, State, drop_nameless}
 use Rattle.lfs_fs.proofs.Prelude.{LeavesOne, Stands, StandsForSome, LeavesPrefix, joined, single_state, Some-injective, settled, Fs}
-use Rattle.lfs_fs.proofs.Prelude.{FindsState, RanAt, RunsLines, TellsLines, seen, IsAt, Mounted, Runs, segments_of}
+use Rattle.lfs_fs.proofs.Prelude.{FindsState, RanAt, RunsLines, TellsLines, seen, IsAt, Mounted, Runs, final, segments_of}
 use Rattle.lfs_model.specs.Content.{newest}
 use Rattle.lfs_model.specs.Device.{IsUntouched}
 use Rattle.lfs_model.specs.Since.{UsesTold}
@@ -10,6 +10,7 @@ use Rattle.lfs_model.specs.Use.{Continues, IsNumbered, UsesVolume}
 use Rattle.lfs_model.specs.Volume.{StandsForPrefix}
 use Rattle.lfs_model.proofs.Committed.{nothing_dropped}
 use Rattle.lfs_fs.specs.Mounting.{MountsAt}
+use Rattle.lfs_fs.specs.Volume.{LeavesAll}
 
 -- what a content stands for, under another name of the state
 stands_as : {c : Content} {s t : State} → t ≡ s → Stands c s → Stands c t
@@ -124,3 +125,15 @@ module _ {D : Type 0} {state : D → DeviceState} (d : D) (lawful : IsLawful (st
         since = (tells.told mounted.point keeps mounted.at).kept
             (alone tells.runs keeps rans);
       }
+
+  -- Where all is saved, and no commit failed, a stop leaves the state behind the last line.
+  pub told_saved : {clocks : List ℕ} (tells : TellsLines state (seen v) new lines answers clocks)
+      (keeps : (state new.log.device).keeps_model) → LeavesAll state new
+      → (final (uses_told tells keeps).uses.first (uses_told tells keeps).uses.points).halted ≡ false → LeavesOne (state new.log.device)
+      (drop_nameless (final (uses_told tells keeps).uses.first (uses_told tells keeps).uses.points).state)
+  unfolding uses_told uses_by
+  told_saved tells keeps all on =
+      let rans : ((p : Point) → IsAt state (seen v) p → RanAt state (seen v) new lines answers p) = λ p is. (tells.told p keeps is).ran in
+      let mounted = at tells.runs keeps rans in
+      let last = (ran tells.runs keeps rans).at in
+      all (final mounted.point (ran tells.runs keeps rans).points) (sym last.halted ∙ on) last

@@ -1,6 +1,6 @@
 -- What a mount and a run of a script say together, and what a stop after them leaves: a use of a volume.
 use Rattle.std.proofs.Common.{◌≡◌, ◌<◌, ◌≤◌, ⊎_elim, arith, ℕ, Bool, true, false, Option, Result, Ok, Err, List, sym, ◌∙◌, subst}
-use Rattle.std.proofs.Common.{IfOk, IfErr}
+use Rattle.std.proofs.Common.{IfOk, IfErr, IsTrue}
 use Rattle.lfs_model.specs.Content.{Content}
 use Rattle.lfs_model.specs.Device.{Carries, DeviceState, Elapses, IsLawful, IsUntouched, LeavesOnly, Only}
 use Rattle.lfs_model.specs.Run.{Point}
@@ -12,11 +12,12 @@ use Rattle.lfs_model.proofs.Moments.{goes_on}
 use Rattle.lfs_fs.specs.declared.fs.Fs.{Fs}
 use Rattle.lfs_fs.specs.Mounting.{FindsState, IsMountFault, IsRefused}
 use Rattle.lfs_fs.specs.Seen.{seen}
-use Rattle.lfs_fs.specs.Volume.{Mounted}
+use Rattle.lfs_fs.specs.Volume.{LeavesAll, Mounted}
 use Rattle.lfs_fs.specs.log.verify.declared.fault.MountFault.{MountFault}
 use Rattle.lfs_fs.specs.log.verify.declared.fault.MountFault.TheVariants.{NoMemory, Device, TooSmall, NoCheckpoint, Damaged}
-use Rattle.lfs_fs.proofs.Sessions.{uses_told, uses_volume}
+use Rattle.lfs_fs.proofs.Sessions.{told_saved, uses_told, uses_volume}
 use Rattle.lfs_script.specs.Running.{Ends, EndsBy, EndsTold}
+use Rattle.lfs_script.specs.Saved.{SessionSaved}
 use Rattle.lfs_script.specs.Session.{Session, SessionTold}
 use Rattle.lfs_script.specs.Strict.{StrictSession}
 use Rattle.lfs_script.specs.Told.{Look}
@@ -78,6 +79,21 @@ used_told {state} d r w v new s lawful finds durable untouched carries moment no
   bytes = ends.ends.bytes;
   looked = ends.looked;
   uses = λ keeps. uses_told d lawful v finds durable untouched carries moment no_failure ends.told keeps;
+}
+
+-- and where all may be saved then
+pub used_saved : {D : Type 0} {state : D → DeviceState} (d : D) {is_saved strict : Bool} {end : StrictEnd} (r : Option (List ℕ))
+    {r' : Option (List ℕ)} (w : Option (List ℕ)) {w' : Option (List ℕ)} (v : Fs D)
+    (new : Mounted D) (s : List Look) {s' : List Look} → IsLawful (state d) → FindsState state d v
+    → ((state (seen v).log.device).keeps_model → Only (state d).content (state (seen v).log.device))
+    → IsUntouched (state d) (state (seen v).log.device) → Carries (state d) (state (seen v).log.device)
+    → LeavesOnly (state d) (state (seen v).log.device) (state d).may_leave → (state (seen v).log.device).failures ≡ (state d).failures
+    → EndsTold state strict end r r' w w' (seen v) new s s' → (IsTrue is_saved → LeavesAll state new)
+    → SessionSaved is_saved strict end r r' w w' (state d) (state new.log.device) s s'
+unfolding used_told
+used_saved {state} d r w v new s lawful finds durable untouched carries moment no_failure ends all = record {
+  session = used_told d r w v new s lawful finds durable untouched carries moment no_failure ends;
+  saved = λ is keeps. told_saved d lawful v finds durable untouched carries moment no_failure ends.told keeps (all is);
 }
 
 -- where it isn't strict, no refusal ends it

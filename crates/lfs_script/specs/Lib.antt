@@ -14,6 +14,7 @@ pub mod Session
 pub mod Unused
 pub mod Seen
 pub mod Told
+pub mod Saved
 pub mod Series
 pub mod SeriesTold
 pub use Rattle.lfs_fs.specs as fs

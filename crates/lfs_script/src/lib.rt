@@ -32,6 +32,6 @@ pub use script::{ScriptEnd, StrictEnd, run, run_strict, run_told};
 pub use session::{StoppedScript, use_and_stop, use_each, use_volume};
 pub use sink::Stopped;
 pub use strict::use_volume_strict;
-pub use told::{use_and_stop_told, use_each_told, use_volume_told};
+pub use told::{UseEnd, use_and_stop_told, use_each_told, use_volume_told};
 pub use witness::{Looks, Witness};
 pub use word::WordFault;

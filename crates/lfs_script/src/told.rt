@@ -2,6 +2,7 @@
 ghost use Rattle.std.specs.Prelude.{◌≡◌, IfOk, IfErr, OnOk, OnErr};
 ghost use Rattle.lfs_model.specs.Device.{Carries, IsUntouched, Only};
 ghost use Rattle.lfs_device.specs.MemoryDevice.{device_state};
+ghost use Rattle.lfs_script.specs.Saved.{SessionSaved};
 ghost use Rattle.lfs_script.specs.Series.{FromAny, texts_of};
 ghost use Rattle.lfs_script.specs.SeriesTold.{StopsAtMountTold, UsesInTurnTold};
 ghost use Rattle.lfs_script.specs.Session.{SessionTold};
@@ -15,8 +16,16 @@ use lfs_fs::{Fs, MountFault};
 use std::alloc::Global;
 use std::io::{Read, Write};
 
+/// How a use of a volume ended.
+#[derive(Clone, Copy, Debug, PartialEq, Eq)]
+pub struct UseEnd {
+    pub script: StrictEnd,
+    /// Whether all that was done is saved, as `Fs::is_saved` says it.
+    pub is_saved: bool,
+}
+
 /// As `use_volume` or `use_volume_strict`, before a witness: a stop at any moment since a reply went
-/// out leaves every call that was acknowledged by then.
+/// out leaves every call that was acknowledged by then. It tells whether all is saved at the end.
 pub fn use_volume_told<R: Read, W: Write, D: SectorDevice, S: Witness<D, W>>(
     alloc: Global,
     strict: bool,
@@ -24,10 +33,14 @@ pub fn use_volume_told<R: Read, W: Write, D: SectorDevice, S: Witness<D, W>>(
     writer: &mut W,
     witness: &mut S,
     device: D,
-) -> (Result<StrictEnd, MountFault>, D)
-    ensures ran { IfOk result.0 (λ end. SessionTold strict end (R.remaining reader.old)
+) -> (Result<UseEnd, MountFault>, D)
+    ensures ran { IfOk result.0 (λ end. SessionTold strict end.script (R.remaining reader.old)
         (R.remaining reader.new) (W.contents writer.old) (W.contents writer.new) (D.state device)
         (D.state result.1) (S.looks witness.old) (S.looks witness.new)) }
+    ensures saved { IfOk result.0 (λ end. SessionSaved end.is_saved strict end.script
+        (R.remaining reader.old) (R.remaining reader.new) (W.contents writer.old)
+        (W.contents writer.new) (D.state device) (D.state result.1) (S.looks witness.old)
+        (S.looks witness.new)) }
     ensures refused { IfErr result.0 (IsUnused reader.old reader.new writer.old writer.new
         (D.state device) (D.state result.1)) }
     ensures untouched { OnErr result.0 (IsUntouched (D.state device) (D.state result.1)) }
@@ -37,8 +50,9 @@ pub fn use_volume_told<R: Read, W: Write, D: SectorDevice, S: Witness<D, W>>(
     match Fs::mount(alloc, device) {
         Ok(fs) => {
             let mut fs = fs;
-            let end = run_told(alloc, strict, reader, writer, witness, &mut fs);
-            (Ok(end), fs.into_device())
+            let script = run_told(alloc, strict, reader, writer, witness, &mut fs);
+            let is_saved = fs.is_saved();
+            (Ok(UseEnd { script, is_saved }), fs.into_device())
         }
         Err((fault, device)) => (Err(fault), device),
     }
@@ -68,7 +82,10 @@ pub fn use_and_stop_told<R: Read, W: Write, S: Witness<MemDevice, W>>(
     let (end, used) = use_volume_told(alloc, strict, reader, writer, witness, device);
     let mut stopped = used;
     stopped.crash(left);
-    (end, stopped)
+    match end {
+        Ok(end) => (Ok(end.script), stopped),
+        Err(fault) => (Err(fault), stopped),
+    }
 }
 
 /// As `use_each`, before a witness: in each use a stop at any moment since a reply went out leaves

@@ -1,11 +1,11 @@
 // Rows of commands over image files and over volumes in memory, carried out one after another.
-use lfs_command::command;
+use lfs_command::{Terminals, command, command_at};
 use rand_core::Rng;
 use rand_pcg::Pcg32;
 use std::alloc::{AllocError, Global};
 use std::fs::{File, Permissions};
 use std::io::{Read, Write};
-use std::os::unix::fs::{FileExt, PermissionsExt};
+use std::os::unix::fs::{FileExt, MetadataExt, PermissionsExt, symlink};
 use std::process::Abort;
 use std::rt::Files;
 use std::time::Clock;
@@ -83,6 +83,8 @@ type Piece<'a> = (u64, u64, &'a [u8]);
 enum Step<'a> {
     /// Command lines, the standard input of each, its exit status, and what it says.
     Says(&'a [&'a str], &'a [u8], u8, Said<'a>),
+    /// A command line at a terminal where this is typed, its exit status, and what it says.
+    AtTerminal(&'a str, &'a [u8], u8, Said<'a>),
     /// A command line that is given so many letters, its exit status, and what it says.
     Reads(&'a str, usize, u8, Said<'a>),
     /// A command line that is given a text so many times and these bytes behind it, its exit
@@ -106,6 +108,8 @@ enum Step<'a> {
     /// The files have one length, and the same bytes as far as a volume of 64 segments goes.
     Same(&'a str, &'a str),
     Lacks(&'a str),
+    /// A file takes less than half the room that it would without holes.
+    HasHoles(&'a str),
     Remove(&'a str),
     RemoveFolder(&'a str),
     /// A symbolic link has this text.
@@ -115,6 +119,10 @@ enum Step<'a> {
     Locked(&'a str, &'a [&'a str], u8, Said<'a>),
     /// Lets nobody write a file.
     Protect(&'a str),
+    /// Gives a file a further name.
+    Name(&'a str, &'a str),
+    /// Makes a symbolic link of this name with this text.
+    Link(&'a str, &'a str),
 }
 
 fn words(alloc: Global, line: &str) -> Result<Vec<String>, AllocError> {
@@ -171,6 +179,36 @@ fn says<R: Files<File = File> + Clock + AllocGlobal>(
     said: Said<'_>,
 ) -> bool {
     speaks(rt, line, &mut input, status, said)
+}
+
+// The same at a terminal.
+fn says_at_terminal<R: Files<File = File> + Clock + AllocGlobal>(
+    rt: &R,
+    line: &str,
+    mut input: &[u8],
+    status: u8,
+    said: Said<'_>,
+) -> bool {
+    let alloc = rt.alloc();
+    let Ok(words) = words(alloc, line) else {
+        return false;
+    };
+    let terminals = Terminals {
+        input: true,
+        errors: true,
+    };
+    let mut output = Vec::new(alloc);
+    let mut errors = Vec::new(alloc);
+    let found = command_at(
+        rt,
+        alloc,
+        terminals,
+        words.as_slice(),
+        &mut input,
+        &mut output,
+        &mut errors,
+    );
+    found == status && said.is(line, status, output.as_slice(), errors.as_slice())
 }
 
 // The same over these bytes and a failed read behind them.
@@ -305,6 +343,13 @@ fn same<R: Files<File = File> + Clock + AllocGlobal>(rt: &R, one: &str, other: &
     }
 }
 
+fn has_holes<R: Files<File = File> + Clock + AllocGlobal>(rt: &R, path: &str) -> bool {
+    match fs::metadata(rt, path) {
+        Ok(metadata) => metadata.blocks().saturating_mul(1_024) < metadata.len(),
+        Err(_) => false,
+    }
+}
+
 fn leads_to<R: Files<File = File> + Clock + AllocGlobal>(rt: &R, path: &str, text: &str) -> bool {
     match fs::read_link(rt, path) {
         Ok(found) => found.as_str() == text,
@@ -328,6 +373,9 @@ fn locked<R: Files<File = File> + Clock + AllocGlobal>(
 fn is_well<R: Files<File = File> + Clock + AllocGlobal>(rt: &R, step: Step<'_>) -> bool {
     match step {
         Step::Says(lines, input, status, said) => each_says(rt, lines, input, status, said),
+        Step::AtTerminal(line, input, status, said) => {
+            says_at_terminal(rt, line, input, status, said)
+        }
         Step::Reads(line, letters, status, said) => reads(rt, line, letters, status, said),
         Step::Repeats(line, times, text, last, status, said) => {
             let input = repeated(rt.alloc(), times, text, last);
@@ -343,6 +391,7 @@ fn is_well<R: Files<File = File> + Clock + AllocGlobal>(rt: &R, step: Step<'_>) 
         Step::Damage(sector, at, byte, reply) => is_refused(rt, (sector, at, &[byte]), reply),
         Step::Same(one, other) => same(rt, one, other),
         Step::Lacks(path) => matches!(fs::exists(rt, path), Ok(false)),
+        Step::HasHoles(path) => has_holes(rt, path),
         Step::Remove(path) => fs::remove_file(rt, path).is_ok(),
         Step::RemoveFolder(path) => fs::remove_dir_all(rt, path).is_ok(),
         Step::LeadsTo(path, text) => leads_to(rt, path, text),
@@ -350,6 +399,8 @@ fn is_well<R: Files<File = File> + Clock + AllocGlobal>(rt: &R, step: Step<'_>) 
         Step::Protect(path) => {
             fs::set_permissions(rt, path, Permissions::from_mode(0o444)).is_ok()
         }
+        Step::Name(path, name) => fs::hard_link(rt, path, name).is_ok(),
+        Step::Link(path, text) => symlink(rt, text, path).is_ok(),
     }
 }
 
@@ -610,7 +661,10 @@ const SCRIPTS: &[Step] = &[
         &["lfs run b.img"],
         b"create /f\npwrite 0 0 616263\npread 0 3 5\npread 0 0 0\npread 0 1 65536\npread 0 0 65537\npwrite 0 99999999 -\n",
         0,
-        Said::Reply(b"ok 0\nok 3\nok -\nok -\nok 6263\nerr Inval\nok 0\n"),
+        Said::Tells(
+            b"ok 0\nok 3\nok -\nok -\nok 6263\nerr Inval\nok 0\n",
+            b"lfs: b.img: what was done since the last `sync` isn't saved; end the script with the line sync\n",
+        ),
     ),
     Step::Says(&["lfs mount b.img"], b"", 0, EMPTY),
     Step::Says(&["lfs mkfs b.img --segments 64"], b"", 0, OK),
@@ -957,7 +1011,10 @@ const RECOVERED: &[Step] = &[
         &["lfs recover r.img r.root"],
         b"",
         1,
-        Said::Reply(b"lost / sector 3\nfound /lost+found/2\nok 1 files whole, 0 in part\n"),
+        Said::Reply(
+            b"note: slot 0 holds no checkpoint: a newer state may be lost\n\
+            lost / sector 3\nfound /lost+found/2\nok 1 files whole, 0 in part\n",
+        ),
     ),
     Step::Same("r.root/lost+found/2", "r.want"),
     Step::Change("r.img", LEN, &[(1, 0, b"s")]),
@@ -996,6 +1053,184 @@ const RECOVERED: &[Step] = &[
 #[test]
 fn damaged_volumes_are_recovered(rt: HostRuntime) {
     want(&rt, RECOVERED);
+}
+
+// What is stored is never all zero, and has no bytes past the end: the file's block, the block of the
+// root's names, a leaf and a double root of zeros, a further byte, and a further block.
+const PARTS: &[Step] = &[
+    Step::Change("p.img", 0, &[]),
+    Step::Change("p.img", LEN, NEW),
+    Step::Change("p.img", LEN, ONE_BYTE),
+    Step::Change("p.img", LEN, &[(8, 0, &[0])]),
+    Step::Change("p.want", 1, &[]),
+    Step::Says(
+        &["lfs recover p.img p.block"],
+        b"",
+        1,
+        Said::Reply(b"part /f\n  block 0 sector 8\nok 0 files whole, 1 in part\n"),
+    ),
+    Step::Same("p.block/f", "p.want"),
+    Step::Change("p.img", LEN, &[(8, 0, b"ab")]),
+    Step::Change("p.want", 1, &[(0, 0, b"a")]),
+    Step::Says(
+        &["lfs recover p.img p.byte"],
+        b"",
+        1,
+        Said::Reply(b"part /f\n  past the end sector 8\nok 0 files whole, 1 in part\n"),
+    ),
+    Step::Same("p.byte/f", "p.want"),
+    Step::Change("p.img", LEN, &[(8, 1, &[0]), (6, 0, &[0; 6])]),
+    Step::Says(
+        &["lfs recover p.img p.names"],
+        b"",
+        1,
+        Said::Reply(
+            b"part /\n  block 0 sector 6\nfound /lost+found/2\nok 1 files whole, 0 in part\n",
+        ),
+    ),
+    Step::Same("p.names/lost+found/2", "p.want"),
+    Step::Change(
+        "p.img",
+        LEN,
+        &[(6, 0, &[2, 0, 0, 0, 1, 0x66]), (7, 12, &[0])],
+    ),
+    Step::Says(
+        &["lfs recover p.img p.further"],
+        b"",
+        1,
+        Said::Reply(b"part /f\n  past the end sector 8\nok 0 files whole, 1 in part\n"),
+    ),
+    // 114 blocks, the last two of which are behind the leaf.
+    Step::Change("p.img", LEN, &[(7, 12, &[0, 0xe4]), (7, 480, &[9])]),
+    Step::Says(
+        &["lfs recover p.img p.leaf"],
+        b"",
+        1,
+        Said::Reply(b"part /f\n  blocks 112 to 113 sector 9\nok 0 files whole, 1 in part\n"),
+    ),
+    // The greatest size, with a double root alone.
+    Step::Change(
+        "p.img",
+        LEN,
+        &[(7, 12, &[0, 0xe0, 0x81]), (7, 480, &[0, 0, 0, 0, 9])],
+    ),
+    Step::Says(
+        &["lfs recover p.img p.root"],
+        b"",
+        1,
+        Said::Reply(b"part /f\n  blocks 240 to 16623 sector 9\nok 0 files whole, 1 in part\n"),
+    ),
+    Step::HasHoles("p.root/f"),
+    // The block of the map.
+    Step::Change("p.img", LEN, &[(4, 4, &[0, 0, 0, 0, 0])]),
+    Step::Says(
+        &["lfs recover p.img p.map"],
+        b"",
+        1,
+        Said::Reply(b"lost numbers 0 to 127 sector 4\nlost /\nok 0 files whole, 0 in part\n"),
+    ),
+    Step::Remove("p.img"),
+    Step::Remove("p.want"),
+    Step::RemoveFolder("p.block"),
+    Step::RemoveFolder("p.byte"),
+    Step::RemoveFolder("p.names"),
+    Step::RemoveFolder("p.further"),
+    Step::RemoveFolder("p.leaf"),
+    Step::RemoveFolder("p.root"),
+    Step::RemoveFolder("p.map"),
+];
+
+#[test]
+fn zeros_and_bytes_past_the_end_are_parts(rt: HostRuntime) {
+    want(&rt, PARTS);
+}
+
+// Two commits after that of `mkfs`: the second one of them is number 3, in slot 1.
+const LOST_SLOT: &[Step] = &[
+    Step::Says(&["lfs mkfs l.img --segments 64"], b"", 0, OK),
+    Step::Says(
+        &["lfs recover l.img l.new"],
+        b"",
+        0,
+        Said::Reply(b"ok 0 files whole, 0 in part\n"),
+    ),
+    Step::Says(
+        &["lfs run l.img"],
+        b"create /a\nsync\ncreate /b\nsync\n",
+        0,
+        Said::Reply(b"ok 0\nok\nok 1\nok\n"),
+    ),
+    Step::Says(
+        &["lfs recover l.img l.whole"],
+        b"",
+        0,
+        Said::Reply(b"ok 2 files whole, 0 in part\n"),
+    ),
+    Step::Change("l.img", LEN, &[(1, 0, &[0; 512])]),
+    Step::Says(
+        &["lfs recover l.img l.newest"],
+        b"",
+        1,
+        Said::Tells(
+            b"note: slot 1 holds no checkpoint: a newer state may be lost\n\
+            ok 1 files whole, 0 in part\n",
+            b"lfs: l.img: what is missing, or isn't under its own name, is named on standard output\n",
+        ),
+    ),
+    Step::Remove("l.img"),
+    Step::RemoveFolder("l.new"),
+    Step::RemoveFolder("l.whole"),
+    Step::RemoveFolder("l.newest"),
+];
+
+#[test]
+fn a_lost_slot_is_told(rt: HostRuntime) {
+    want(&rt, LOST_SLOT);
+}
+
+const HOLES: &[Step] = &[
+    Step::Says(&["lfs mkfs h.img --segments 64"], b"", 0, OK),
+    Step::Says(
+        &["lfs run h.img"],
+        b"create /h\ntruncate 0 1000000\nsync\npwrite 0 500000 61\nsync\n",
+        0,
+        Said::Reply(b"ok 0\nok\nok\nok 1\nok\n"),
+    ),
+    Step::Says(
+        &["lfs get h.img /h h.out"],
+        b"",
+        0,
+        Said::Reply(b"ok 1000000\n"),
+    ),
+    Step::Says(
+        &["lfs export h.img h.tree"],
+        b"",
+        0,
+        Said::Reply(b"ok 1 files 1000000 bytes\n"),
+    ),
+    Step::Says(
+        &["lfs recover h.img h.safe"],
+        b"",
+        0,
+        Said::Reply(b"ok 1 files whole, 0 in part\n"),
+    ),
+    Step::Change("h.want", 1_000_000, &[(976, 288, b"a")]),
+    Step::Same("h.out", "h.want"),
+    Step::Same("h.tree/h", "h.want"),
+    Step::Same("h.safe/h", "h.want"),
+    Step::HasHoles("h.out"),
+    Step::HasHoles("h.tree/h"),
+    Step::HasHoles("h.safe/h"),
+    Step::Remove("h.img"),
+    Step::Remove("h.out"),
+    Step::Remove("h.want"),
+    Step::RemoveFolder("h.tree"),
+    Step::RemoveFolder("h.safe"),
+];
+
+#[test]
+fn holes_stay_holes(rt: HostRuntime) {
+    want(&rt, HOLES);
 }
 
 const ONE_FILE: &[u8] = b"create /a\nsync\n";
@@ -1290,6 +1525,206 @@ const MEDIA: &[Step] = &[
 #[test]
 fn images_that_others_use(rt: HostRuntime) {
     want(&rt, MEDIA);
+}
+
+const DONE: Said = Said::Tells(b"ok\n", b"");
+
+const ONE_FILE_STAYS: Said = Said::Tells(
+    b"err Image\n",
+    b"lfs: q.img: this seems to be a volume with 1 file; make a new one over it? [y/N] \
+    lfs: q.img: the answer wasn't yes, so nothing was done\n",
+);
+
+// Where the input ends the text begins a line of its own.
+const ENDED_STAYS: Said = Said::Tells(
+    b"err Image\n",
+    b"lfs: q.img: this seems to be a volume with 1 file; make a new one over it? [y/N] \n\
+    lfs: q.img: the answer wasn't yes, so nothing was done\n",
+);
+
+// A file that has bytes is emptied only where a person at a terminal agrees.
+const QUESTIONS: &[Step] = &[
+    Step::Change("q.want", LEN, NEW),
+    Step::AtTerminal("lfs mkfs q.img --segments 64", b"", 0, DONE),
+    Step::Same("q.img", "q.want"),
+    Step::AtTerminal(
+        "lfs mkfs q.img --segments 72",
+        b"n\n",
+        1,
+        Said::Tells(
+            b"err Image\n",
+            b"lfs: q.img: this seems to be a volume with 0 files; make a new one over it? [y/N] \
+            lfs: q.img: the answer wasn't yes, so nothing was done\n",
+        ),
+    ),
+    // A file with two names is one.
+    Step::Says(
+        &["lfs run q.img"],
+        b"create /f\nlink /f /g\nmkdir /d\nsymlink 66 /s\nsync\n",
+        0,
+        Said::Reply(b"ok 0\nok\nok\nok\nok\n"),
+    ),
+    Step::AtTerminal("lfs mkfs q.img --segments 64", b"no\n", 1, ONE_FILE_STAYS),
+    Step::AtTerminal("lfs mkfs q.img --segments 64", b"\n", 1, ONE_FILE_STAYS),
+    Step::AtTerminal("lfs mkfs q.img --segments 64", b"yy\n", 1, ONE_FILE_STAYS),
+    Step::AtTerminal("lfs mkfs q.img --segments 64", b"y \n", 1, ONE_FILE_STAYS),
+    Step::AtTerminal("lfs mkfs q.img --segments 64", b"n\ny\n", 1, ONE_FILE_STAYS),
+    Step::AtTerminal("lfs mkfs q.img --segments 64", b"", 1, ENDED_STAYS),
+    Step::AtTerminal("lfs mkfs q.img --segments 64", b"yes", 1, ENDED_STAYS),
+    Step::Says(&["lfs ls q.img"], b"", 0, Said::Reply(b"d/\nf\ng\ns\n")),
+];
+
+// What a question calls the file, and answers that agree.
+const AGREED: &[Step] = &[
+    Step::Change("q.want", LEN, NEW),
+    Step::Change("q.img", 3_000, &[]),
+    Step::AtTerminal(
+        "lfs mkfs q.img --segments 64",
+        b"y\n",
+        0,
+        Said::Tells(
+            b"ok\n",
+            b"lfs: q.img: this seems to be another file of 3,000 bytes; make a volume over it? [y/N] ",
+        ),
+    ),
+    Step::Same("q.img", "q.want"),
+    Step::Change("q.img", 1, &[]),
+    Step::AtTerminal(
+        "lfs mkfs q.img --segments 64",
+        b"Yes\n",
+        0,
+        Said::Tells(
+            b"ok\n",
+            b"lfs: q.img: this seems to be another file of 1 byte; make a volume over it? [y/N] ",
+        ),
+    ),
+    Step::Same("q.img", "q.want"),
+    // A checkpoint that names a segment of usage that isn't there.
+    Step::Change("q.img", LEN, &[(1, 160, &[6])]),
+    Step::AtTerminal(
+        "lfs mkfs q.img --segments 64",
+        b"YES\n",
+        0,
+        Said::Tells(
+            b"ok\n",
+            b"lfs: q.img: this seems to be a damaged volume; make a new one over it? [y/N] ",
+        ),
+    ),
+    Step::Same("q.img", "q.want"),
+    Step::Change("q.img", LEN, &[(0, 0, b"SLFSCKP1"), (1, 0, &[0])]),
+    Step::AtTerminal(
+        "lfs mkfs q.img --segments 64",
+        b"Y\n",
+        0,
+        Said::Tells(
+            b"ok\n",
+            b"lfs: q.img: this seems to be a damaged volume; make a new one over it? [y/N] ",
+        ),
+    ),
+    Step::Same("q.img", "q.want"),
+    // Nothing is asked of an empty file, and by force of none.
+    Step::AtTerminal("lfs mkfs q.img --segments 64 --force", b"", 0, DONE),
+    Step::Change("q.img", 0, &[]),
+    Step::AtTerminal("lfs mkfs q.img --segments 64", b"", 0, DONE),
+    Step::Same("q.img", "q.want"),
+    Step::Remove("q.img"),
+    Step::Remove("q.want"),
+];
+
+#[test]
+fn volumes_over_files(rt: HostRuntime) {
+    want(&rt, QUESTIONS);
+    want(&rt, AGREED);
+}
+
+// A new image stands under another name until it is whole, which one program has at a time. What
+// a stop left under that name begins anew, but never a file that has another name too.
+const UNMADE: &[Step] = &[
+    Step::Change("u.want", LEN, NEW),
+    Step::Change(
+        "u.img.lfs-make",
+        9_000,
+        &[(0, 0, b"left"), (17, 100, b"left")],
+    ),
+    Step::Says(&["lfs mkfs u.img --segments 64"], b"", 0, OK),
+    Step::Same("u.img", "u.want"),
+    Step::Lacks("u.img.lfs-make"),
+    Step::Remove("u.img"),
+    Step::Change("u.img.lfs-make", 0, &[]),
+    Step::Locked(
+        "u.img.lfs-make",
+        &["lfs mkfs u.img --segments 64"],
+        1,
+        Said::Tells(
+            b"err Image\n",
+            b"lfs: u.img: it is in use: another program has held its lock for a second\n",
+        ),
+    ),
+    Step::Lacks("u.img"),
+    Step::Remove("u.img.lfs-make"),
+    Step::Change("kept.img", 4, &[(0, 0, b"kept")]),
+    Step::Change("kept.want", 4, &[(0, 0, b"kept")]),
+    Step::Name("kept.img", "u.img.lfs-make"),
+    Step::Says(&["lfs mkfs u.img --segments 64"], b"", 0, OK),
+    Step::Same("u.img", "u.want"),
+    Step::Lacks("u.img.lfs-make"),
+    Step::Same("kept.img", "kept.want"),
+    Step::Remove("u.img"),
+    Step::Link("u.img.lfs-make", "kept.img"),
+    Step::Says(&["lfs mkfs u.img --segments 64"], b"", 1, ASIDE),
+    Step::Same("kept.img", "kept.want"),
+    Step::Remove("u.img.lfs-make"),
+    Step::Says(
+        &["lfs export u.want u.img.lfs-make"],
+        b"",
+        0,
+        Said::Reply(b"ok 0 files 0 bytes\n"),
+    ),
+    Step::Says(&["lfs mkfs u.img --segments 64"], b"", 1, ASIDE),
+    Step::Lacks("u.img"),
+    Step::RemoveFolder("u.img.lfs-make"),
+    Step::Remove("kept.img"),
+    Step::Remove("kept.want"),
+    Step::Remove("u.want"),
+];
+
+const ASIDE: Said = Said::Tells(
+    b"err Image\n",
+    b"lfs: u.img: something other than a file has its name with `.lfs-make` behind\n",
+);
+
+// Where a symbolic link leads to nothing, what it leads to is made.
+const LED_TO: &[Step] = &[
+    Step::Change("l.want", LEN, NEW),
+    Step::Link("l.img", "./m.img"),
+    Step::Link("m.img", "n.img"),
+    Step::Says(&["lfs mkfs l.img --segments 64"], b"", 0, OK),
+    Step::Same("n.img", "l.want"),
+    Step::LeadsTo("l.img", "./m.img"),
+    Step::LeadsTo("m.img", "n.img"),
+    Step::Lacks("l.img.lfs-make"),
+    Step::Lacks("n.img.lfs-make"),
+    Step::Remove("m.img"),
+    Step::Link("m.img", "none/n.img"),
+    Step::Says(
+        &["lfs mkfs l.img --segments 64"],
+        b"",
+        1,
+        Said::Tells(
+            b"err Image\n",
+            b"lfs: l.img: there is no such file or folder\n",
+        ),
+    ),
+    Step::Remove("l.img"),
+    Step::Remove("m.img"),
+    Step::Remove("n.img"),
+    Step::Remove("l.want"),
+];
+
+#[test]
+fn images_under_way(rt: HostRuntime) {
+    want(&rt, UNMADE);
+    want(&rt, LED_TO);
 }
 
 const NOT_THERE: Said = Said::OfPath(b"err NoEntry\n", b"the volume has nothing of this name");
@@ -1612,6 +2047,9 @@ fn a_stop_at_each_write(rt: HostRuntime) {
 
 const CALL_REFUSED: &[u8] = b"lfs: s.img: a call of the script was refused\n";
 
+const REFUSED_UNSAVED: &[u8] =
+    b"lfs: s.img: a call of the script was refused\nlfs: s.img: what was done since the last `sync` isn't saved; end the script with the line sync\n";
+
 // The script ends at the first refusal, and what was synced before it stays.
 const STRICT: &[Step] = &[
     Step::Says(&["lfs mkfs s.img --segments 64"], b"", 0, OK),
@@ -1625,7 +2063,7 @@ const STRICT: &[Step] = &[
         &["lfs run s.img --strict", "lfs run --strict s.img"],
         b"create /a\nopen /b\ncreate /c\nsync\n",
         3,
-        Said::Tells(b"ok 0\nerr NoEntry\n", CALL_REFUSED),
+        Said::Tells(b"ok 0\nerr NoEntry\n", REFUSED_UNSAVED),
     ),
     Step::Says(&["lfs mount s.img"], b"", 0, EMPTY),
     Step::Says(
@@ -1644,7 +2082,10 @@ const STRICT: &[Step] = &[
         &["lfs run s.img --strict"],
         b"create /a\nfrob\nopen /b\n",
         2,
-        Said::Reply(b"ok 0\nbad 2\n"),
+        Said::Tells(
+            b"ok 0\nbad 2\n",
+            b"lfs: line 2: no command has the word 'frob'\nlfs: s.img: what was done since the last `sync` isn't saved; end the script with the line sync\n",
+        ),
     ),
     Step::Says(
         &["lfs run s.img"],
@@ -1849,6 +2290,111 @@ const UNFINISHED: Said = Said::OfPath(
 
 const TOO_LONG: Said = Said::OfPath(b"err NameTooLong\n", b"a name or a path is too long");
 
+const UNSAVED: &[u8] =
+    b"lfs: n.img: what was done since the last `sync` isn't saved; end the script with the line sync\n";
+
+// Where something that a script did isn't saved at its end, a last line tells so. The end saves
+// nothing.
+const UNSAVED_ENDS: &[Step] = &[
+    Step::Says(&["lfs mkfs n.img --segments 64"], b"", 0, OK),
+    Step::Says(
+        &["lfs run n.img", "lfs run --strict n.img"],
+        b"mkdir /d\ncreate /a",
+        0,
+        Said::Tells(b"ok\nok 0\n", UNSAVED),
+    ),
+    Step::Says(
+        &["lfs run n.img"],
+        b"create /a\nsync\ncreate /b\nfrob\n",
+        2,
+        Said::Tells(
+            b"ok 0\nok\nok 1\nbad 4\n",
+            b"lfs: line 4: no command has the word 'frob'\nlfs: n.img: what was done since the last `sync` isn't saved; end the script with the line sync\n",
+        ),
+    ),
+    Step::Says(
+        &["lfs mount n.img"],
+        b"",
+        0,
+        Said::Reply(b"ok 1\n1 a file 2 1 0 -\n"),
+    ),
+    // A sync of one file saves all, and looks change nothing.
+    Step::Says(
+        &["lfs run n.img"],
+        b"open /a\npwrite 0 0 61\nfsync 0\n",
+        0,
+        Said::Tells(b"ok 0\nok 1\nok\n", b""),
+    ),
+    Step::Says(
+        &["lfs run n.img", "lfs run --strict n.img"],
+        b"open /a\npread 0 0 9\nreaddir /\ntree\nspace\nclose 0\n",
+        0,
+        Said::Tells(
+            b"ok 0\nok 61\nok 1\na 2 file\nok 1\n1 a file 2 1 1 61\nok 2 2 736 3008\nok\n",
+            b"",
+        ),
+    ),
+    Step::Says(
+        &["lfs sim --segments 64 --stop 100 --left old"],
+        b"create /a\n",
+        0,
+        Said::Tells(b"ok 0\nwrites 0\nok 0\n", b""),
+    ),
+    Step::Remove("n.img"),
+];
+
+#[test]
+fn ends_of_scripts_that_save_nothing(rt: HostRuntime) {
+    want(&rt, UNSAVED_ENDS);
+}
+
+const NO_INPUT: Said = Said::OfPath(
+    b"err Image\n",
+    b"standard input has no byte; with - as FILE an empty file is put",
+);
+
+const NO_WORD: Said = Said::Tells(
+    b"",
+    b"lfs: put has no FILE, and standard input is a terminal; say one of\n  lfs put IMAGE PATH FILE\n  ... | lfs put IMAGE PATH -\n",
+);
+
+// Standard input without a word for it has a byte, and is no terminal. The path comes before it.
+const INPUTS: &[Step] = &[
+    Step::Says(&["lfs mkfs p.img --segments 64"], b"", 0, OK),
+    Step::Says(&["lfs put p.img /f"], b"old", 0, Said::Reply(b"ok 3\n")),
+    Step::Change("-", 6, &[(0, 0, b"hello\n")]),
+    Step::Says(&["lfs put p.img /f", "lfs put p.img /g"], b"", 1, NO_INPUT),
+    Step::Says(&["lfs put p.img /"], b"", 1, THE_ROOT),
+    Step::AtTerminal("lfs put p.img /f", b"new", 2, NO_WORD),
+    Step::AtTerminal("lfs put none.img \\2F", b"", 2, NO_WORD),
+    Step::Says(
+        &["lfs mount p.img"],
+        b"",
+        0,
+        Said::Reply(b"ok 1\n1 f file 2 1 3 6f6c64\n"),
+    ),
+    Step::Says(&["lfs put p.img /f -"], b"new", 0, Said::Reply(b"ok 3\n")),
+    Step::Says(&["lfs put p.img /g -"], b"", 0, Said::Reply(b"ok 0\n")),
+    Step::AtTerminal("lfs put p.img /h -", b"typed", 0, Said::Reply(b"ok 5\n")),
+    Step::AtTerminal("lfs put p.img /i -", b"", 0, Said::Reply(b"ok 0\n")),
+    Step::AtTerminal("lfs put p.img /k ./-", b"no", 0, Said::Reply(b"ok 6\n")),
+    Step::Says(
+        &["lfs mount p.img"],
+        b"",
+        0,
+        Said::Reply(
+            b"ok 5\n1 f file 3 1 3 6e6577\n1 g file 2 1 0 -\n1 h file 4 1 5 7479706564\n1 i file 5 1 0 -\n1 k file 6 1 6 68656c6c6f0a\n",
+        ),
+    ),
+    Step::Remove("-"),
+    Step::Remove("p.img"),
+];
+
+#[test]
+fn standard_input_is_put(rt: HostRuntime) {
+    want(&rt, INPUTS);
+}
+
 // The new file takes the least number that is free, while the old one still has its own.
 const PUTS: &[Step] = &[
     Step::Says(&["lfs mkfs p.img --segments 64"], b"", 0, OK),
@@ -1871,7 +2417,7 @@ const PUTS: &[Step] = &[
         0,
         Said::Reply(b"ok 1\n1 f file 3 1 6 6e65770a00ff\n"),
     ),
-    Step::Says(&["lfs put p.img f"], b"", 0, Said::Reply(b"ok 0\n")),
+    Step::Says(&["lfs put p.img f -"], b"", 0, Said::Reply(b"ok 0\n")),
     Step::Says(
         &["lfs mount p.img"],
         b"",

@@ -4,10 +4,10 @@ use Rattle.lfs_command.proofs.commands.play.Goals as goal
 
 pub returns-in-Ok-default-clause-plays : goal.returns-in-Ok-default-clause-plays
 returns-in-Ok-default-clause-plays g c = inl (record {
-  end = c.in-Ok-default.end;
+  end = c.in-Ok-default.used.script;
   printed = _;
   session = ok_of _ c.in-Ok-default.is-0 c.use_volume_told.ensures.ran;
-  kept = c.end_plain.ensures.kept;
+  kept = c.end_plain-end.ensures.kept;
 })
 
 pub returns-in-Err-default-clause-plays : goal.returns-in-Err-default-clause-plays
@@ -20,6 +20,20 @@ returns-in-Err-default-clause-plays g c =
       left = unused.left;
     })
 
-pub end_plain-requires : goal.end_plain-requires
-end_plain-requires g c =
+pub returns-in-Ok-default-clause-saved : goal.returns-in-Ok-default-clause-saved
+returns-in-Ok-default-clause-saved g c =
+    inl (c.in-Ok-default.used.script, _, ok_of _ c.in-Ok-default.is-0 c.use_volume_told.ensures.saved)
+
+pub returns-in-Err-default-clause-saved : goal.returns-in-Err-default-clause-saved
+returns-in-Err-default-clause-saved g c =
+    let unused = err_of _ c.in-Err-default.is-0 c.use_volume_told.ensures.refused in
+    inr (record {
+      fault = c.in-Err-default.fault;
+      reason = unused.reason;
+      unread = ap g.I.Read.remaining unused.unread;
+      left = unused.left;
+    })
+
+pub end_plain-end-requires : goal.end_plain-end-requires
+end_plain-end-requires g c =
     record { plain = λ is. told_goes_on _ _ _ _ _ _ _ _ _ is (ok_of _ c.in-Ok-default.is-0 c.use_volume_told.ensures.ran) }

@@ -1,12 +1,19 @@
 use Rattle.std.proofs.Common.{refl}
-use Rattle.lfs_script.proofs.Used.{used_told}
+use Rattle.lfs_script.proofs.Used.{used_saved, used_told}
 use Rattle.lfs_script.proofs.told.use_volume_told.Goals as goal
 
 pub returns-in-Ok-clause-ran : goal.returns-in-Ok-clause-ran
 returns-in-Ok-clause-ran g c =
     rw c.into_device.ensures (used_told c.args.device _ _ c.in-Ok.fs _ _
     (g.met.D.SectorDevice.lawful c.args.device) c.in-Ok.ensures.only c.in-Ok.ensures.durable
-    c.in-Ok.ensures.untouched c.in-Ok.ensures.carries c.in-Ok.ensures.any_moment c.in-Ok.ensures.no_failure c.run_told-end.ensures)
+    c.in-Ok.ensures.untouched c.in-Ok.ensures.carries c.in-Ok.ensures.any_moment c.in-Ok.ensures.no_failure c.run_told-script.ensures)
+
+pub returns-in-Ok-clause-saved : goal.returns-in-Ok-clause-saved
+returns-in-Ok-clause-saved g c =
+    rw c.into_device.ensures (used_saved c.args.device _ _ c.in-Ok.fs _ _
+    (g.met.D.SectorDevice.lawful c.args.device) c.in-Ok.ensures.only c.in-Ok.ensures.durable
+    c.in-Ok.ensures.untouched c.in-Ok.ensures.carries c.in-Ok.ensures.any_moment c.in-Ok.ensures.no_failure c.run_told-script.ensures
+    c.is_saved-is_saved.ensures.kept)
 
 pub returns-in-Err-clause-refused : goal.returns-in-Err-clause-refused
 returns-in-Err-clause-refused g c = record {
