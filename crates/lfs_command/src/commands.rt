@@ -363,8 +363,10 @@ fn act<Here: World, R: Files<File = File> + Clock, I: Read, W: Write, E: Write>(
             let making = making_of(terminals, segments, version, force, reserve)?;
             mkfs::<Here, R, I, W, E>(rt, alloc, image, making, input, output, errors)
         }
-        Action::Look(asked) => look::<Here, R, W>(rt, alloc, image, asked, output),
-        Action::Explain => explain::<Here, R, W>(rt, alloc, image, output),
+        Action::Look(asked, patience) => {
+            look::<Here, R, W>(rt, alloc, image, asked, patience, output)
+        }
+        Action::Explain(patience) => explain::<Here, R, W>(rt, alloc, image, patience, output),
         Action::Recover(asked) => recover::<Here, R, W>(rt, alloc, image, asked, output),
         Action::Change(asked) => change_volume::<Here, R, W>(rt, alloc, image, asked, output),
         Action::Put(source) => {
@@ -572,7 +574,7 @@ fn tell_outcome<I, E: Write>(
 /// Runs a command line, whose first word is the program's name, and answers the exit status: 0
 /// done, 1 a command refused, or input, output or memory failed, 2 a bad line of the script or a
 /// bad command line, 3 a call of a script refused, where the words ask for an end there. Where it
-/// isn't 0, a text for people goes to `errors`, and behind a look beside another program's writes.
+/// isn't 0, a text for people goes to `errors`.
 /// A last line of it says that what a script did on an image isn't all saved.
 pub fn command_at<R: Files<File = File> + Clock, I: Read, O: Write, E: Write>(
     rt: &R,
