@@ -1,13 +1,13 @@
 #!/usr/bin/env python3
 """A plain checker of images: says what a mount of one has to find. It is written from the pages alone, and shares no code with the program.
 
-    bench/format_checker.py IMAGE..   prints what `lfs check` has to print of each, and behind an `ok` what `lfs mount` has to print
+It prints what `lfs check` has to print of each image, and behind an `ok` what `lfs mount` has to print.
 
 docs/FORMAT.md has the layout and the 15 stages, docs/CALLS.md the order of a mount's refusals, and docs/SCRIPT.md the rows of a tree.
 Each stage is a function of its own here. It asks for everything that its line in the table asks, and nothing else.
 """
+import argparse
 import struct
-import sys
 from typing import NamedTuple
 
 SECTOR, SEGMENT, FIRST = 512, 64, 2
@@ -380,8 +380,10 @@ def mounted(image):
     return Walk(image).run()
 
 
-def main(paths):
-    for path in paths:
+def main():
+    words = argparse.ArgumentParser(description=__doc__, formatter_class=argparse.RawDescriptionHelpFormatter)
+    words.add_argument("images", nargs="+", metavar="IMAGE")
+    for path in words.parse_args().images:
         with open(path, "rb") as file:
             image = file.read()
         try:
@@ -393,4 +395,4 @@ def main(paths):
 
 
 if __name__ == "__main__":
-    main(sys.argv[1:])
+    main()

@@ -93,6 +93,40 @@ static inline int32_t pansuyog_damage(int32_t code) {
     return code < PANSUYOG_DAMAGED ? PANSUYOG_DAMAGED - code : 0;
 }
 
+/* What a code says, in English. */
+static inline const char *pansuyog_text(int32_t code) {
+    switch (code) {
+    case PANSUYOG_NO_ENTRY: return "the volume has nothing of this name";
+    case PANSUYOG_NOT_DIR: return "a directory is needed here";
+    case PANSUYOG_IS_DIR: return "this is a directory";
+    case PANSUYOG_EXIST: return "this is there already";
+    case PANSUYOG_NOT_EMPTY: return "the directory has entries";
+    case PANSUYOG_INVAL: return "an argument isn't taken";
+    case PANSUYOG_NAME_TOO_LONG: return "a name or a path is too long";
+    case PANSUYOG_LOOP: return "more than 40 links were to be followed";
+    case PANSUYOG_PERM: return "a directory isn't linked or unlinked";
+    case PANSUYOG_BUSY: return "the root can't be removed or renamed";
+    case PANSUYOG_BAD_HANDLE: return "no such handle is open";
+    case PANSUYOG_TOO_MANY_OPEN: return "64 handles are open";
+    case PANSUYOG_TOO_MANY_LINKS: return "the object has 1000 links";
+    case PANSUYOG_FILE_TOO_BIG: return "this is past the greatest size of a file";
+    case PANSUYOG_NO_SPACE: return "the volume has no space for this";
+    case PANSUYOG_NO_NUMBER: return "the volume has 4095 objects";
+    case PANSUYOG_DIR_FULL: return "the directory has 1024 entries";
+    case PANSUYOG_NO_MEMORY: return "there isn't enough memory";
+    case PANSUYOG_DEVICE: return "a sector that is needed couldn't be read";
+    case PANSUYOG_HALTED: return "the volume takes no call any more: memory for a write was refused";
+    case PANSUYOG_STUCK: return "too few segments of the volume are clean";
+    case PANSUYOG_WORN: return "the volume was changed too often to be changed again";
+    case PANSUYOG_TOO_SMALL: return "it is shorter than its volume, or than any volume";
+    case PANSUYOG_NO_CHECKPOINT: return "it holds no volume";
+    case PANSUYOG_NOT_MOUNTED: return "no volume is mounted";
+    case PANSUYOG_ALREADY_MOUNTED: return "a volume is mounted already";
+    case PANSUYOG_NO_ORDER: return "no order of this number waits";
+    default: return code >= 0 ? "it is done" : pansuyog_damage(code) ? "the volume is damaged" : "this code isn't known";
+    }
+}
+
 enum pansuyog_kind { PANSUYOG_FILE = 1, PANSUYOG_DIRECTORY = 2, PANSUYOG_LINK = 3 };
 
 typedef struct pansuyog_stat_t {

@@ -22,7 +22,7 @@ Each other method is one call of the volume (docs/CALLS.md). There are two class
 - `Volume` is the library `libpansuyog.so` (docs/LIBRARY.md), in this process.
 - `ProcessVolume` is a child process `lfs run IMAGE`, which answers a line of a script (docs/SCRIPT.md) for each call.
 
-`make` makes an empty volume, by the library or by the program.
+Both take `read_only=True`. `make` makes an empty volume, by the library or by the program.
 
 A refusal is an exception of the refusal's name: `NoEntry`, `NoSpace`, `Device` and so on. Its text has the call and the cause. What was
 acknowledged by `sync` stays through any stop of the device or of the process; what wasn't may be gone at the next mount.
@@ -30,23 +30,27 @@ acknowledged by `sync` stays through any stop of the device or of the process; w
 Paths are `str` (taken as UTF-8) or `bytes`. Nothing is saved when the volume is closed: call `sync` before.
 """
 import contextlib
-import ctypes
 import errno
 import fcntl
 import functools
 import os
 import stat
 import subprocess
+import tempfile
 import threading
 import time
+import types
+import warnings
 import weakref
-from typing import NamedTuple
+from typing import List, NamedTuple
 
-__all__ = ["Calls", "Files", "Volume", "ProcessVolume", "Refused", "ChildDied", "BadLine", "Entry", "Space", "Stat", "TreeRow", "make"]
+__all__ = ["Calls", "Files", "Volume", "ProcessVolume", "Refused", "ReadOnly", "ChildDied", "BadLine", "Omitted"]
+__all__ += ["Entry", "Space", "Stat", "TreeRow", "Written", "make"]
 
 # What people are told of a call that is refused, as in crates/lfs_image/src/reason.rt: the reply to a line has the name alone.
 _NO_MEMORY = "there isn't enough memory"
 _DEVICE = "a read, a write or a sync of it failed"
+_UNWRITABLE = "it can't be written"
 _CALL_TEXTS = {
     "NoEntry": "the volume has nothing of this name",
     "NotDir": "a directory is needed here",
@@ -67,7 +71,7 @@ _CALL_TEXTS = {
     "DirFull": "the directory has 1024 entries",
     "NoMemory": _NO_MEMORY,
     "Device": _DEVICE,
-    "Halted": "it can't be written: a write or a sync of it failed",
+    "Halted": f"{_UNWRITABLE}: a write or a sync of it failed",
     "Stuck": "too few of its segments are clean",
     "Worn": "it was changed too often to be changed again",
 }
@@ -76,7 +80,16 @@ _VOLUME_NAMES = ["Image", "TooSmall", "NoCheckpoint", "Damaged"]
 
 
 class Refused(Exception):
-    """A call that the volume refused. Its classes have the names of docs/CALLS.md, as `NoEntry`."""
+    """A call that the volume refused. Its classes have the names of docs/CALLS.md, as `NoEntry`.
+
+    `needs_restart` tells whether the machine is to be restarted before the next mount, since the system's cache may hold what the medium
+    hasn't got: so it is of `Device` and `Halted`, but where a write failed for want of room alone."""
+
+    needs_restart = False
+
+
+class ReadOnly(Refused):
+    """A call that would change a volume which was opened by `read_only=True`. It did nothing."""
 
 
 class ChildDied(Exception):
@@ -85,6 +98,10 @@ class ChildDied(Exception):
 
 class BadLine(Exception):
     """The program doesn't know the line: its version has no such call. It has ended, and what wasn't synced may be gone."""
+
+
+class Omitted(UserWarning):
+    """A name that is left out, since a path to it is longer than any call takes, or since no volume has such a thing."""
 
 
 class Stat(NamedTuple):
@@ -125,12 +142,22 @@ class TreeRow(NamedTuple):
     head: bytes
 
 
+class Written(NamedTuple):
+    """What `write_tree` put: how many files, and their bytes. The paths of the host are those that it left out."""
+
+    files: int
+    size: int
+    omitted: List[str]
+
+
 _REFUSALS = {
     name: type(name, (Refused,), {"__module__": __name__, "__doc__": f"The refusal {name} of docs/CALLS.md."})
     for name in [*_CALL_TEXTS, *_VOLUME_NAMES]
 }
 globals().update(_REFUSALS)
 __all__ += _REFUSALS
+for _name in ("Device", "Halted"):
+    _REFUSALS[_name].needs_restart = True
 
 
 def _refusal(name, text):
@@ -140,6 +167,16 @@ def _refusal(name, text):
 
 def _bytes(text):
     return text.encode() if isinstance(text, str) else bytes(text)
+
+
+def _octets(data):
+    """The data of a call, as bytes. What has none, as a `str`, is an error before anything is called."""
+    if isinstance(data, bytes):
+        return data
+    try:
+        return memoryview(data).tobytes()
+    except TypeError:
+        raise TypeError(f"data has to be bytes, and this is {type(data).__name__}") from None
 
 
 def _escape(text):
@@ -176,9 +213,19 @@ def _line(name, arguments):
     return " ".join([name, *(spelt(it) if isinstance(it, bytes) else str(it) for it in arguments)])
 
 
-def _refused_call(name, arguments, refusal):
+def _refused_call(name, arguments, refusal, text=None):
     """The exception of a call that is refused."""
-    return _refusal(refusal, f"{_line(name, arguments)[:80]}: {_CALL_TEXTS.get(refusal, refusal)}")
+    return _refusal(refusal, f"{_line(name, arguments)[:80]}: {text or _CALL_TEXTS.get(refusal, refusal)}")
+
+
+# The calls that a volume which is only read refuses. Those that save have nothing to save.
+_CHANGES = frozenset("create pwrite fill truncate mkdir symlink link unlink rmdir rename clean clean_once upgrade widen".split())
+
+
+def _refuse_change(name, arguments):
+    """Refuses a call that would change a volume which is only read."""
+    if name in _CHANGES:
+        raise ReadOnly(f"{_line(name, arguments)[:80]}: the volume was opened to be read alone")
 
 
 def _head(kind, word):
@@ -196,29 +243,53 @@ def _started(lfs, words):
 
 def _cause(errors, reply):
     """What standard error says, without the program's name, or else the reply."""
-    return errors.decode(errors="replace").strip().removeprefix("lfs: ") or reply
+    lines = errors.decode(errors="replace").strip().splitlines()
+    return "; ".join(line[5:] if line.startswith("lfs: ") else line for line in lines) or reply
 
 
-def make(image, segments, lfs=None, format=1, *, library=None):
-    """Makes an empty volume in an image file: a multiple of 8 segments of 32 KiB, from 64 to 1,024. An earlier content is gone. A name in it
-    has up to 59 bytes in format 1, and up to 123 in format 2. The library makes it, or else the program whose path is `lfs`.
+def make(image, segments, lfs=None, format=1, *, library=None, force=False, reserve=False):
+    """Makes an empty volume in an image file: a multiple of 8 segments of 32 KiB, from 64 to 1,024. A name in it has up to 59 bytes in format
+    1, and up to 123 in format 2. The library makes it, or else the program whose path is `lfs`.
 
-    By the library an image that isn't there gets its name once the volume is made and synced: after any stop it is there whole or not at all.
-    Until then it stands beside as IMAGE.lfs-make, and where a `make` is stopped or refused the next one begins that anew."""
+    Where the image is there already, also where it is empty, this is refused as `Image`. With `force=True` the volume is made in its place,
+    and an earlier content is gone. With `reserve=True` each sector is written first, so that the disk has room for all of them: else the
+    image is sparse, and a disk that is full makes a later call `Halted`.
+
+    By the library a new image gets its name once the volume is made and synced: after any stop it is there whole or not at all. Until then
+    it stands beside as IMAGE.lfs-make, and what a stop leaves of that the next `make` begins anew. Where a file can't have two names, as on
+    vfat and exFAT, a stop may leave an empty file of the image's name too. By the program a stop may leave an image that isn't whole."""
     if lfs is None:
-        Volume._make(image, segments, format, library)
+        Volume._make(image, segments, format, reserve, force, library)
     else:
-        _make_by_program(image, segments, lfs, format)
+        _make_by_program(image, segments, lfs, format, reserve, force)
 
 
-def _make_by_program(image, segments, lfs, format):
-    with _started(lfs, ["mkfs", os.fspath(image), "--segments", str(segments), "--format", str(format)]) as child:
-        output, errors = child.communicate()
-    reply = output.decode(errors="replace").strip()
-    if reply.startswith("err "):
-        raise _refusal(reply.split()[1], _cause(errors, reply))
-    if child.returncode != 0:
-        raise ChildDied(f"lfs mkfs ended with status {child.returncode}: {_cause(errors, reply)}")
+def _make_by_program(image, segments, lfs, format, reserve, force):
+    words = [*["--force"] * force, *["--reserve"] * reserve]
+    with contextlib.nullcontext() if force else _new_name(image):
+        with _started(lfs, ["mkfs", os.fspath(image), "--segments", str(segments), "--format", str(format), *words]) as child:
+            output, errors = child.communicate()
+        reply = output.decode(errors="replace").strip()
+        if reply.startswith("err "):
+            raise _refusal(reply.split()[1], _cause(errors, reply))
+        if child.returncode != 0:
+            raise ChildDied(f"lfs mkfs ended with status {child.returncode}: {_cause(errors, reply)}")
+
+
+@contextlib.contextmanager
+def _new_name(image):
+    """Takes a name for an image that is made meanwhile. It must be free, and is free again where that fails."""
+    path = os.path.realpath(os.fsdecode(image))
+    with _told_of(image):
+        _refuse_present(image, path)
+        _hold(path)
+    try:
+        yield
+    except BaseException:
+        with contextlib.suppress(OSError):
+            os.unlink(path)
+        raise
+    _sync_folder(image, path)
 
 
 class Calls:
@@ -246,7 +317,7 @@ class Calls:
     def pwrite(self, handle, offset, data):
         """Writes bytes, 65,536 at most, from `offset` on: how many were written. More are refused, as `Inval`."""
         # One byte too many is refused as any number of them, and fits a line.
-        return self._call("pwrite", _number(handle, 32), _number(offset, 64), bytes(data[:65_537]))
+        return self._call("pwrite", _number(handle, 32), _number(offset, 64), _octets(data)[: _LONGEST_TRANSFER + 1])
 
     def fill(self, handle, offset, length, byte):
         """Writes `length` times the same byte."""
@@ -331,8 +402,13 @@ class Calls:
 
 # The name under which a file stands until it is whole, in the directory that is to have it. `lfs put` has the same.
 _UNFINISHED = b".lfs-put"
+# Bytes of a path or of a link's text, of a name in a directory of form 0 and of form 1, of a file, and of one `pread` or `pwrite`.
 _LONGEST_PATH = 1_023
+_LONGEST_NAME, _LONGEST_NAME_IN_FORM_1 = 59, 123
+_LONGEST_FILE = 8_511_488
 _LONGEST_TRANSFER = 65_536
+# What `write_tree` puts between two syncs.
+_SYNC_EACH = 64 << 20
 
 
 def _check_text(path):
@@ -364,78 +440,129 @@ def _below(path, name):
     return path.rstrip(b"/") + b"/" + name
 
 
+def _leave_out(shown, why):
+    warnings.warn(f"{shown}: {why}, so it is left out", Omitted, stacklevel=3)
+
+
+def _is_reached(path):
+    """Whether a call takes a path. A rename of a directory may make one that none takes, which a warning names."""
+    if len(path) <= _LONGEST_PATH:
+        return True
+    _leave_out(_escape(path), f"a path has at most {_LONGEST_PATH} bytes, and this one {len(path)}")
+    return False
+
+
+class _Put(NamedTuple):
+    """What is to be put at a path: a `file` or a `dir` of the host, or a `link` with its text."""
+
+    kind: str
+    source: bytes
+    path: bytes
+
+
+def _check_put(it, longest):
+    """Refuses what no call puts, in a directory whose names have at most so many bytes."""
+    above, _, name = it.path.rpartition(b"/")
+    shown = _escape(it.path)
+    if name == _UNFINISHED:
+        raise _refusal("Inval", f"{shown}: nothing is put under this name")
+    if len(name) > longest:
+        raise _refusal("NameTooLong", f"{shown}: a name has at most {longest} bytes here, and this one {len(name)}")
+    if it.kind == "link" and len(it.source) > _LONGEST_PATH:
+        raise _refusal("NameTooLong", f"{shown}: the text of a link has at most {_LONGEST_PATH} bytes, and this one {len(it.source)}")
+    needed = len(_below(above, name if it.kind == "dir" else max(name, _UNFINISHED, key=len)))
+    if needed > _LONGEST_PATH:
+        raise _refusal("NameTooLong", f"{shown}: a path has at most {_LONGEST_PATH} bytes, and this one needs {needed}")
+
+
 class Files(Calls):
     """Whole files and folders, over the calls alone."""
 
     def read(self, path):
         """All bytes of a file."""
-        handle = self.open(path)
-        try:
+        with self._handle(self.open(path)) as handle:
             pieces = [self.pread(handle, 0, _LONGEST_TRANSFER)]
             while len(pieces[-1]) == _LONGEST_TRANSFER:
                 pieces.append(self.pread(handle, len(pieces) * _LONGEST_TRANSFER, _LONGEST_TRANSFER))
-        finally:
-            self.close_handle(handle)
         return b"".join(pieces)
 
     def write_file(self, path, data):
         """Makes these the bytes of a file, synced, as `lfs put` does: after any stop the old file is there or the new one."""
-        path = _bytes(path)
+        path, data = _bytes(path), _octets(data)
         unfinished = _beside(path)
         self._refuse_directory(path)
-        self._remove_left(unfinished)
-        try:
+        with self._finishing(unfinished):
             self._write_new(unfinished, data)
             self.sync()
             self.rename(unfinished, path)
             self.sync()
-        except Refused:
-            self._give_up(unfinished)
-            raise
 
     def append(self, path, record):
         """Writes a record behind the end of a file, which is made where it isn't there, and syncs: where it began. More than 65,536 bytes are
         refused, as `Inval`."""
+        path, record = _bytes(path), _octets(record)
+        if len(record) > _LONGEST_TRANSFER:
+            raise _refusal("Inval", f"append {_escape(path)}: a record has at most {_LONGEST_TRANSFER} bytes, and this one {len(record)}")
         try:
             handle = self.open(path)
         except _REFUSALS["NoEntry"]:
             handle = self.create(path)
-        try:
+        with self._handle(handle):
             offset = self.stat(path).size
             self.pwrite(handle, offset, record)
             self.sync()
-        finally:
-            self.close_handle(handle)
         return offset
 
     def walk(self, path="/"):
-        """Each directory from a path on, above those in it: its path, the names of its directories, and those of its files and links."""
+        """Each directory from a path on, above those in it: its path, the names of its directories, and those of its files and links. One
+        whose path has more than 1,023 bytes is left out with a warning, `Omitted`."""
         path = _bytes(path)
         entries = self.readdir(path)
         directories = [entry.name for entry in entries if entry.kind == "dir"]
         yield path, directories, [entry.name for entry in entries if entry.kind != "dir"]
-        for name in directories:
-            yield from self.walk(_below(path, name))
+        for below in [_below(path, name) for name in directories]:
+            if _is_reached(below):
+                yield from self.walk(below)
 
-    def write_tree(self, folder, path="/"):
-        """Puts what is in a folder of the host into a directory: files by `write_file`, links as links, directories where they aren't there yet.
-        How many files, and how many bytes."""
-        path = _bytes(path)
-        files, size = 0, 0
-        with os.scandir(os.fsencode(folder)) as entries:
-            for entry in sorted(entries, key=lambda it: it.name):
-                more_files, more_bytes = self._write_entry(entry, _below(path, entry.name))
-                files, size = files + more_files, size + more_bytes
+    def write_tree(self, folder, path="/", *, sync_each=_SYNC_EACH):
+        """Puts what is in a folder of the host into a directory: files, links as links, and directories where they aren't there yet. It syncs
+        behind each so many bytes, and at the end. After any stop each file is there whole, or as it was before, or not at all.
+
+        A name that no call takes is refused before anything is put. What is neither a file, a folder nor a link, as a FIFO, is left out: a
+        warning, `Omitted`, names it, and so does the answer."""
+        path, omitted = _bytes(path), []
+        # It has to be a directory.
+        self.readdir(path)
+        plan = list(self._planned(os.fsencode(folder), path, self._longest_name(path), omitted))
+        for shown in omitted:
+            _leave_out(shown, "it is neither a file, a folder nor a link")
+        files, size, saved = 0, 0, 0
+        try:
+            for it in plan:
+                if it.kind == "file":
+                    files, size = files + 1, size + self._put_file(it)
+                else:
+                    self._put_other(it)
+                if size - saved >= sync_each:
+                    self.sync()
+                    saved = size
+        except BaseException:
+            with contextlib.suppress(Exception):
+                self.sync()
+            raise
         self.sync()
-        return files, size
+        return Written(files, size, omitted)
 
     def export(self, folder, path="/"):
-        """Makes a new folder of the host, with all that is below a directory, links as links: how many files, and how many bytes."""
+        """Makes a new folder of the host, with all that is below a directory, links as links: how many files, and how many bytes. What has a
+        path of more than 1,023 bytes is left out with a warning, `Omitted`."""
         files, size = 0, 0
         folder, path = os.fsencode(folder), _bytes(path)
         os.mkdir(folder)
         for entry in self.readdir(path):
             inner, name = _below(path, entry.name), os.path.join(folder, entry.name)
+            if not _is_reached(inner):
+                continue
             if entry.kind == "dir":
                 more_files, more_bytes = self.export(name, inner)
                 files, size = files + more_files, size + more_bytes
@@ -447,6 +574,17 @@ class Files(Calls):
                     file.write(data)
                 files, size = files + 1, size + len(data)
         return files, size
+
+    @contextlib.contextmanager
+    def _handle(self, handle):
+        """Closes a handle in the end. Where a call fails before, that one is told."""
+        try:
+            yield handle
+        except BaseException:
+            with contextlib.suppress(Exception):
+                self.close_handle(handle)
+            raise
+        self.close_handle(handle)
 
     def _refuse_directory(self, path):
         try:
@@ -462,34 +600,86 @@ class Files(Calls):
         except _REFUSALS["NoEntry"]:
             pass
 
-    def _write_new(self, path, data):
-        handle = self.create(path)
+    @contextlib.contextmanager
+    def _finishing(self, unfinished):
+        """Lets something be put under another name first. A stop may have left that, and where this is refused or fails it is removed, as far
+        as the volume lets it."""
+        self._remove_left(unfinished)
         try:
+            yield
+        except BaseException:
+            for call in (lambda: self.unlink(unfinished), self.sync):
+                with contextlib.suppress(Exception):
+                    call()
+            raise
+
+    def _write_new(self, path, data):
+        with self._handle(self.create(path)) as handle:
             for offset in range(0, len(data), _LONGEST_TRANSFER):
                 self.pwrite(handle, offset, data[offset : offset + _LONGEST_TRANSFER])
-        finally:
-            self.close_handle(handle)
 
-    def _give_up(self, unfinished):
-        """Removes what isn't whole, as far as the volume lets it."""
-        for call in (lambda: self.unlink(unfinished), self.sync):
-            try:
-                call()
-            except Refused:
-                pass
+    def _longest_name(self, path):
+        """How many bytes a name in a directory may have."""
+        try:
+            self.lstat(_below(path, b"n" * (_LONGEST_NAME + 1)))
+        except _REFUSALS["NameTooLong"]:
+            return _LONGEST_NAME
+        except _REFUSALS["NoEntry"]:
+            pass
+        return _LONGEST_NAME_IN_FORM_1
 
-    def _write_entry(self, entry, path):
+    def _longest_name_in(self, path):
+        """The same of a directory that may have to be made first."""
+        try:
+            kind = self.lstat(path).kind
+        except _REFUSALS["NoEntry"]:
+            return _LONGEST_NAME if self.version() == 1 else _LONGEST_NAME_IN_FORM_1
+        if kind != "dir":
+            raise _refused_call("mkdir", (path,), "Exist")
+        return self._longest_name(path)
+
+    def _planned(self, folder, path, longest, omitted):
+        """All that is below a folder of the host, as it is to be put into a directory whose names have at most so many bytes."""
+        with os.scandir(folder) as entries:
+            for entry in sorted(entries, key=lambda it: it.name):
+                it = self._planned_entry(entry, _below(path, entry.name))
+                if it is None:
+                    omitted.append(os.fsdecode(entry.path))
+                    continue
+                _check_put(it, longest)
+                yield it
+                if it.kind == "dir":
+                    yield from self._planned(it.source, it.path, self._longest_name_in(it.path), omitted)
+
+    @staticmethod
+    def _planned_entry(entry, path):
         if entry.is_symlink():
-            self._remove_left(path)
-            self.symlink(os.readlink(entry.path), path)
-            return 0, 0
+            return _Put("link", os.readlink(entry.path), path)
         if entry.is_dir():
-            self._make_directory(path)
-            return self.write_tree(entry.path, path)
-        with open(entry.path, "rb") as file:
-            data = file.read()
-        self.write_file(path, data)
-        return 1, len(data)
+            return _Put("dir", entry.path, path)
+        return _Put("file", entry.path, path) if entry.is_file() else None
+
+    def _put_file(self, it):
+        """Puts a file of the host, and doesn't sync: how many bytes. A stop leaves no later call without those before it."""
+        with open(it.source, "rb") as file:
+            # One byte too many is refused as any number of them.
+            data = file.read(_LONGEST_FILE + 1)
+        unfinished = _beside(it.path)
+        self._refuse_directory(it.path)
+        with self._finishing(unfinished):
+            self._write_new(unfinished, data)
+            self.rename(unfinished, it.path)
+        return len(data)
+
+    def _put_other(self, it):
+        """Makes a directory where it isn't there, or a link, in the place of a file or a link."""
+        if it.kind == "dir":
+            self._make_directory(it.path)
+            return
+        self._refuse_directory(it.path)
+        with self._finishing(_beside(it.path)):
+            self.symlink(it.source, _beside(it.path))
+            self.rename(_beside(it.path), it.path)
 
     def _make_directory(self, path):
         try:
@@ -501,19 +691,30 @@ class Files(Calls):
 
 class ProcessVolume(Files):
     """A mounted volume in a child process. `lfs` is the program's path; one process at a time may have an image. A volume that isn't mounted
-    is refused here."""
+    is refused here.
 
-    def __init__(self, image, lfs="lfs"):
-        self._child = _started(lfs, ["run", os.fspath(image)])
+    With `read_only=True` the image is opened for reading, with the lock of those that look, and stays as it is. The child has a copy of it,
+    which stands without a name in the folder for temporary files."""
+
+    def __init__(self, image, lfs="lfs", *, read_only=False):
+        self._is_read_only, self._halted_by, self._child = read_only, None, None
+        # The image itself, whose lock keeps writers out as long as it is open.
+        self._looked_at = _opened_to_look(image) if read_only else None
         try:
-            self._send("space")
-            first, *rest = self._row()
-            if first == "err":
-                _, cause = self._end(" ".join(rest))
-                raise _refusal(rest[0], cause)
+            with _copied(image, self._looked_at) if read_only else contextlib.nullcontext(os.fspath(image)) as path:
+                self._child = _started(lfs, ["run", path])
+                self._begin(os.fsdecode(image), os.fsdecode(path))
         except BaseException:
             self.kill()
             raise
+
+    def _begin(self, image, path):
+        """Waits until the child has mounted the volume."""
+        self._send("space")
+        first, *rest = self._row()
+        if first == "err":
+            _, cause = self._end(" ".join(rest))
+            raise _refusal(rest[0], cause.replace(path, image))
 
     def __enter__(self):
         return self
@@ -523,6 +724,10 @@ class ProcessVolume(Files):
 
     def close(self):
         """Ends the child. What wasn't synced may be gone."""
+        if self._looked_at is not None:
+            self._looked_at.close()
+        if self._child is None:
+            return
         for pipe in (self._child.stdin, self._child.stdout, self._child.stderr):
             try:
                 pipe.close()
@@ -532,7 +737,8 @@ class ProcessVolume(Files):
 
     def kill(self):
         """Ends the child at once, as a stop would."""
-        self._child.kill()
+        if self._child is not None:
+            self._child.kill()
         self.close()
 
     def _send(self, line):
@@ -555,14 +761,37 @@ class ProcessVolume(Files):
         return self._child.wait(), _cause(self._child.stderr.read(), reply)
 
     def _call(self, name, *arguments):
+        if self._is_read_only:
+            _refuse_change(name, arguments)
+        if self._halted_by:
+            raise _refused_call(name, arguments, "Halted", self._halted_by)
+        try:
+            return self._ask(name, arguments)
+        except Exception:
+            raise
+        except BaseException:
+            # The reply is lost, or a part of it: another call would take the rest for its own.
+            self.kill()
+            raise
+
+    def _ask(self, name, arguments):
         self._send(_line(name, arguments))
         first, *rest = self._row()
         if first == "err":
-            raise _refused_call(name, arguments, rest[0])
+            raise self._refused(name, arguments, rest[0])
         if first == "bad":
             _, cause = self._end("the program doesn't know this line")
             raise BadLine(f"{self._sent}: {cause}")
         return self._answer(name, rest)
+
+    def _refused(self, name, arguments, refusal):
+        """The exception of a call that is refused. No call is taken once one is `Halted`: then the child ends, and tells why."""
+        if refusal == "Halted":
+            with contextlib.suppress(OSError):
+                self._child.stdin.close()
+            _, cause = self._end("")
+            self._halted_by = f"{_UNWRITABLE}: {cause}" if cause else _CALL_TEXTS[refusal]
+        return _refused_call(name, arguments, refusal, self._halted_by)
 
     def _answer(self, name, words):
         """What the words behind `ok` answer, with the rows behind them."""
@@ -593,6 +822,8 @@ _SECTOR = 512
 _RUN = 128
 # Those of a volume of 1,024 segments: what a larger device has behind them isn't read.
 _MOST_SECTORS = 65_538
+# Bytes of one write where each sector is written before a volume is made.
+_RESERVED = 1 << 20
 _KINDS = {1: "file", 2: "dir", 3: "link"}
 # The names of its numbers, of which the first stand in the order of the header.
 _CODES = {**dict(enumerate(_CALL_TEXTS, 1)), 30: "TooSmall", 31: "NoCheckpoint", **dict.fromkeys(range(101, 116), "Damaged")}
@@ -607,42 +838,67 @@ _VOLUME_TEXTS = {
 }
 
 
-class _RawVolume(ctypes.Structure):
-    _fields_ = [("inside", ctypes.c_void_p)]
+@functools.lru_cache(maxsize=None)
+def _types():
+    """What the functions take, by `ctypes`. It is imported here alone: ProcessVolume has no use for it, and not every Python has it."""
+    import ctypes
+
+    class RawVolume(ctypes.Structure):
+        _fields_ = [("inside", ctypes.c_void_p)]
+
+    class RawStat(ctypes.Structure):
+        _fields_ = [("size", ctypes.c_uint64), ("number", ctypes.c_uint32), ("kind", ctypes.c_uint32), ("links", ctypes.c_uint32)]
+
+    class RawSpace(ctypes.Structure):
+        _fields_ = [(name, ctypes.c_uint64) for name in ("data", "meta", "need", "limit")]
+
+    class RawEntry(ctypes.Structure):
+        _fields_ = [("number", ctypes.c_uint32), ("kind", ctypes.c_uint32)]
+
+    return types.SimpleNamespace(
+        load=ctypes.CDLL,
+        buffer=ctypes.create_string_buffer,
+        pointer=ctypes.POINTER,
+        text=ctypes.c_char_p,
+        memory=ctypes.c_void_p,
+        code=ctypes.c_int32,
+        u32=ctypes.c_uint32,
+        u64=ctypes.c_uint64,
+        size=ctypes.c_size_t,
+        volume=RawVolume,
+        stat=RawStat,
+        space=RawSpace,
+        entry=RawEntry,
+    )
 
 
-class _RawStat(ctypes.Structure):
-    _fields_ = [("size", ctypes.c_uint64), ("number", ctypes.c_uint32), ("kind", ctypes.c_uint32), ("links", ctypes.c_uint32)]
+def _signatures(c):
+    """What each function takes behind the volume."""
+    given, taken = [c.text, c.size], [c.memory, c.size]
+    return {
+        **dict.fromkeys(["new", "abandon", "carried", "told", "done", "sync", "clean", "version", "upgrade"], []),
+        **dict.fromkeys(["is_cleaning_due", "clean_once"], []),
+        **dict.fromkeys(["begin", "mount", "close", "fsync"], [c.u32]),
+        **dict.fromkeys(["open", "create", "mkdir", "rmdir", "unlink", "widen", "list"], given),
+        **dict.fromkeys(["link", "rename", "symlink"], given * 2),
+        **dict.fromkeys(["stat", "lstat"], [*given, c.pointer(c.stat)]),
+        "give": [c.u32, *given],
+        "format": [c.u32] * 3,
+        "run": [c.u64, c.pointer(c.u32), *taken],
+        "pread": [c.u32, c.u64, *taken],
+        "pwrite": [c.u32, c.u64, *given],
+        "truncate": [c.u32, c.u64],
+        "readlink": [*given, *taken],
+        "entry": [c.size, c.pointer(c.entry), *taken],
+        "space": [c.pointer(c.space)],
+    }
 
 
-class _RawSpace(ctypes.Structure):
-    _fields_ = [(name, ctypes.c_uint64) for name in ("data", "meta", "need", "limit")]
-
-
-class _RawEntry(ctypes.Structure):
-    _fields_ = [("number", ctypes.c_uint32), ("kind", ctypes.c_uint32)]
-
-
-_U32, _U64, _SIZE = ctypes.c_uint32, ctypes.c_uint64, ctypes.c_size_t
-_GIVEN, _TAKEN = [ctypes.c_char_p, _SIZE], [ctypes.c_void_p, _SIZE]
-# What each function takes behind the volume.
-_FUNCTIONS = {
-    **dict.fromkeys(["new", "abandon", "carried", "told", "done", "sync", "clean", "version", "upgrade"], []),
-    **dict.fromkeys(["is_cleaning_due", "clean_once"], []),
-    **dict.fromkeys(["begin", "mount", "close", "fsync"], [_U32]),
-    **dict.fromkeys(["open", "create", "mkdir", "rmdir", "unlink", "widen", "list"], _GIVEN),
-    **dict.fromkeys(["link", "rename", "symlink"], _GIVEN * 2),
-    **dict.fromkeys(["stat", "lstat"], [*_GIVEN, ctypes.POINTER(_RawStat)]),
-    "give": [_U32, *_GIVEN],
-    "format": [_U32] * 3,
-    "run": [_U64, ctypes.POINTER(_U32), *_TAKEN],
-    "pread": [_U32, _U64, *_TAKEN],
-    "pwrite": [_U32, _U64, *_GIVEN],
-    "truncate": [_U32, _U64],
-    "readlink": [*_GIVEN, *_TAKEN],
-    "entry": [_SIZE, ctypes.POINTER(_RawEntry), *_TAKEN],
-    "space": [ctypes.POINTER(_RawSpace)],
-}
+def _no_library(found):
+    how = "./library builds it, and another ./install puts it beside this module"
+    return FileNotFoundError(
+        f"the library {found} isn't there: {how}; Volume(image, library=..) takes another path, and ProcessVolume drives the program lfs"
+    )
 
 
 @functools.lru_cache(maxsize=None)
@@ -650,22 +906,22 @@ def _library(path):
     """The functions of the library at a path, or without one of that which stands beside this module or which the system's loader finds."""
     beside = os.path.join(os.path.dirname(os.path.realpath(__file__)), _LIBRARY)
     found = os.path.abspath(path) if path else beside if os.path.exists(beside) else _LIBRARY
+    if found != _LIBRARY and not os.path.exists(found):
+        raise _no_library(found)
+    c = _types()
     try:
-        library = ctypes.CDLL(found)
+        library = c.load(found)
     except OSError as error:
-        if found != _LIBRARY and os.path.exists(found):
+        if found != _LIBRARY:
             raise
-        how = "./library builds it, and another ./install puts it beside this module"
-        raise FileNotFoundError(
-            f"the library {found} isn't there: {how}; Volume(image, library=..) takes another path, and ProcessVolume drives the program lfs"
-        ) from error
+        raise _no_library(found) from error
     functions = {}
-    for name, taken in _FUNCTIONS.items():
+    for name, taken in _signatures(c).items():
         functions[name] = getattr(library, f"pansuyog_{name}")
-        functions[name].argtypes = [ctypes.POINTER(_RawVolume), *taken]
-        functions[name].restype = {"abandon": None, "carried": _U64, "told": _U64}.get(name, ctypes.c_int32)
+        functions[name].argtypes = [c.pointer(c.volume), *taken]
+        functions[name].restype = {"abandon": None, "carried": c.u64, "told": c.u64}.get(name, c.code)
     functions["free"] = library.pansuyog_free
-    functions["free"].argtypes, functions["free"].restype = [_RawVolume], None
+    functions["free"].argtypes, functions["free"].restype = [c.volume], None
     return functions
 
 
@@ -678,11 +934,60 @@ _IMAGE_TEXTS = {
     errno.ENOTBLK: "it is neither a regular file nor a block device",
     errno.EWOULDBLOCK: "it is in use: another program has held its lock for a second",
 }
+_SYSTEM = "the system refuses to open it or to tell its length"
+_PRESENT = "it is there already; make(.., force=True) makes a volume in its place"
 _LOCK_TRIES, _LOCK_PAUSE = 1_000, 0.001
+# How a write fails that finds no room: nothing that was written before is in doubt then.
+_NO_ROOM = (errno.ENOSPC, errno.EDQUOT, errno.EFBIG)
+# How a file system answers that has no second names of a file.
+_NO_LINKS = (errno.EPERM, errno.EOPNOTSUPP, errno.ENOSYS)
+
+
+class _Failure(Exception):
+    """What failed of an image, a `read`, a `write` or a `sync`, and the system's error."""
+
+    def __init__(self, what, error):
+        super().__init__(what)
+        self.what, self.error = what, error
+
+    def text(self, image):
+        return f"a {self.what} of {image} failed: {_reason(self.error)}"
+
+    def marked(self, refusal):
+        """A refusal for this cause."""
+        refusal.needs_restart = self.what != "write" or self.error.errno not in _NO_ROOM
+        return refusal
+
+
+@contextlib.contextmanager
+def _failing(what):
+    """Lets an error of the system be told as the failure of a read or a write."""
+    try:
+        yield
+    except OSError as error:
+        raise _Failure(what, error) from error
+
+
+def _sync(file, read_only=False):
+    """Syncs an image, so that what is read of it stays. One that is only read may be on a file system that has nothing to sync."""
+    try:
+        os.fsync(file)
+    except OSError as error:
+        if not read_only or error.errno not in (errno.EINVAL, errno.EROFS):
+            raise _Failure("sync", error) from error
+
+
+def _reason(error):
+    """The system's word for an error."""
+    return error.strerror or str(error)
 
 
 def _refused_image(image, text):
     return _refusal("Image", f"{os.fsdecode(image)}: {text}")
+
+
+def _refused_device(image, failure):
+    return failure.marked(_refusal("Device", f"{os.fsdecode(image)}: {failure.text('it')}"))
 
 
 @contextlib.contextmanager
@@ -690,8 +995,10 @@ def _told_of(image):
     """Lets errors of the system be refusals of an image."""
     try:
         yield
+    except FileExistsError as error:
+        raise _refused_image(image, _PRESENT) from error
     except OSError as error:
-        text = _IMAGE_TEXTS.get(error.errno, "the system refuses to open it or to tell its length")
+        text = _IMAGE_TEXTS.get(error.errno) or f"{_SYSTEM}: {_reason(error)}"
         raise _refused_image(image, text) from error
 
 
@@ -703,11 +1010,12 @@ def _look_up(image):
     return mode
 
 
-def _lock(file):
-    """Keeps other programs out. One that looks may hold the lock for a short time. A file system without locks refuses nothing."""
+def _lock(file, kind):
+    """Keeps other programs out, or writers alone. One that looks may hold the lock for a short time. A file system without locks refuses
+    nothing."""
     for _ in range(_LOCK_TRIES):
         try:
-            fcntl.flock(file, fcntl.LOCK_EX | fcntl.LOCK_NB)
+            fcntl.flock(file, kind | fcntl.LOCK_NB)
         except BlockingIOError:
             time.sleep(_LOCK_PAUSE)
         except OSError:
@@ -717,24 +1025,63 @@ def _lock(file):
     raise BlockingIOError(errno.EWOULDBLOCK, "the lock is held")
 
 
-def _opened(image, flags=0):
-    """The descriptor of an image that is to be written, with its lock. It isn't one of a standard stream that is closed."""
-    first = os.open(image, os.O_RDWR | os.O_CLOEXEC | flags, 0o666)
+def _opened(image, flags=os.O_RDWR):
+    """The descriptor of an image, with its lock. It isn't one of a standard stream that is closed."""
+    first = os.open(image, flags | os.O_CLOEXEC, 0o666)
     try:
         file = fcntl.fcntl(first, fcntl.F_DUPFD_CLOEXEC, 3)
     finally:
         os.close(first)
     try:
-        _lock(file)
-    except OSError:
+        _lock(file, fcntl.LOCK_EX if flags & os.O_RDWR else fcntl.LOCK_SH)
+    except BaseException:
         os.close(file)
         raise
     return file
 
 
+def _opened_to_look(image):
+    """An image that is only read, as a file."""
+    with _told_of(image):
+        _look_up(image)
+        return os.fdopen(_opened(image, os.O_RDONLY), "rb", buffering=0)
+
+
+@contextlib.contextmanager
+def _copied(image, file):
+    """The path of a copy of an image, as long as this lasts. What lies behind the longest volume isn't copied."""
+    copy, path = tempfile.mkstemp(prefix="pansuyog-")
+    try:
+        try:
+            _copy(file.fileno(), copy)
+        except _Failure as failure:
+            raise _refused_device(image, failure) from failure
+        except OSError as error:
+            raise OSError(error.errno, f"a copy of {os.fsdecode(image)} can't be written: {_reason(error)}", path) from error
+        finally:
+            os.close(copy)
+        yield path
+    finally:
+        os.unlink(path)
+
+
+def _copy(file, copy):
+    """Copies all sectors of an image that a volume may have. Zeros stay holes."""
+    _sync(file, True)
+    size = min(os.lseek(file, 0, os.SEEK_END), _MOST_SECTORS * _SECTOR)
+    os.ftruncate(copy, size)
+    for offset in range(0, size, _RUN * _SECTOR):
+        with _failing("read"):
+            data = os.pread(file, min(_RUN * _SECTOR, size - offset), offset)
+        if any(data):
+            _write_all(copy, data, offset)
+
+
 def _write_all(file, data, offset):
     while data:
         count = os.pwrite(file, data, offset)
+        if count == 0:
+            raise OSError(errno.EIO, "no byte was written")
         data, offset = data[count:], offset + count
 
 
@@ -742,25 +1089,81 @@ def _write_all(file, data, offset):
 _UNMADE = ".lfs-make"
 
 
-def _refuse_made(file, place, path):
-    """Refuses a file that another `make` has given its name meanwhile, and one whose name is taken by now."""
+def _refuse_present(image, path):
+    """Refuses an image whose name is taken, whatever has it."""
+    if os.path.lexists(path):
+        _look_up(path)
+        raise _refused_image(image, _PRESENT)
+
+
+def _opened_unmade(image, path):
+    """The descriptor of an image that has no name of its own yet. Its name must be free, also once the lock is there."""
+    _refuse_present(image, path)
+    place = path + _UNMADE
+    with contextlib.suppress(FileNotFoundError):
+        # A stop behind `link` left a second name of a whole image.
+        if os.lstat(place).st_nlink > 1:
+            os.unlink(place)
+    file = _opened(place, os.O_RDWR | os.O_CREAT | os.O_NOFOLLOW)
     try:
-        is_same = os.path.samestat(os.fstat(file), os.stat(place)) and not os.path.exists(path)
-    except OSError:
-        is_same = False
-    if not is_same:
+        if not _has_name(file, place):
+            raise BlockingIOError(errno.EWOULDBLOCK, "another make had it")
+        if os.path.lexists(path):
+            with contextlib.suppress(FileNotFoundError):
+                os.unlink(place)
+            raise _refused_image(image, _PRESENT)
+    except BaseException:
         os.close(file)
-        raise BlockingIOError(errno.EWOULDBLOCK, "another make was quicker")
+        raise
+    return file
 
 
-def _sync_folder(image):
-    """Lets the name of a new image stay too, where the file system can."""
-    with contextlib.suppress(OSError):
-        folder = os.open(os.path.dirname(os.path.abspath(image)), os.O_RDONLY)
+def _has_name(file, place):
+    """Whether an open file still has its name. Another `make` may have taken that away, until this one got the lock."""
+    try:
+        return os.path.samestat(os.fstat(file), os.lstat(place))
+    except FileNotFoundError:
+        return False
+
+
+def _hold(path):
+    """Makes an empty file of a name that is free."""
+    os.close(os.open(path, os.O_WRONLY | os.O_CREAT | os.O_EXCL | os.O_CLOEXEC, 0o666))
+
+
+def _name(place, path):
+    """Gives a whole image its own name, which must be free."""
+    try:
+        os.link(place, path)
+    except OSError as error:
+        if error.errno not in _NO_LINKS:
+            raise
+        _hold(path)
         try:
-            os.fsync(folder)
-        finally:
-            os.close(folder)
+            os.rename(place, path)
+        except BaseException:
+            os.unlink(path)
+            raise
+    else:
+        # Another `make` may have taken it for what a stop leaves.
+        with contextlib.suppress(FileNotFoundError):
+            os.unlink(place)
+
+
+def _sync_folder(image, path):
+    """Lets the name of a new image stay too. Not every folder can be read, and not every file system syncs one."""
+    try:
+        folder = os.open(os.path.dirname(path), os.O_RDONLY | os.O_CLOEXEC)
+    except OSError:
+        return
+    try:
+        os.fsync(folder)
+    except OSError as error:
+        if error.errno != errno.EINVAL:
+            refusal = _refused_image(image, f"the folder that has it can't be synced: {_reason(error)}")
+            raise _Failure("sync", error).marked(refusal) from error
+    finally:
+        os.close(folder)
 
 
 def _give_back(functions, raw, file):
@@ -773,19 +1176,24 @@ class Volume(Files):
     volume: calls are made one at a time. `library` is the path of the shared object, where it isn't installed. A volume that isn't mounted
     is refused here.
 
-    The image is read whole, and kept in memory: 2.1 MB for a volume of 64 segments, 33.6 MB for one of 1,024.
+    The image is read whole, and kept in memory: 2.1 MB for a volume of 64 segments, 33.6 MB for one of 1,024. With `read_only=True` it is
+    opened for reading, with the lock of those that look, and nothing is written.
     """
 
-    def __init__(self, image, *, library=None):
+    def __init__(self, image, *, library=None, read_only=False):
         functions = _library(library)
         with _told_of(image):
             _look_up(image)
-            file = _opened(image)
-        self._start(image, functions, file)
-        self._begin("mount")
+            file = _opened(image, os.O_RDONLY if read_only else os.O_RDWR)
+        self._start(image, functions, file, read_only)
+        try:
+            self._begin("mount")
+        except BaseException:
+            self.close()
+            raise
 
     @classmethod
-    def _make(cls, image, segments, format, library):
+    def _make(cls, image, segments, format, reserve, force, library):
         """Makes an empty volume in a file, of which nothing is mounted."""
         functions = _library(library)
         if segments not in range(64, 1_025, 8):
@@ -794,23 +1202,30 @@ class Volume(Files):
             raise _refusal("Inval", f"{os.fsdecode(image)}: a volume has format 1 or 2")
         path = os.path.realpath(os.fsdecode(image))
         with _told_of(image):
-            is_new = not os.path.exists(path)
-            if not is_new and stat.S_ISBLK(_look_up(path)):
+            is_over = force and os.path.exists(path)
+            if os.path.exists(path) and stat.S_ISBLK(_look_up(path)):
                 raise _refused_image(image, "it is a block device: lfs mkfs --force makes a volume on one")
-            place = path + _UNMADE if is_new else path
-            file = _opened(place, os.O_CREAT)
-            if is_new:
-                _refuse_made(file, place, path)
+            file = _opened(path) if is_over else _opened_unmade(image, path)
         made = cls.__new__(cls)
         made._start(image, functions, file)
-        with contextlib.closing(made):
-            made._empty(_SECTOR * (2 + 64 * segments))
+        with contextlib.closing(made), contextlib.nullcontext() if is_over else made._naming(path):
+            made._empty(_SECTOR * (2 + 64 * segments), reserve)
             made._begin("format", segments, format)
-            if is_new:
-                with _told_of(image):
-                    os.fsync(file)
-                    os.rename(place, path)
-        _sync_folder(path)
+        if not is_over:
+            _sync_folder(image, path)
+
+    @contextlib.contextmanager
+    def _naming(self, path):
+        """Gives a new image its name once it is whole and synced, with its lock. Where that fails nothing is left of it."""
+        place = path + _UNMADE
+        try:
+            yield
+            with _told_of(self._image):
+                _name(place, path)
+        except BaseException:
+            with contextlib.suppress(OSError):
+                os.unlink(place)
+            raise
 
     def __enter__(self):
         return self
@@ -836,12 +1251,15 @@ class Volume(Files):
         self._call("clean_once")
 
     def tree(self):
-        """Each entry of each directory. A file is opened for its first bytes."""
-        rows, waiting = [], [(1, b"")]
+        """Each entry of each directory. A file is opened for its first bytes. One whose path has more than 1,023 bytes is left out with a
+        warning, `Omitted`."""
+        rows, waiting = [], [(1, b"/")]
         while waiting:
             number, path = waiting.pop()
-            for entry in self.readdir(path + b"/"):
-                below = path + b"/" + entry.name
+            for entry in self.readdir(path):
+                below = _below(path, entry.name)
+                if not _is_reached(below):
+                    continue
                 told = self.lstat(below)
                 rows.append(TreeRow(number, entry.name, entry.kind, entry.number, told.links, told.size, self._head(below, entry.kind)))
                 if entry.kind == "dir":
@@ -857,16 +1275,18 @@ class Volume(Files):
         finally:
             self.close_handle(handle)
 
-    def _start(self, image, functions, file):
+    def _start(self, image, functions, file, read_only=False):
         """Holds what a volume has, before it is mounted."""
-        self._image, self._functions, self._file = image, functions, file
-        self._raw = _RawVolume()
+        self._image, self._functions, self._file, self._is_read_only = image, functions, file, read_only
+        self._types = _types()
+        self._raw = self._types.volume()
         # The thread whose call is under way.
         self._lock, self._caller = threading.RLock(), None
-        self._is_halted = False
-        self._run = ctypes.create_string_buffer(_RUN * _SECTOR)
+        # Why no call is taken any more, and why not all was read.
+        self._halted_by, self._unread = None, None
+        self._run = self._types.buffer(_RUN * _SECTOR)
         # One byte more than a call takes: so many are refused as any number of them.
-        self._taken = ctypes.create_string_buffer(_LONGEST_TRANSFER + 1)
+        self._taken = self._types.buffer(_LONGEST_TRANSFER + 1)
         if functions["new"](self._raw) < 0:
             os.close(file)
             raise _refusal("NoMemory", f"{os.fsdecode(image)}: {_NO_MEMORY}")
@@ -886,13 +1306,30 @@ class Volume(Files):
             finally:
                 self._caller = None
 
-    def _empty(self, size):
-        """Gives the image this size, with nothing in it."""
+    def _empty(self, size, reserve):
+        """Gives the image this size, with nothing in it. That it may be so long is tried before it is emptied."""
         try:
+            if os.lseek(self._file, 0, os.SEEK_END) < size:
+                os.ftruncate(self._file, size)
             os.ftruncate(self._file, 0)
             os.ftruncate(self._file, size)
         except OSError as error:
-            raise _refused_image(self._image, "the file can't have the length of the volume") from error
+            raise _refused_image(self._image, f"the file can't have the length of the volume: {_reason(error)}") from error
+        if reserve:
+            self._reserve(size)
+
+    def _reserve(self, size):
+        """Writes each sector, so that there is room for it."""
+        zeros = memoryview(bytes(_RESERVED))
+        try:
+            for offset in range(0, size, _RESERVED):
+                with _failing("write"):
+                    _write_all(self._file, zeros[: size - offset], offset)
+            _sync(self._file)
+        except _Failure as failure:
+            if failure.error.errno in _NO_ROOM:
+                raise _refused_image(self._image, f"there is no room for all of its sectors: {_reason(failure.error)}") from failure
+            raise _refused_device(self._image, failure) from failure
 
     def _begin(self, name, *numbers):
         """Reads the image, and makes or mounts its volume."""
@@ -901,23 +1338,23 @@ class Volume(Files):
             # Memory is taken for the orders of a pass of the cleaner and of a commit.
             code = self._functions[name](self._raw, *numbers, 8 * (sectors // 64) + 520)
             self._carry()
-        except OSError as error:
-            self.close()
-            raise self._refused_volume("Device") from error
+        except _Failure as failure:
+            raise _refused_device(self._image, failure) from failure
         if code < 0:
-            self.close()
             raise self._refused_volume(_CODES.get(-code), -100 - code)
 
     def _refused_volume(self, name, stage=0):
         cause = _VOLUME_TEXTS.get(name, f"stage {stage} of its check fails")
+        if self._unread:
+            cause += f", and {self._unread.text('it')}"
         return _refusal(name, f"{os.fsdecode(self._image)}: {cause}")
 
     def _read_all(self):
         """Gives the library all sectors that can be read: how many there are."""
-        os.fsync(self._file)
-        sectors = min(os.lseek(self._file, 0, os.SEEK_END) // _SECTOR, _MOST_SECTORS)
+        _sync(self._file, self._is_read_only)
+        with _failing("read"):
+            sectors = min(os.lseek(self._file, 0, os.SEEK_END) // _SECTOR, _MOST_SECTORS)
         if self._functions["begin"](self._raw, sectors) < 0:
-            self.close()
             raise self._refused_volume("NoMemory")
         sector = 0
         while sector < sectors:
@@ -929,7 +1366,8 @@ class Volume(Files):
         """Gives sectors that follow one another: how many of them could be read."""
         try:
             data = os.pread(self._file, count * _SECTOR, first * _SECTOR)
-        except OSError:
+        except OSError as error:
+            self._unread = _Failure("read", error)
             return 0
         self._functions["give"](self._raw, first, data, len(data))
         return len(data) // _SECTOR
@@ -942,22 +1380,23 @@ class Volume(Files):
         try:
             while number < told:
                 number += self._carry_run(number)
-        except OSError:
-            self._is_halted = True
+        except _Failure as failure:
+            self._halted_by = failure
             self._functions["abandon"](self._raw)
             raise
         self._functions["done"](self._raw)
 
     def _carry_run(self, number):
         """Carries out a sync, or writes to sectors that follow one another: how many orders."""
-        first = _U32()
+        first = self._types.u32()
         count = self._functions["run"](self._raw, number, first, self._run, _RUN)
         if count < 0:
             raise RuntimeError(f"the library has no order {number}")
         if count == 0:
-            os.fsync(self._file)
+            _sync(self._file, self._is_read_only)
             return 1
-        _write_all(self._file, memoryview(self._run)[: count * _SECTOR], first.value * _SECTOR)
+        with _failing("write"):
+            _write_all(self._file, memoryview(self._run)[: count * _SECTOR], first.value * _SECTOR)
         return count
 
     def _call(self, name, *arguments):
@@ -965,26 +1404,33 @@ class Volume(Files):
         with self._one_call():
             if not self._finish.alive:
                 raise ValueError("the volume is closed")
+            if self._is_read_only:
+                _refuse_change(name, arguments)
             return more(self, name, *arguments) if more else self._ask(name, arguments)
 
     def _ask(self, name, arguments, *given):
         """Makes a call with what is given, or else with its arguments, each path with its length: the number that it answers."""
-        if self._is_halted:
-            raise _refused_call(name, arguments, "Halted")
+        if self._halted_by:
+            raise self._halted(name, arguments)
         if not given:
             given = [it for argument in arguments for it in ((argument, len(argument)) if isinstance(argument, bytes) else (argument,))]
         code = self._functions[_FUNCTION_OF.get(name, name)](self._raw, *given)
         try:
             self._carry()
-        except OSError as error:
-            raise _refused_call(name, arguments, "Halted") from error
+        except _Failure as failure:
+            raise self._halted(name, arguments) from failure
         if code < 0:
             raise _refused_call(name, arguments, _CODES.get(-code, str(code)))
         return code
 
+    def _halted(self, name, arguments):
+        """The refusal of a call, since a write or a sync of the image failed in it or before."""
+        failure = self._halted_by
+        return failure.marked(_refused_call(name, arguments, "Halted", f"{_UNWRITABLE}: {failure.text(os.fsdecode(self._image))}"))
+
     def _read(self, name, handle, offset, length):
         count = self._ask(name, (handle, offset, length), handle, offset, self._taken, min(length, len(self._taken)))
-        return ctypes.string_at(self._taken, count)
+        return self._taken[:count]
 
     def _fill(self, name, handle, offset, length, byte):
         data = bytes([byte]) * min(length, len(self._taken))
@@ -992,10 +1438,10 @@ class Volume(Files):
 
     def _text(self, name, path):
         count = self._ask(name, (path,), path, len(path), self._taken, len(self._taken))
-        return ctypes.string_at(self._taken, count)
+        return self._taken[:count]
 
     def _status(self, name, path):
-        told = _RawStat()
+        told = self._types.stat()
         self._ask(name, (path,), path, len(path), told)
         return Stat(told.number, _KINDS[told.kind], told.links, told.size)
 
@@ -1003,12 +1449,12 @@ class Volume(Files):
         return [self._entry(place) for place in range(self._ask(name, (path,)))]
 
     def _entry(self, place):
-        told = _RawEntry()
+        told = self._types.entry()
         length = self._functions["entry"](self._raw, place, told, self._taken, len(self._taken))
-        return Entry(ctypes.string_at(self._taken, length), told.number, _KINDS[told.kind])
+        return Entry(self._taken[:length], told.number, _KINDS[told.kind])
 
     def _measure(self, name):
-        told = _RawSpace()
+        told = self._types.space()
         self._ask(name, (), told)
         return Space(told.data, told.meta, told.need, told.limit)
 

@@ -1,10 +1,14 @@
-"""Tests of the client over the library: python3 test_library.py LIBRARY. Some need the program too, which LFS of the environment names."""
+"""Tests of the client over the library: python3 test_library.py LIBRARY. Some need the program too, which LFS of the environment names.
+
+Where they are loaded over the program, as `test_pansuyog.py` does, those of the library alone are skipped."""
 import contextlib
+import errno
 import fcntl
 import glob
 import os
 import random
 import shutil
+import stat
 import subprocess
 import sys
 import tempfile
@@ -16,7 +20,7 @@ import building
 import pansuyog
 import stopping
 import test_pansuyog
-from test_pansuyog import HERE, BesideTheProgram, Calls, Files, OnAVolume, Page, Refusals  # noqa: F401, whose tests run here too
+from test_pansuyog import HERE, BesideTheProgram, Calls, Files, OnAVolume, OnlyRead, Page, Refusals, changes_of, put  # noqa: F401, whose tests run here too
 
 CASES = f"{HERE}/../../crates/lfs_cases/data"
 RECORDS = int(os.environ.get("PANSUYOG_RECORDS", "3600"))
@@ -30,11 +34,11 @@ class Library:
     def __init__(self, path):
         self.path = path
 
-    def make(self, image, segments, format=1):
-        pansuyog.make(image, segments, format=format, library=self.path)
+    def make(self, image, segments, format=1, **how):
+        pansuyog.make(image, segments, format=format, library=self.path, **how)
 
-    def mounted(self, image):
-        return pansuyog.Volume(image, library=self.path)
+    def mounted(self, image, **how):
+        return pansuyog.Volume(image, library=self.path, **how)
 
     def shown(self, code, image):
         return code.replace('"disk.img"', f"{image!r}, library={self.path!r}")
@@ -42,6 +46,13 @@ class Library:
 
 def used():
     return test_pansuyog.used
+
+
+class OfTheLibrary(unittest.TestCase):
+    def setUp(self):
+        if used().name != Library.name:
+            self.skipTest("of the library alone")
+        super().setUp()
 
 
 def spelt(word, answer):
@@ -88,7 +99,7 @@ def text_of(path):
 
 class Scripts(unittest.TestCase):
     def test_each_script_has_its_replies(self):
-        paths = [it.removesuffix(".script") for it in glob.glob(f"{CASES}/*.script")]
+        paths = [os.path.splitext(it)[0] for it in glob.glob(f"{CASES}/*.script")]
         # A bad line is a matter of the language alone.
         paths = [it for it in paths if "bad " not in text_of(f"{it}.replies")]
         self.assertGreaterEqual(len(paths), 59)
@@ -107,7 +118,7 @@ class Scripts(unittest.TestCase):
                 self.assertEqual(reply(volume, "tree"), text_of(f"{path}.tree").rstrip("\n"))
 
 
-class Sessions(OnAVolume):
+class Sessions(OfTheLibrary, OnAVolume):
     def test_a_file_without_names_is_gone_after_a_stop(self):
         volume = self.mounted()
         handle = volume.create("/f")
@@ -206,10 +217,175 @@ def noting(call, name, calls):
     return made
 
 
-class Devices(OnAVolume):
+def is_no_link(*_):
+    """How a file system answers that has no second names of a file."""
+    raise OSError(errno.EPERM, os.strerror(errno.EPERM))
+
+
+# What `make` does to the disk.
+STEPS = ("open", "ftruncate", "pwrite", "fsync", "link", "rename", "unlink")
+
+
+class Making(OfTheLibrary):
+    """New images, where a file may have two names, and where it can't."""
+
+    def setUp(self):
+        super().setUp()
+        folder = tempfile.TemporaryDirectory()
+        self.addCleanup(folder.cleanup)
+        self.folder, self.image = folder.name, f"{folder.name}/disk.img"
+
+    @contextlib.contextmanager
+    def steps(self, has_links, around):
+        """Lets each step of a `make` go through a function, which is given the call and its name."""
+        with contextlib.ExitStack() as stack:
+            for name in STEPS:
+                call = is_no_link if name == "link" and not has_links else getattr(os, name)
+                stack.enter_context(mock.patch(f"os.{name}", around(call, name)))
+            yield
+
+    def stops_behind(self, good_calls, has_links, **how):
+        """Whether a `make` comes to a step at which all calls fail from there on, as behind a stop."""
+        left = [good_calls]
+        with self.steps(has_links, lambda call, _: ending(call, left)):
+            try:
+                used().make(self.image, 64, **how)
+            except Stop:
+                return True
+        return False
+
+    def test_a_new_image_is_there_whole_or_not_at_all(self):
+        for has_links in (True, False):
+            for how in ({}, {"reserve": True}, {"force": True}):
+                stops, empty = 0, 0
+                while self.stops_behind(stops, has_links, **how):
+                    empty += self.is_left_empty()
+                    stops += 1
+                self.assertGreaterEqual(stops, 11)
+                # Where a file can't have two names a stop may come between an empty file of the name and the rename.
+                self.assertEqual(empty, 0 if has_links else 1)
+                self.clear()
+
+    def is_left_empty(self):
+        """Looks at what a stop left, and makes the image anew: whether there was an empty one."""
+        self.assertLessEqual(set(os.listdir(self.folder)), {"disk.img", "disk.img.lfs-make"})
+        is_there = os.path.exists(self.image)
+        is_empty = is_there and os.path.getsize(self.image) == 0
+        if is_there:
+            self.assertRaises(pansuyog.Image, used().make, self.image, 64)
+            os.rename(self.image, f"{self.folder}/aside")
+        used().make(self.image, 64)
+        if is_there and not is_empty:
+            used().mounted(f"{self.folder}/aside").close()
+        if is_there:
+            os.remove(f"{self.folder}/aside")
+        self.clear()
+        return is_empty
+
+    def clear(self):
+        """Nothing but a volume is there. It goes."""
+        used().mounted(self.image).close()
+        self.assertEqual(os.listdir(self.folder), ["disk.img"])
+        os.remove(self.image)
+
+    def test_the_name_comes_behind_all_syncs(self):
+        for has_links, wanted in ((True, ["fsync", "link", "unlink", "open", "fsync"]), (False, ["fsync", "link", "open", "rename", "open", "fsync"])):
+            calls = []
+            with self.steps(has_links, lambda call, name: noting(call, name, calls)):
+                used().make(self.image, 64)
+            self.assertEqual(calls[-len(wanted) :], wanted)
+            os.remove(self.image)
+
+    def test_a_name_that_another_takes_meanwhile_is_refused(self):
+        for has_links in (True, False):
+
+            def taking(call, name):
+                def made(*arguments):
+                    if name == "link":
+                        put(self.image, b"another's")
+                    return call(*arguments)
+
+                return made
+
+            with self.steps(has_links, taking):
+                self.assertRaisesRegex(pansuyog.Image, "it is there already", used().make, self.image, 64)
+            with open(self.image, "rb") as file:
+                self.assertEqual(file.read(), b"another's")
+            self.assertEqual(os.listdir(self.folder), ["disk.img"])
+            os.remove(self.image)
+
+    def test_a_second_name_of_a_whole_image_does_no_harm(self):
+        used().make(self.image, 64)
+        with used().mounted(self.image) as volume:
+            volume.write_file("/f", b"kept")
+            os.link(self.image, f"{self.image}.lfs-make")
+            os.rename(self.image, f"{self.folder}/aside")
+            used().make(self.image, 64)
+        self.assertEqual(sorted(os.listdir(self.folder)), ["aside", "disk.img"])
+        self.assertEqual(used().mounted(f"{self.folder}/aside").read("/f"), b"kept")
+
+    def test_one_make_at_a_time(self):
+        with open(f"{self.image}.lfs-make", "wb") as file:
+            fcntl.flock(file, fcntl.LOCK_EX)
+            self.assertRaisesRegex(pansuyog.Image, "it is in use", used().make, self.image, 64)
+        used().make(self.image, 64)
+        self.assertEqual(os.listdir(self.folder), ["disk.img"])
+
+    def test_a_link_in_the_place_of_an_unmade_image_is_not_followed(self):
+        put(f"{self.folder}/letter", b"a letter")
+        os.symlink("letter", f"{self.image}.lfs-make")
+        self.assertRaisesRegex(pansuyog.Image, "symbolic links", used().make, self.image, 64)
+        self.assertEqual(os.path.getsize(f"{self.folder}/letter"), 8)
+
+    def test_each_failure_is_told_and_leaves_nothing(self):
+        full = OSError(errno.ENOSPC, os.strerror(errno.ENOSPC))
+        told = {
+            "ftruncate": (pansuyog.Image, "the file can't have the length of the volume"),
+            "pwrite": (pansuyog.Device, "a write of it failed"),
+            "fsync": (pansuyog.Device, "a sync of it failed"),
+            "link": (pansuyog.Image, "the system refuses to open it or to tell its length"),
+        }
+        for name, (refusal, text) in told.items():
+            with mock.patch(f"os.{name}", side_effect=full), self.assertRaises(refusal) as caught:
+                used().make(self.image, 64)
+            self.assertEqual(str(caught.exception), f"{self.image}: {text}: No space left on device")
+            self.assertIs(caught.exception.needs_restart, name == "fsync")
+            self.assertEqual(os.listdir(self.folder), [])
+        with mock.patch("os.pwrite", side_effect=full):
+            with self.assertRaisesRegex(pansuyog.Image, f"^{self.image}: there is no room for all of its sectors: No space left on device$"):
+                used().make(self.image, 64, reserve=True)
+        self.assertEqual(os.listdir(self.folder), [])
+        broken = OSError(errno.EIO, os.strerror(errno.EIO))
+        for name, what in (("pwrite", "write"), ("fsync", "sync")):
+            with mock.patch(f"os.{name}", side_effect=broken):
+                with self.assertRaisesRegex(pansuyog.Device, f"^{self.image}: a {what} of it failed: Input/output error$"):
+                    used().make(self.image, 64, reserve=True)
+            self.assertEqual(os.listdir(self.folder), [])
+
+    def test_a_folder_that_is_not_synced_is_told(self):
+        sync = os.fsync
+
+        def failing(file):
+            if stat.S_ISDIR(os.fstat(file).st_mode):
+                raise OSError(errno.EIO, os.strerror(errno.EIO))
+            sync(file)
+
+        with mock.patch("os.fsync", failing), self.assertRaises(pansuyog.Image) as caught:
+            used().make(self.image, 64)
+        self.assertEqual(str(caught.exception), f"{self.image}: the folder that has it can't be synced: Input/output error")
+        self.assertTrue(caught.exception.needs_restart)
+
+    def test_a_file_that_cannot_be_so_long_keeps_its_content(self):
+        put(self.image, b"a letter")
+        with mock.patch("os.ftruncate", side_effect=OSError(errno.EFBIG, os.strerror(errno.EFBIG))):
+            self.assertRaisesRegex(pansuyog.Image, "File too large$", lambda: used().make(self.image, 64, force=True))
+        self.assertEqual(os.path.getsize(self.image), 8)
+
+
+class Devices(OfTheLibrary, OnAVolume):
     def test_a_damaged_volume_tells_its_stage(self):
         for sector, place, byte, stage in DAMAGES:
-            used().make(self.image, 64)
+            used().make(self.image, 64, force=True)
             with open(self.image, "r+b") as file:
                 file.seek(512 * sector + place)
                 file.write(bytes([byte]))
@@ -224,41 +400,9 @@ class Devices(OnAVolume):
         self.assertRaisesRegex(pansuyog.Image, "it is a folder", used().mounted, folder)
         self.assertRaisesRegex(pansuyog.Image, "it is a folder", used().make, folder, 64)
         self.assertRaisesRegex(pansuyog.Image, "neither a regular file", used().mounted, "/dev/null")
+        self.assertRaisesRegex(pansuyog.Image, "it is a folder", lambda: used().make(folder, 64, force=True))
+        self.assertRaisesRegex(pansuyog.Image, "neither a regular file", used().make, "/dev/null", 64)
         self.assertRaisesRegex(pansuyog.Inval, "format 1 or 2", used().make, self.image, 64, 3)
-
-    def test_a_new_image_is_there_whole_or_not_at_all(self):
-        """At each write, sync, length and rename of `make` in turn all calls fail from there on, as behind a stop."""
-        image, names = f"{self.image}.2", ("ftruncate", "pwrite", "fsync", "rename")
-        for good_calls in range(100):
-            left = [good_calls]
-            with contextlib.ExitStack() as stack:
-                for name in names:
-                    stack.enter_context(mock.patch(f"os.{name}", ending(getattr(os, name), left)))
-                with contextlib.suppress(Stop, pansuyog.Refused):
-                    used().make(image, 64)
-            if os.path.exists(image):
-                break
-            self.assertRaises(pansuyog.Image, used().mounted, image)
-        self.assertGreaterEqual(good_calls, 6)
-        used().mounted(image).close()
-        self.assertFalse(os.path.exists(f"{image}.lfs-make"))
-
-    def test_the_name_comes_behind_all_syncs(self):
-        image, calls = f"{self.image}.2", []
-        with contextlib.ExitStack() as stack:
-            for name in ("pwrite", "fsync", "rename"):
-                stack.enter_context(mock.patch(f"os.{name}", noting(getattr(os, name), name, calls)))
-            used().make(image, 64)
-        self.assertEqual(calls[-3:], ["fsync", "rename", "fsync"])
-
-    def test_one_make_at_a_time(self):
-        image = f"{self.image}.2"
-        with open(f"{image}.lfs-make", "wb") as file:
-            fcntl.flock(file, fcntl.LOCK_EX)
-            self.assertRaisesRegex(pansuyog.Image, "it is in use", used().make, image, 64)
-        used().make(image, 64)
-        with used().mounted(image):
-            self.assertRaisesRegex(pansuyog.Image, "it is in use", used().make, image, 64)
 
     def test_a_sector_that_is_not_needed_need_not_be_read(self):
         device = stopping.Device(self.image, random)
@@ -298,6 +442,98 @@ class Devices(OnAVolume):
                 acknowledged += [found[4 * len(acknowledged) :]] if len(found) > 4 * len(acknowledged) else []
                 stops += 1
         self.assertGreater(len(acknowledged), 60)
+
+    def test_a_tree_has_whole_files_behind_a_stop_at_each_order(self):
+        with tempfile.TemporaryDirectory() as folder:
+            for number in range(30):
+                put(f"{folder}/{number:02}", bytes([number + 1]) * (40 * number + 1))
+            for each in (64 << 20, 5_000):
+                stops, most = 0, 0
+                while self.is_stopped_behind(stops, folder, each):
+                    with self.mounted() as volume:
+                        names = [name for name in self.names(volume) if name != b".lfs-put"]
+                        self.assertEqual(names, [b"%02d" % number for number in range(len(names))])
+                        for number, name in enumerate(names):
+                            self.assertEqual(volume.read(name), bytes([number + 1]) * (40 * number + 1))
+                        most = max(most, len(names))
+                    stops += 1
+                self.assertGreater(stops, 10)
+                with self.mounted() as volume:
+                    self.assertEqual(len(volume.readdir("/")), 30)
+
+    def is_stopped_behind(self, orders, folder, each):
+        """Whether the power goes, behind so many orders, while a folder is put into a new volume."""
+        used().make(self.image, 64, force=True)
+        device = stopping.Device(self.image, random.Random(orders))
+        with device.put_between():
+            try:
+                with self.mounted() as volume:
+                    device.stop_behind(orders)
+                    volume.write_tree(folder, sync_each=each)
+                return False
+            except stopping.Stopped:
+                return True
+            finally:
+                device.cut(stopping.NEW if orders % 2 else stopping.OLD)
+
+    def test_a_tree_of_many_files_has_few_syncs(self):
+        with tempfile.TemporaryDirectory() as folder:
+            for number in range(200):
+                put(f"{folder}/{number}", b"x" * 100)
+            device = stopping.Device(self.image, random)
+            with device.put_between(), self.mounted() as volume:
+                before = device.syncs
+                volume.write_tree(folder)
+                self.assertLessEqual(device.syncs - before, 20)
+
+    def test_a_failure_tells_the_image_and_the_cause(self):
+        full, broken = ((it, os.strerror(it)) for it in (errno.ENOSPC, errno.EIO))
+        for name, what, error in (("pwrite", "write", full), ("fsync", "sync", full), ("pwrite", "write", broken), ("fsync", "sync", broken)):
+            with self.mounted() as volume:
+                handle = volume.create("/f")
+                with mock.patch(f"os.{name}", side_effect=OSError(*error)), self.assertRaises(pansuyog.Halted) as caught:
+                    volume.append("/f", b"x")
+                cause = f"it can't be written: a {what} of {self.image} failed: {error[1]}"
+                self.assertEqual(str(caught.exception), f"sync: {cause}")
+                # A write that finds no room leaves nothing in doubt.
+                self.assertIs(caught.exception.needs_restart, (name, error) != ("pwrite", full))
+                with self.assertRaises(pansuyog.Halted) as caught:
+                    volume.close_handle(handle)
+                self.assertEqual(str(caught.exception), f"close {handle}: {cause}")
+        with mock.patch("os.fsync", side_effect=OSError(*broken)), self.assertRaises(pansuyog.Device) as caught:
+            self.mounted()
+        self.assertEqual(str(caught.exception), f"{self.image}: a sync of it failed: Input/output error")
+        self.assertTrue(caught.exception.needs_restart)
+        with mock.patch("os.pread", side_effect=OSError(*broken)), self.assertRaises(pansuyog.NoCheckpoint) as caught:
+            self.mounted()
+        self.assertRegex(str(caught.exception), "is a checkpoint, and a read of it failed: Input/output error$")
+
+    def test_a_write_of_no_byte_is_a_failure(self):
+        with self.mounted() as volume, mock.patch("os.pwrite", return_value=0):
+            volume.create("/f")
+            self.assertRaisesRegex(pansuyog.Halted, f"^sync: .* a write of {self.image} failed: no byte was written$", volume.sync)
+
+    def test_what_is_only_read_gets_no_write(self):
+        device = stopping.Device(self.image, random)
+        with self.mounted() as volume:
+            volume.mkdir("/d")
+            volume.write_file("/d/f", b"x")
+        with device.put_between(), self.mounted(read_only=True) as volume:
+            for change in [*changes_of(volume), volume.clean_once]:
+                self.assertRaises(pansuyog.ReadOnly, change)
+            volume.sync()
+            self.assertIs(volume.is_cleaning_due(), False)
+        self.assertEqual(device.writes, 0)
+
+    def test_a_tree_goes_on_past_a_path_that_no_call_takes(self):
+        volume = self.mounted()
+        _, whole = Files.deep(self, volume)
+        with self.assertWarns(pansuyog.Omitted) as caught:
+            rows = volume.tree()
+        self.assertEqual([str(it.message).split(":")[0] for it in caught.warnings], [whole[:1_080].decode()])
+        # Seventeen of eighteen directories, and two of three files.
+        self.assertEqual(len(rows), 19)
+        self.assertIn(b"z", [row.name for row in rows])
 
     def test_a_call_within_another_is_an_error(self):
         volume = self.mounted()
@@ -351,7 +587,7 @@ class Devices(OnAVolume):
         return False
 
 
-class Installed(unittest.TestCase):
+class Installed(OfTheLibrary):
     def test_a_library_beside_the_module_is_found(self):
         with tempfile.TemporaryDirectory() as folder:
             shutil.copy(f"{HERE}/pansuyog.py", folder)
@@ -368,7 +604,7 @@ class Installed(unittest.TestCase):
             self.assertTrue(os.path.exists(f"{folder}/libpansuyog.so.0") and os.path.exists(f"{folder}/pansuyog.py"))
 
 
-class Recorder(test_pansuyog.Recorder):
+class Recorder(OfTheLibrary, test_pansuyog.Recorder):
     """An hour's recorder in compressed time: a record for each second, saved by itself, and about once a minute the recorder is killed."""
 
     def test_every_acknowledged_record_is_there_after_each_kill(self):

@@ -1,14 +1,17 @@
 """Tests of the client over the program: python3 test_pansuyog.py LFS. Most of them `test_library.py` has over the library too."""
+import contextlib
 import os
 import random
 import re
 import shutil
 import signal
+import socket
 import subprocess
 import sys
 import tempfile
 import time
 import unittest
+from unittest import mock
 
 import pansuyog
 
@@ -25,11 +28,11 @@ class Program:
     def __init__(self, path):
         self.path = path
 
-    def make(self, image, segments, format=1):
-        pansuyog.make(image, segments, self.path, format)
+    def make(self, image, segments, format=1, **how):
+        pansuyog.make(image, segments, self.path, format, **how)
 
-    def mounted(self, image):
-        return pansuyog.ProcessVolume(image, self.path)
+    def mounted(self, image, **how):
+        return pansuyog.ProcessVolume(image, self.path, **how)
 
     def shown(self, code, image):
         """What a page shows of `Volume`, as code over an image."""
@@ -41,6 +44,15 @@ program = os.environ.get("LFS", "lfs")
 used = Program(program)
 
 
+def random_bytes(count, seed=None):
+    return (random.Random(seed).getrandbits(8 * count + 1) >> 1).to_bytes(count, "little")
+
+
+def put(path, data=b""):
+    with open(path, "wb") as file:
+        file.write(data)
+
+
 class OnAVolume(unittest.TestCase):
     def setUp(self):
         folder = tempfile.TemporaryDirectory()
@@ -48,10 +60,13 @@ class OnAVolume(unittest.TestCase):
         self.image = os.path.join(folder.name, "disk.img")
         used.make(self.image, 64)
 
-    def mounted(self):
-        volume = used.mounted(self.image)
+    def mounted(self, **how):
+        volume = used.mounted(self.image, **how)
         self.addCleanup(volume.close)
         return volume
+
+    def names(self, volume, path="/"):
+        return [entry.name for entry in volume.readdir(path)]
 
 
 class Calls(OnAVolume):
@@ -135,7 +150,7 @@ class Calls(OnAVolume):
         with self.assertRaises(pansuyog.NameTooLong):
             volume.mkdir("/" + "n" * 60)
         volume.close()
-        used.make(self.image, 64, format=2)
+        used.make(self.image, 64, format=2, force=True)
         volume = self.mounted()
         self.assertEqual(volume.version(), 2)
         volume.write_file("/" + "n" * 123, b"one")
@@ -181,7 +196,7 @@ class Files(OnAVolume):
     def test_a_whole_file_goes_in_and_out(self):
         volume = self.mounted()
         for size in (0, 1, 65_535, 65_536, 65_537, 200_000):
-            data = random.Random(size).randbytes(size)
+            data = random_bytes(size, size)
             volume.write_file("/f", data)
             self.assertEqual(volume.read("/f"), data)
         self.assertEqual([entry.name for entry in volume.readdir("/")], [b"f"])
@@ -205,6 +220,29 @@ class Files(OnAVolume):
         self.assertEqual(volume.read("/log"), b"onetwo")
         self.assertRaises(pansuyog.Inval, volume.append, "/log", bytes(65_537))
 
+    def test_what_is_no_record_makes_no_file(self):
+        volume = self.mounted()
+        with self.assertRaisesRegex(pansuyog.Inval, "^append /log: a record has at most 65536 bytes, and this one 65537$"):
+            volume.append("/log", bytes(65_537))
+        for call in (volume.append, volume.write_file):
+            with self.assertRaisesRegex(TypeError, "^data has to be bytes, and this is str$"):
+                call("/log", "text")
+            self.assertRaises(TypeError, call, "/log", 5)
+        self.assertEqual(self.names(volume), [])
+        self.assertEqual(volume.append("/log", bytes(65_536)), 0)
+        self.assertRaises(TypeError, volume.pwrite, volume.open("/log"), 0, "text")
+        for data in (bytearray(b"ab"), memoryview(b"axbx")[::2]):
+            volume.write_file("/f", data)
+            self.assertEqual(volume.read("/f"), b"ab")
+
+    def test_nothing_unfinished_is_left_of_a_file(self):
+        volume = self.mounted()
+        volume.write_file("/f", b"kept")
+        for error in (KeyboardInterrupt, OSError, pansuyog.NoSpace):
+            with mock.patch.object(volume, "rename", side_effect=error):
+                self.assertRaises(error, volume.write_file, "/f", b"new")
+            self.assertEqual((self.names(volume), volume.read("/f")), ([b"f"], b"kept"))
+
     def test_a_tree_is_walked_from_above(self):
         volume = self.mounted()
         for path in ("/a", "/a/b", "/c"):
@@ -221,14 +259,142 @@ class Files(OnAVolume):
             for number in range(40):
                 inner = os.path.join(folder, f"d {number % 3}")
                 os.makedirs(inner, exist_ok=True)
-                with open(os.path.join(inner, f"fä{number}"), "wb") as file:
-                    file.write(random.Random(number).randbytes(97 * number))
+                put(os.path.join(inner, f"fä{number}"), random_bytes(97 * number, number))
             volume = self.mounted()
             told = (40, 97 * 40 * 39 // 2)
-            self.assertEqual(volume.write_tree(folder), told)
+            self.assertEqual(volume.write_tree(folder), (*told, []))
             volume.kill()
             self.assertEqual(self.mounted().export(out), told)
             self.assertEqual(subprocess.run(["diff", "-r", "--no-dereference", folder, out]).returncode, 0)
+
+    def test_what_no_volume_has_is_left_out(self):
+        with tempfile.TemporaryDirectory() as folder, contextlib.closing(socket.socket(socket.AF_UNIX)) as listening:
+            os.mkdir(f"{folder}/d")
+            put(f"{folder}/d/f", b"one")
+            os.mkfifo(f"{folder}/d/fifo")
+            listening.bind(f"{folder}/socket")
+            volume, wanted = self.mounted(), [f"{folder}/d/fifo", f"{folder}/socket"]
+            with self.assertWarns(pansuyog.Omitted) as caught:
+                self.assertEqual(volume.write_tree(folder), pansuyog.Written(1, 3, wanted))
+            texts = [str(it.message) for it in caught.warnings]
+            self.assertEqual(texts, [f"{it}: it is neither a file, a folder nor a link, so it is left out" for it in wanted])
+            self.assertEqual(list(volume.walk()), [(b"/", [b"d"], []), (b"/d", [], [b"f"])])
+
+    def refused_tree(self, volume, path, told, into="/", **how):
+        """Puts a folder with a file, and behind it in the order of names one that is refused. Then nothing is put."""
+        with tempfile.TemporaryDirectory() as folder:
+            put(f"{folder}/0")
+            os.makedirs(os.path.dirname(f"{folder}/{path}"), exist_ok=True)
+            if "text" in how:
+                os.symlink(how["text"], f"{folder}/{path}")
+            else:
+                put(f"{folder}/{path}")
+            before = list(volume.walk())
+            with self.assertRaises((pansuyog.NameTooLong, pansuyog.Inval, pansuyog.Exist)) as caught:
+                volume.write_tree(folder, into)
+            self.assertIn(told, str(caught.exception))
+            self.assertEqual(list(volume.walk()), before)
+
+    def taken_tree(self, volume, path, into="/"):
+        with tempfile.TemporaryDirectory() as folder:
+            os.makedirs(os.path.dirname(f"{folder}/{path}"), exist_ok=True)
+            put(f"{folder}/{path}", b"put")
+            self.assertEqual(volume.write_tree(folder, into), (1, 3, []))
+            self.assertEqual(volume.read(f"{into}/{path}".replace("//", "/")), b"put")
+
+    def test_names_that_are_too_long_are_told_before_anything_is_put(self):
+        short, long = "n" * 59, "n" * 123
+        volume = self.mounted()
+        volume.mkdir("/old")
+        self.refused_tree(volume, f"new/{short}x", f"/new/{short}x: a name has at most 59 bytes here, and this one 60")
+        self.refused_tree(volume, f"old/{short}x", "59 bytes")
+        self.refused_tree(volume, f"{short}x/f", "59 bytes")
+        self.taken_tree(volume, f"new/{short}")
+        volume.upgrade()
+        # These two directories have form 0, also the one without entries.
+        self.refused_tree(volume, f"new/{short}x", "59 bytes")
+        self.refused_tree(volume, f"old/{short}x", "59 bytes")
+        self.refused_tree(volume, f"{short}x", "59 bytes", into="/old")
+        self.refused_tree(volume, f"newer/{long}x", "a name has at most 123 bytes here, and this one 124")
+        self.taken_tree(volume, f"newer/{long}")
+        volume.widen("/old")
+        self.taken_tree(volume, f"old/{long}")
+        self.refused_tree(volume, f"old/{long}x", "123 bytes")
+
+    def test_what_no_call_takes_is_told_before_anything_is_put(self):
+        volume = self.mounted()
+        volume.mkdir("/d")
+        volume.write_file("/f", b"a file")
+        volume.symlink("d", "/l")
+        self.refused_tree(volume, "link", "the text of a link has at most 1023 bytes, and this one 1024", text="t" * 1_024)
+        self.refused_tree(volume, "x/.lfs-put", "nothing is put under this name")
+        self.refused_tree(volume, "f/inner", "mkdir /f: this is there already")
+        self.refused_tree(volume, "l/inner", "mkdir /l: this is there already")
+        self.assertRaises(pansuyog.NoEntry, volume.write_tree, HERE, "/not there")
+        self.assertRaises(pansuyog.NotDir, volume.write_tree, HERE, "/f")
+        self.taken_tree(volume, "into", into="/l")
+
+    def test_paths_that_are_too_long_are_told_before_anything_is_put(self):
+        volume = self.mounted()
+        folder = "/".join(["n" * 59] * 16) + "/" + "n" * 51
+        self.assertEqual(len(f"/{folder}/"), 1_013)
+        self.taken_tree(volume, f"{folder}/{'n' * 10}")
+        self.refused_tree(volume, f"{folder}/{'n' * 11}", "a path has at most 1023 bytes, and this one needs 1024")
+        # A file of a short name first has one of eight bytes.
+        volume.rename("/" + folder, "/" + folder + "nn")
+        self.taken_tree(volume, f"{folder}nn/s")
+        self.refused_tree(volume, f"{folder}nnn/s", "this one needs 1024")
+
+    def test_a_tree_is_synced_at_its_end(self):
+        with tempfile.TemporaryDirectory() as folder:
+            for number in range(30):
+                put(f"{folder}/{number:02}", b"x" * 1_000)
+            for each, syncs in ((64 << 20, 1), (10_000, 4), (1, 31)):
+                volume = self.mounted()
+                with mock.patch.object(volume, "sync", wraps=volume.sync) as sync:
+                    self.assertEqual(volume.write_tree(folder, sync_each=each), (30, 30_000, []))
+                self.assertEqual(sync.call_count, syncs)
+                volume.kill()
+                volume = self.mounted()
+                self.assertEqual([volume.read(path) for path in self.names(volume)], [b"x" * 1_000] * 30)
+                volume.close()
+
+    def test_a_tree_that_does_not_fit_keeps_what_was_put(self):
+        with tempfile.TemporaryDirectory() as folder:
+            put(f"{folder}/1", b"one")
+            os.symlink("1", f"{folder}/2")
+            put(f"{folder}/3", b"x" * 1_200_000)
+            volume = self.mounted()
+            volume.write_file("/2", b"a file")
+            self.assertRaises(pansuyog.NoSpace, volume.write_tree, folder)
+            volume.kill()
+            volume = self.mounted()
+            self.assertEqual(self.names(volume), [b"1", b"2"])
+            self.assertEqual((volume.read("/1"), volume.readlink("/2")), (b"one", b"1"))
+
+    def deep(self, volume):
+        """Renames a directory to where a path to what is below it has more than 1,023 bytes."""
+        upper, lower = ("/".join([""] + [letter * 59] * 9) for letter in "ab")
+        for chain in (upper, lower):
+            for end in range(60, len(chain) + 1, 60):
+                volume.mkdir(chain[:end])
+            volume.write_file(f"{chain}/f", b"deep")
+        volume.write_file("/z", b"last")
+        volume.rename("/" + "b" * 59, f"{upper}/" + "b" * 59)
+        return upper.encode(), f"{upper}{lower}".encode()
+
+    def test_a_path_that_no_call_takes_is_left_out(self):
+        volume = self.mounted()
+        upper, whole = self.deep(volume)
+        # The seventeenth directory has a path of 1,020 bytes, and the next one 1,080.
+        with self.assertWarnsRegex(pansuyog.Omitted, f"^{whole[:1_080].decode()}: a path has at most 1023 bytes, and this one 1080, so it is left out$"):
+            walked = list(volume.walk())
+        self.assertEqual(len(walked), 18)
+        self.assertEqual(walked[-1], (whole[:1_020], [b"b" * 59], []))
+        self.assertEqual(walked[9], (upper, [b"b" * 59], [b"f"]))
+        with tempfile.TemporaryDirectory() as room, self.assertWarns(pansuyog.Omitted) as caught:
+            self.assertEqual(volume.export(f"{room}/out"), (2, 8))
+        self.assertEqual(len(caught.warnings), 1)
 
     def test_nothing_is_written_over(self):
         with tempfile.TemporaryDirectory() as room:
@@ -243,17 +409,16 @@ class BesideTheProgram(OnAVolume):
 
     def test_the_program_exports_what_the_client_put(self):
         with tempfile.TemporaryDirectory() as folder:
-            put, out = f"{folder}/put", f"{folder}/out"
-            os.makedirs(f"{put}/d/e")
+            out = f"{folder}/out"
+            os.makedirs(f"{folder}/put/d/e")
             for number, size in enumerate((0, 1, 511, 512, 65_536, 65_537, 131_072)):
-                with open(f"{put}/d/f {number}", "wb") as file:
-                    file.write(random.randbytes(size))
-            os.symlink("d/e", f"{put}/l")
+                put(f"{folder}/put/d/f {number}", random_bytes(size))
+            os.symlink("d/e", f"{folder}/put/l")
             with self.mounted() as volume:
-                files, size = volume.write_tree(put)
+                files, size, _ = volume.write_tree(f"{folder}/put")
             ran = subprocess.run([program, "export", self.image, out], capture_output=True, text=True, check=False)
             self.assertEqual((ran.returncode, ran.stdout), (0, f"ok {files} files {size} bytes\n"))
-            ran = subprocess.run(["diff", "-r", "--no-dereference", put, out], capture_output=True, text=True, check=False)
+            ran = subprocess.run(["diff", "-r", "--no-dereference", f"{folder}/put", out], capture_output=True, text=True, check=False)
             self.assertEqual((ran.returncode, ran.stdout), (0, ""))
 
     def test_the_largest_new_file_fits_and_no_larger(self):
@@ -267,7 +432,7 @@ class BesideTheProgram(OnAVolume):
             subprocess.run([program, "rm", self.image, "/new"], check=True, capture_output=True)
 
     def put(self, path, size, reply):
-        data = random.randbytes(size).replace(b"\0", b"\1")
+        data = random_bytes(size).replace(b"\0", b"\1")
         ran = subprocess.run([program, "put", self.image, path], input=data, capture_output=True, check=False)
         self.assertEqual(ran.stdout, reply.encode())
 
@@ -298,8 +463,34 @@ class Refusals(OnAVolume):
         self.assertEqual(self.refused(pansuyog.Busy, volume.rename, "/", "/a b"), "rename / /a\\20b: the root can't be removed or renamed")
 
     def test_a_volume_that_is_not_made_tells_the_cause(self):
-        text = self.refused(pansuyog.Inval, used.make, self.image, 65)
-        self.assertEqual(text, f"{self.image}: a volume has 64 to 1024 segments, a multiple of 8")
+        image = f"{self.image}.2"
+        text = self.refused(pansuyog.Inval, used.make, image, 65)
+        self.assertEqual(text, f"{image}: a volume has 64 to 1024 segments, a multiple of 8")
+        self.assertFalse(os.path.exists(image))
+
+    def test_a_name_that_is_taken_is_refused(self):
+        for data in (b"", b"a letter", bytes(3_000_000)):
+            put(self.image, data)
+            text = self.refused(pansuyog.Image, used.make, self.image, 64)
+            self.assertEqual(text, f"{self.image}: it is there already; make(.., force=True) makes a volume in its place")
+            with open(self.image, "rb") as file:
+                self.assertEqual(file.read(), data)
+        used.make(self.image, 64, force=True)
+        self.assertEqual(self.names(self.mounted()), [])
+        self.assertIn("it is in use", self.refused(pansuyog.Image, lambda: used.make(self.image, 64, force=True)))
+        self.assertEqual(os.listdir(os.path.dirname(self.image)), ["disk.img"])
+
+    def test_an_image_may_have_its_room_from_the_beginning(self):
+        image = f"{self.image}.2"
+        used.make(image, 64)
+        self.assertLess(512 * os.stat(image).st_blocks, 1_000_000)
+        for force in (False, True):
+            used.make(f"{image}.{force}", 64, reserve=True)
+            used.make(image, 64, reserve=True, force=True)
+            for path in (f"{image}.{force}", image):
+                self.assertGreaterEqual(512 * os.stat(path).st_blocks, 2_098_176)
+                self.assertEqual(os.path.getsize(path), 2_098_176)
+                used.mounted(path).close()
 
     def test_a_volume_that_is_not_mounted_tells_the_cause(self):
         missing = f"{self.image}.none"
@@ -314,7 +505,8 @@ class Refusals(OnAVolume):
     def test_a_program_that_is_not_there_is_told(self):
         text = self.refused(FileNotFoundError, pansuyog.ProcessVolume, self.image, "no-such-lfs")
         self.assertEqual(text, 'the program no-such-lfs isn\'t in PATH; pass ProcessVolume(image, lfs="../lfs")')
-        self.assertIn("isn't there", self.refused(FileNotFoundError, pansuyog.make, self.image, 64, f"{HERE}/no-such-lfs"))
+        self.assertIn("isn't there", self.refused(FileNotFoundError, pansuyog.make, f"{self.image}.2", 64, f"{HERE}/no-such-lfs"))
+        self.assertFalse(os.path.exists(f"{self.image}.2"))
 
     def test_a_library_that_is_not_there_is_told(self):
         text = self.refused(FileNotFoundError, lambda: pansuyog.Volume(self.image, library="/no/such.so"))
@@ -340,6 +532,88 @@ class Refusals(OnAVolume):
         self.assertLessEqual(set(pansuyog._IMAGE_TEXTS.values()), set(texts_of("ImageFault").values()))
 
 
+def changes_of(volume):
+    """Each call that changes a volume with a directory, a file and a link."""
+    handle = volume.open("/d/f")
+    return [
+        lambda: volume.create("/g"),
+        lambda: volume.pwrite(handle, 0, b"x"),
+        lambda: volume.fill(handle, 0, 1, 1),
+        lambda: volume.truncate(handle, 0),
+        lambda: volume.mkdir("/e"),
+        lambda: volume.symlink("d", "/e"),
+        lambda: volume.link("/d/f", "/e"),
+        lambda: volume.unlink("/d/f"),
+        lambda: volume.rmdir("/d"),
+        lambda: volume.rename("/d", "/e"),
+        volume.clean,
+        volume.upgrade,
+        lambda: volume.widen("/d"),
+        lambda: volume.append("/d/f", b"x"),
+        lambda: volume.append("/g", b"x"),
+        lambda: volume.write_file("/d/f", b"x"),
+        lambda: volume.write_tree(HERE),
+    ]
+
+
+class OnlyRead(OnAVolume):
+    def setUp(self):
+        super().setUp()
+        with self.mounted() as volume:
+            volume.mkdir("/d")
+            volume.symlink("d/f", "/l")
+            volume.write_file("/d/f", b"kept")
+        os.chmod(self.image, 0o444)
+        self.before = self.content()
+
+    def content(self):
+        with open(self.image, "rb") as file:
+            return file.read()
+
+    def test_all_is_read_and_nothing_changes(self):
+        volume = self.mounted(read_only=True)
+        self.assertEqual(volume.read("/l"), b"kept")
+        self.assertEqual([path for path, _, _ in volume.walk()], [b"/", b"/d"])
+        self.assertEqual([row.name for row in volume.tree()], [b"d", b"l", b"f"])
+        for change in changes_of(volume):
+            with self.assertRaisesRegex(pansuyog.ReadOnly, ": the volume was opened to be read alone$"):
+                change()
+        volume.sync()
+        volume.fsync(0)
+        self.assertRaises(pansuyog.BadHandle, volume.fsync, 63)
+        self.assertEqual(volume.read("/d/f"), b"kept")
+        volume.close()
+        self.assertEqual(self.content(), self.before)
+
+    def test_those_that_look_keep_a_writer_out_and_not_one_another(self):
+        first, second = self.mounted(read_only=True), self.mounted(read_only=True)
+        self.assertRaisesRegex(pansuyog.Image, "it is in use", used.mounted, self.image)
+        first.close()
+        self.assertRaisesRegex(pansuyog.Image, "it is in use", used.mounted, self.image)
+        second.close()
+        with self.mounted():
+            self.assertRaisesRegex(pansuyog.Image, "it is in use", self.mounted, read_only=True)
+
+    def test_a_file_system_may_have_nothing_to_sync(self):
+        with mock.patch("os.fsync", side_effect=OSError(22, "Invalid argument")):
+            self.assertEqual(self.mounted(read_only=True).read("/l"), b"kept")
+        with mock.patch("os.fsync", side_effect=OSError(5, "Input/output error")):
+            with self.assertRaisesRegex(pansuyog.Device, f"^{self.image}: a sync of it failed: Input/output error$"):
+                self.mounted(read_only=True)
+
+    def test_what_is_no_volume_is_refused(self):
+        self.assertRaisesRegex(pansuyog.Image, "no such file", used.mounted, f"{self.image}.none", read_only=True)
+        os.chmod(self.image, 0o644)
+        put(self.image, bytes(3_000_000))
+        with self.assertRaisesRegex(pansuyog.NoCheckpoint, f"^{self.image}: "):
+            self.mounted(read_only=True)
+        os.truncate(self.image, 512)
+        with self.assertRaisesRegex(pansuyog.TooSmall, f"^{self.image}: "):
+            self.mounted(read_only=True)
+        # Nobody holds the lock any more.
+        used.make(self.image, 64, force=True)
+
+
 class Child(OnAVolume):
     def test_a_child_that_dies_is_told(self):
         volume = self.mounted()
@@ -347,9 +621,82 @@ class Child(OnAVolume):
         with self.assertRaisesRegex(pansuyog.ChildDied, "^sync: lfs run ended with status -9"):
             volume.sync()
 
+    def scripted(self, text):
+        """A volume over another program, a script."""
+        path = f"{self.image}.lfs"
+        put(path, f"#!/bin/sh\n{text}".encode())
+        os.chmod(path, 0o755)
+        volume = pansuyog.ProcessVolume(self.image, path)
+        self.addCleanup(volume.close)
+        return volume
+
+    def test_a_halted_volume_tells_what_the_program_says(self):
+        halted = "while read word rest; do case $word in space) echo ok 0 1 727 3008;; *) echo err Halted;; esac; done\n"
+        volume = self.scripted(halted + f"echo 'lfs: a write of {self.image} failed: No space left on device' >&2")
+        for call, line in ((volume.sync, "sync"), (volume.clean, "clean"), (lambda: volume.create("/f"), "create /f")):
+            with self.assertRaises(pansuyog.Halted) as caught:
+                call()
+            self.assertEqual(str(caught.exception), f"{line}: it can't be written: a write of {self.image} failed: No space left on device")
+            self.assertTrue(caught.exception.needs_restart)
+        volume = self.scripted(halted)
+        self.assertRaisesRegex(pansuyog.Halted, "^sync: it can't be written: a write or a sync of it failed$", volume.sync)
+
+    def test_a_call_that_is_interrupted_ends_the_child(self):
+        volume = self.mounted()
+        volume.write_file("/f", b"kept")
+        with mock.patch.object(volume, "_row", side_effect=KeyboardInterrupt):
+            self.assertRaises(KeyboardInterrupt, volume.write_file, "/f", b"new")
+        self.assertIsNotNone(volume._child.returncode)
+        self.assertRaises(ValueError, volume.stat, "/f")
+        self.assertEqual(self.mounted().read("/f"), b"kept")
+
+    def test_a_copy_to_read_has_no_name(self):
+        with tempfile.TemporaryDirectory() as folder, mock.patch("tempfile.tempdir", folder):
+            volume = self.mounted(read_only=True)
+            self.assertEqual(os.listdir(folder), [])
+            self.assertEqual(volume.readdir("/"), [])
+            volume.close()
+            os.truncate(self.image, 512)
+            self.assertRaises(pansuyog.TooSmall, self.mounted, read_only=True)
+            self.assertEqual(os.listdir(folder), [])
+
+    def test_an_image_that_cannot_be_copied_is_told(self):
+        with mock.patch("os.pread", side_effect=OSError(5, "Input/output error")):
+            with self.assertRaisesRegex(pansuyog.Device, f"^{self.image}: a read of it failed: Input/output error$"):
+                self.mounted(read_only=True)
+        with mock.patch("os.pwrite", side_effect=OSError(28, "No space left on device")):
+            with self.assertRaisesRegex(OSError, f"a copy of {self.image} can't be written: No space left on device"):
+                self.mounted(read_only=True)
+        self.mounted().close()
+
     def test_a_line_that_the_program_does_not_know_is_told(self):
         with self.assertRaisesRegex(pansuyog.BadLine, "^frob: line 2: no command has the word 'frob'"):
             self.mounted()._call("frob")
+
+
+# Runs the tests of both files over the program, but for the recorder's, as where Python has no ctypes.
+BARE = """
+import sys, unittest
+sys.modules["ctypes"] = None
+import test_pansuyog, test_library
+test_pansuyog.program = sys.argv.pop(1)
+test_pansuyog.used = test_pansuyog.Program(test_pansuyog.program)
+load = unittest.defaultTestLoader
+suite = unittest.TestSuite([load.loadTestsFromModule(test_library), load.loadTestsFromTestCase(test_pansuyog.Child)])
+sys.exit(not unittest.TextTestRunner(sys.stderr).run(suite).wasSuccessful())
+"""
+
+
+class WithoutCtypes(unittest.TestCase):
+    def test_the_program_needs_none(self):
+        ran = subprocess.run([sys.executable, "-W", "error::ResourceWarning", "-c", BARE, program], cwd=HERE, stderr=subprocess.PIPE, text=True, check=False)
+        self.assertEqual(ran.returncode, 0, ran.stderr)
+        self.assertGreater(int(re.search(r"Ran (\d+) tests", ran.stderr).group(1)), 50)
+
+    def test_the_library_does(self):
+        code = "import sys; sys.modules['ctypes'] = None; import pansuyog; pansuyog.Volume('disk.img', library='/dev/null')"
+        ran = subprocess.run([sys.executable, "-c", code], cwd=HERE, stderr=subprocess.PIPE, text=True, check=False)
+        self.assertRegex(ran.stderr, "ModuleNotFoundError: .*ctypes")
 
 
 class Recorder(unittest.TestCase):

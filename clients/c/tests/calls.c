@@ -56,17 +56,19 @@ static void beginning(pansuyog *v) {
 
 /* An empty volume is made and mounted. */
 static void making(pansuyog *v, int fd) {
-    check(pansuyog_mount_fd(v, fd, ROOM) == PANSUYOG_NO_CHECKPOINT);
-    check(pansuyog_format_fd(v, fd, 0, 1, ROOM) == PANSUYOG_INVAL && pansuyog_format_fd(v, fd, 65, 1, ROOM) == PANSUYOG_INVAL);
-    check(pansuyog_format_fd(v, fd, 1032, 1, ROOM) == PANSUYOG_INVAL && pansuyog_format_fd(v, fd, UINT32_MAX, 1, ROOM) == PANSUYOG_INVAL);
-    check(pansuyog_format_fd(v, fd, 128, 0, ROOM) == PANSUYOG_INVAL && pansuyog_format_fd(v, fd, 128, 3, ROOM) == PANSUYOG_INVAL);
-    check(pansuyog_format_fd(v, fd, 136, 1, ROOM) == PANSUYOG_TOO_SMALL);
-    check(pansuyog_format_fd(v, fd, 128, 1, ROOM) == 0 && pansuyog_carried(v) == pansuyog_told(v) && pansuyog_told(v) > 0);
+    check(pansuyog_mount_fd(v, fd, ROOM, NULL) == PANSUYOG_NO_CHECKPOINT);
+    check(pansuyog_format_fd(v, fd, 0, 1, ROOM, NULL) == PANSUYOG_INVAL && pansuyog_format_fd(v, fd, 65, 1, ROOM, NULL) == PANSUYOG_INVAL);
+    check(pansuyog_format_fd(v, fd, 1032, 1, ROOM, NULL) == PANSUYOG_INVAL);
+    check(pansuyog_format_fd(v, fd, UINT32_MAX, 1, ROOM, NULL) == PANSUYOG_INVAL);
+    check(pansuyog_format_fd(v, fd, 128, 0, ROOM, NULL) == PANSUYOG_INVAL);
+    check(pansuyog_format_fd(v, fd, 128, 3, ROOM, NULL) == PANSUYOG_INVAL);
+    check(pansuyog_format_fd(v, fd, 136, 1, ROOM, NULL) == PANSUYOG_TOO_SMALL);
+    check(pansuyog_format_fd(v, fd, 128, 1, ROOM, NULL) == 0 && pansuyog_carried(v) == pansuyog_told(v) && pansuyog_told(v) > 0);
     unmounted(v);
     uint64_t before = pansuyog_told(v);
     check(pansuyog_mount(v, ROOM) == 0 && pansuyog_carried(v) == before && pansuyog_told(v) >= before);
     check(pansuyog_mount(v, ROOM) == PANSUYOG_ALREADY_MOUNTED && pansuyog_format(v, 128, 1, ROOM) == PANSUYOG_ALREADY_MOUNTED);
-    check(pansuyog_carry(v, fd) == 0 && pansuyog_carried(v) == pansuyog_told(v));
+    check(pansuyog_carry(v, fd, NULL) == 0 && pansuyog_carried(v) == pansuyog_told(v));
 }
 
 static void files(pansuyog *v) {
@@ -183,11 +185,12 @@ static void orders(pansuyog *v, int fd) {
     }
     check(pansuyog_order(v, told - 1, &sector, bytes, SECTOR) == 0);
     runs(v, first, told);
-    check(pansuyog_new(&other) == 0 && pansuyog_mount_fd(&other, fd, ROOM) == 0 && pansuyog_open(&other, PATH("/a")) == PANSUYOG_NO_ENTRY);
+    check(pansuyog_new(&other) == 0 && pansuyog_mount_fd(&other, fd, ROOM, NULL) == 0);
+    check(pansuyog_open(&other, PATH("/a")) == PANSUYOG_NO_ENTRY);
     pansuyog_free(other);
-    check(pansuyog_carry(v, fd) == 0 && pansuyog_carried(v) == told && pansuyog_told(v) == told);
+    check(pansuyog_carry(v, fd, NULL) == 0 && pansuyog_carried(v) == told && pansuyog_told(v) == told);
     check(pansuyog_order(v, first, &sector, bytes, SECTOR) == PANSUYOG_NO_ORDER);
-    check(pansuyog_new(&other) == 0 && pansuyog_mount_fd(&other, fd, ROOM) == 0 && pansuyog_open(&other, PATH("/a")) == 0);
+    check(pansuyog_new(&other) == 0 && pansuyog_mount_fd(&other, fd, ROOM, NULL) == 0 && pansuyog_open(&other, PATH("/a")) == 0);
     check(pansuyog_pread(&other, 0, 0, bytes, SECTOR) == 12);
     pansuyog_free(other);
 }
@@ -203,7 +206,7 @@ static void cleaning(pansuyog *v, int fd) {
     memset(last, 1, sizeof last);
     check(file >= 0 && pansuyog_is_cleaning_due(v) == 0);
     for (uint64_t at = 0; at < BLOCKS * SECTOR; at += sizeof part) check(pansuyog_pwrite(v, (uint32_t)file, at, part, sizeof part) == sizeof part);
-    check(pansuyog_save_fd(v, fd) == 0);
+    check(pansuyog_save_fd(v, fd, NULL) == 0);
     uint64_t told = pansuyog_told(v);
     check(pansuyog_is_cleaning_due(v) == 0 && pansuyog_clean_once(v) == 0 && pansuyog_told(v) == told);
     for (; pansuyog_is_cleaning_due(v) == 0; writes++) {
@@ -211,12 +214,12 @@ static void cleaning(pansuyog *v, int fd) {
         last[block] = (unsigned char)(1 + writes % 255);
         memset(part, last[block], SECTOR);
         check(writes < 10000 && pansuyog_pwrite(v, (uint32_t)file, (uint64_t)block * SECTOR, part, SECTOR) == SECTOR);
-        check(pansuyog_save_fd(v, fd) == 0);
+        check(pansuyog_save_fd(v, fd, NULL) == 0);
     }
     for (; pansuyog_is_cleaning_due(v) == 1; passes++) {
         told = pansuyog_told(v);
         check(passes < MOST_PASSES && pansuyog_clean_once(v) == 0);
-        check(pansuyog_told(v) > told && pansuyog_told(v) - told <= MOST_ORDERS && pansuyog_carry(v, fd) == 0);
+        check(pansuyog_told(v) > told && pansuyog_told(v) - told <= MOST_ORDERS && pansuyog_carry(v, fd, NULL) == 0);
     }
     check(passes > 0 && pansuyog_is_cleaning_due(v) == 0);
     for (uint64_t block = 0; block < BLOCKS; block++) {
@@ -225,13 +228,55 @@ static void cleaning(pansuyog *v, int fd) {
     }
 }
 
+/* Whether a call was refused so by the system. */
+static int is_refused(int32_t code, const pansuyog_failed_t *failed, enum pansuyog_failed_call call, int error) {
+    return code == PANSUYOG_DEVICE && failed->call == call && failed->error == error;
+}
+
+/* Images are made, opened and locked. */
+static void images(pansuyog *v, const char *image) {
+    static char long_name[5000], made[4096];
+    pansuyog_failed_t failed;
+    memset(long_name, 'a', sizeof long_name - 1);
+    snprintf(made, sizeof made, "%s.other", image);
+    check(is_refused(pansuyog_make(long_name, 64, 2, &failed), &failed, PANSUYOG_AT_OPEN, ENAMETOOLONG));
+    check(is_refused(pansuyog_open_fd(made, LOCK_SH, &failed), &failed, PANSUYOG_AT_OPEN, ENOENT));
+    check(is_refused(pansuyog_open_fd(".", LOCK_SH, &failed), &failed, PANSUYOG_AT_OPEN, EISDIR));
+    check(is_refused(pansuyog_open_fd("/dev/null", LOCK_EX, &failed), &failed, PANSUYOG_AT_OPEN, ENOTBLK));
+    check(pansuyog_make(made, 0, 2, NULL) == PANSUYOG_INVAL && pansuyog_make(made, 65, 2, NULL) == PANSUYOG_INVAL);
+    check(pansuyog_make(made, 56, 2, NULL) == PANSUYOG_INVAL && pansuyog_make(made, 1032, 2, NULL) == PANSUYOG_INVAL);
+    check(pansuyog_make(made, 64, 0, NULL) == PANSUYOG_INVAL && pansuyog_make(made, 64, 3, NULL) == PANSUYOG_INVAL);
+    check(pansuyog_make(image, 64, 2, &failed) == PANSUYOG_EXIST && failed.call == PANSUYOG_NO_CALL);
+    check(pansuyog_make(made, 64, 1, &failed) == 0 && failed.call == PANSUYOG_NO_CALL && access(made, F_OK) == 0);
+    int fd = pansuyog_open_fd(made, LOCK_SH, NULL), other = pansuyog_open_fd(made, LOCK_SH, NULL);
+    check(fd > 2 && other > 2 && is_refused(pansuyog_lock_fd(fd, LOCK_EX, &failed), &failed, PANSUYOG_AT_LOCK, EWOULDBLOCK));
+    check(close(other) == 0 && pansuyog_lock_fd(fd, LOCK_EX, &failed) == 0 && failed.call == PANSUYOG_NO_CALL);
+    check(is_refused(pansuyog_open_fd(made, LOCK_SH, &failed), &failed, PANSUYOG_AT_LOCK, EWOULDBLOCK));
+    check(pansuyog_mount_fd(v, fd, ROOM, NULL) == 0 && pansuyog_version(v) == 1);
+    pansuyog_abandon(v);
+    check(close(fd) == 0 && unlink(made) == 0);
+}
+
+/* Each code says something of its own. */
+static void texts(void) {
+    const char *unknown = pansuyog_text(-50);
+    int known = 0;
+    for (int32_t code = PANSUYOG_NO_ORDER; code <= 0; code++) {
+        const char *text = pansuyog_text(code);
+        if (strcmp(text, unknown) == 0) continue;
+        known++;
+        for (int32_t other = code + 1; other <= 0; other++) check(strcmp(text, pansuyog_text(other)) != 0);
+    }
+    check(known == 28 && strcmp(pansuyog_text(-101), unknown) != 0 && strcmp(pansuyog_text(-101), pansuyog_text(-115)) == 0);
+}
+
 /* What isn't saved goes with an unmount, and numbers of orders go on. */
 static void unmounting(pansuyog *v, int fd) {
     uint64_t told = pansuyog_told(v);
     check(pansuyog_create(v, PATH("/b")) >= 0 && pansuyog_unmount(v) == 0 && pansuyog_unmount(v) == PANSUYOG_NOT_MOUNTED);
     check(pansuyog_told(v) == told);
     check(pansuyog_mount(v, ROOM) == 0 && pansuyog_open(v, PATH("/b")) == PANSUYOG_NO_ENTRY && pansuyog_told(v) >= told);
-    check(pansuyog_carry(v, fd) == 0);
+    check(pansuyog_carry(v, fd, NULL) == 0);
     check(pansuyog_version(v) == 2);
     pansuyog_abandon(v);
     unmounted(v);
@@ -251,7 +296,9 @@ int main(int argc, char **argv) {
     orders(&volume, fd);
     cleaning(&volume, fd);
     unmounting(&volume, fd);
+    images(&volume, argv[1]);
     pansuyog_free(volume);
+    texts();
     check(pansuyog_damage(-101) == 1 && pansuyog_damage(-115) == 15 && pansuyog_damage(PANSUYOG_NOT_MOUNTED) == 0);
     check(pansuyog_damage(0) == 0);
     puts("each call answers as the header says");

@@ -20,7 +20,7 @@ static void record(int fd, volatile struct told *told) {
     pansuyog volume;
     pansuyog_stat_t stat;
     char bytes[64];
-    check(pansuyog_new(&volume) == 0 && pansuyog_mount_fd(&volume, fd, ROOM) == 0);
+    check(pansuyog_new(&volume) == 0 && pansuyog_mount_fd(&volume, fd, ROOM, NULL) == 0);
     int32_t handle = pansuyog_open(&volume, PATH("/log"));
     if (handle == PANSUYOG_NO_ENTRY) handle = pansuyog_create(&volume, PATH("/log"));
     check(handle >= 0 && pansuyog_stat(&volume, PATH("/log"), &stat) == 0);
@@ -28,7 +28,7 @@ static void record(int fd, volatile struct told *told) {
         record_of(bytes, number);
         if (pansuyog_pwrite(&volume, (uint32_t)handle, (uint64_t)number * 64, bytes, 64) != 64) _exit(0);
         if (number % 10 != 9) continue;
-        if (pansuyog_save_fd(&volume, fd) != 0) _exit(0);
+        if (pansuyog_save_fd(&volume, fd, NULL) != 0) _exit(0);
         told->records = number + 1;
         told->times++;
     }
@@ -39,7 +39,7 @@ static void look(int fd, uint32_t told) {
     pansuyog volume;
     pansuyog_stat_t stat = {0};
     char want[64], bytes[64];
-    check(pansuyog_new(&volume) == 0 && pansuyog_mount_fd(&volume, fd, ROOM) == 0);
+    check(pansuyog_new(&volume) == 0 && pansuyog_mount_fd(&volume, fd, ROOM, NULL) == 0);
     int32_t handle = pansuyog_open(&volume, PATH("/log"));
     check(handle >= 0 || (handle == PANSUYOG_NO_ENTRY && told == 0));
     if (handle >= 0) check(pansuyog_stat(&volume, PATH("/log"), &stat) == 0);
@@ -57,7 +57,7 @@ int main(int argc, char **argv) {
     volatile struct told *told = mmap(NULL, sizeof *told, PROT_READ | PROT_WRITE, MAP_SHARED | MAP_ANONYMOUS, -1, 0);
     pansuyog volume;
     check(fd >= 0 && told != MAP_FAILED && ftruncate(fd, (off_t)SECTOR * SECTORS(128)) == 0);
-    check(pansuyog_new(&volume) == 0 && pansuyog_format_fd(&volume, fd, 128, 2, ROOM) == 0);
+    check(pansuyog_new(&volume) == 0 && pansuyog_format_fd(&volume, fd, 128, 2, ROOM, NULL) == 0);
     pansuyog_free(volume);
     for (int round = 0; round < 20; round++) {
         pid_t child = fork();

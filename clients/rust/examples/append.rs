@@ -1,44 +1,61 @@
-//! Puts a record behind those of /log, in a volume in a file, and shows them all.
+//! Puts a record behind those of /log, in a volume in a file, and shows them all. Where no file is the volume is made.
 //!
 //!     append FILE RECORD
 use pansuyog::{Error, FileDevice, Handle, Version, Volume};
-use std::io::{self, ErrorKind, Write};
-use std::{env, error};
+use std::env;
+use std::io::{self, Write};
+use std::process::ExitCode;
 
 const SEGMENTS: u32 = 64;
 
-/// The volume in a file. Both are made where they aren't there.
+/// Opens and locks a volume that is there, or a new one. Nothing else that is there is changed.
 fn opened(path: &str) -> Result<Volume<FileDevice>, Error> {
-    let device = match FileDevice::create(path, SEGMENTS) {
-        Err(error) if error.kind() == ErrorKind::AlreadyExists => FileDevice::open(path)?,
-        created => created?,
-    };
-    match Volume::mount(device) {
-        Err(Error::NoCheckpoint) => Volume::format(FileDevice::open(path)?, SEGMENTS, Version::Two),
-        mounted => mounted,
+    match pansuyog::make(path, SEGMENTS, Version::Two) {
+        Ok(()) | Err(Error::Exist) => Volume::mount(FileDevice::open(path)?),
+        Err(error) => Err(error),
     }
 }
 
-/// After `Ok` no loss of power takes the record away.
+/// Once it is `Ok` no loss of power takes the record away.
 fn append(volume: &mut Volume<FileDevice>, log: Handle, record: &str) -> Result<(), Error> {
     let end = volume.stat("/log")?.size;
     volume.pwrite(log, end, format!("{record}\n").as_bytes())?;
     volume.sync()
 }
 
-fn main() -> Result<(), Box<dyn error::Error>> {
-    let words: Vec<String> = env::args().collect();
-    let [_, path, record] = &words[..] else {
-        return Err("usage: append FILE RECORD".into());
-    };
+fn show(volume: &mut Volume<FileDevice>, log: Handle) -> Result<(), Error> {
+    let (mut bytes, mut at) = (vec![0; 65_536], 0);
+    loop {
+        let count = volume.pread(log, at, &mut bytes)?;
+        if count == 0 {
+            return Ok(());
+        }
+        io::stdout().write_all(&bytes[..count])?;
+        at += count as u64;
+    }
+}
+
+fn run(path: &str, record: &str) -> Result<(), Error> {
     let mut volume = opened(path)?;
     let log = match volume.open("/log") {
         Err(Error::NoEntry) => volume.create("/log")?,
         opened => opened?,
     };
     append(&mut volume, log, record)?;
-    let mut records = [0; 65_536];
-    let count = volume.pread(log, 0, &mut records)?;
-    io::stdout().write_all(&records[..count])?;
-    Ok(())
+    show(&mut volume, log)
+}
+
+fn main() -> ExitCode {
+    let words: Vec<String> = env::args().collect();
+    let [_, path, record] = &words[..] else {
+        eprintln!("usage: append FILE RECORD");
+        return ExitCode::from(2);
+    };
+    match run(path, record) {
+        Ok(()) => ExitCode::SUCCESS,
+        Err(error) => {
+            eprintln!("{path}: {error}");
+            ExitCode::FAILURE
+        }
+    }
 }

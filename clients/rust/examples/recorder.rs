@@ -1,14 +1,17 @@
 //! A recorder: appends records to a file of a volume and saves each, until it is killed; then says which records are there.
 //!
-//!     recorder IMAGE append     appends for ever; prints the number of each record once no loss of power takes it away
+//!     recorder IMAGE append     appends for ever; prints the number of each record once no loss of power takes it away; where no file is
+//!                               the volume is made
 //!     recorder IMAGE count      prints how many records stand in the file, each whole and in order
-use pansuyog::{Error, FileDevice, Handle, Volume};
+use pansuyog::{Error, FileDevice, Handle, Version, Volume};
 use std::env;
 use std::error;
 use std::io::{self, Write};
+use std::process::ExitCode;
 
 type Result<T> = std::result::Result<T, Box<dyn error::Error>>;
 
+const SEGMENTS: u32 = 64;
 const PATH: &str = "/records";
 const RECORD: usize = 64;
 
@@ -27,8 +30,13 @@ fn opened(volume: &mut Volume<FileDevice>) -> Result<(Handle, u64)> {
     }
 }
 
-fn append(volume: &mut Volume<FileDevice>) -> Result<()> {
-    let (handle, first) = opened(volume)?;
+fn append(image: &str) -> Result<()> {
+    match pansuyog::make(image, SEGMENTS, Version::Two) {
+        Ok(()) | Err(Error::Exist) => {}
+        Err(error) => return Err(error.into()),
+    }
+    let mut volume = Volume::mount(FileDevice::open(image)?)?;
+    let (handle, first) = opened(&mut volume)?;
     for number in first.. {
         volume.pwrite(handle, RECORD as u64 * number, &record(number))?;
         volume.sync()?;
@@ -37,8 +45,9 @@ fn append(volume: &mut Volume<FileDevice>) -> Result<()> {
     Ok(())
 }
 
-fn count(volume: &mut Volume<FileDevice>) -> Result<()> {
-    let (handle, records) = opened(volume)?;
+fn count(image: &str) -> Result<()> {
+    let mut volume = Volume::mount(FileDevice::open_to_look(image)?)?;
+    let (handle, records) = opened(&mut volume)?;
     let mut bytes = [0; RECORD];
     for number in 0..records {
         volume.pread(handle, RECORD as u64 * number, &mut bytes)?;
@@ -50,15 +59,21 @@ fn count(volume: &mut Volume<FileDevice>) -> Result<()> {
     Ok(())
 }
 
-fn main() -> Result<()> {
+fn main() -> ExitCode {
     let words: Vec<String> = env::args().collect();
-    let [_, image, word] = &words[..] else {
-        return Err("usage: recorder IMAGE append|count".into());
+    let (image, outcome) = match &words[..] {
+        [_, image, word] if word == "append" => (image, append(image)),
+        [_, image, word] if word == "count" => (image, count(image)),
+        _ => {
+            eprintln!("usage: recorder IMAGE append|count");
+            return ExitCode::from(2);
+        }
     };
-    let mut volume = Volume::mount(FileDevice::open(image)?)?;
-    match word.as_str() {
-        "append" => append(&mut volume),
-        "count" => count(&mut volume),
-        _ => Err(format!("no command {word}").into()),
+    match outcome {
+        Ok(()) => ExitCode::SUCCESS,
+        Err(error) => {
+            eprintln!("{image}: {error}");
+            ExitCode::FAILURE
+        }
     }
 }

@@ -1,7 +1,7 @@
 //! Devices: what a volume is read from, and what its writes and syncs go to.
-use std::fs::{File, OpenOptions, TryLockError};
+use std::fs::{self, File, OpenOptions, TryLockError};
 use std::io::{self, ErrorKind, Seek, SeekFrom};
-use std::os::unix::fs::FileExt;
+use std::os::unix::fs::{FileExt, FileTypeExt};
 use std::path::Path;
 use std::thread::sleep;
 use std::time::Duration;
@@ -66,48 +66,57 @@ const LOCK_PAUSE: Duration = Duration::from_millis(1);
 
 /// Keeps other programs out. One that looks may hold the lock for a short time, so it is tried for about a second. A file system without
 /// locks refuses nothing.
-fn lock(file: &File) -> io::Result<()> {
+pub(crate) fn lock(file: &File) -> io::Result<()> {
     for _ in 0..LOCK_TRIES {
         match file.try_lock() {
             Err(TryLockError::WouldBlock) => sleep(LOCK_PAUSE),
             _ => return Ok(()),
         }
     }
-    Err(io::Error::new(
-        ErrorKind::WouldBlock,
-        "another program has held the lock of the image for a second",
-    ))
+    Err(in_use())
 }
 
-/// Lets the name of a new file stay too, where the file system can.
-fn sync_folder_of(path: &Path) {
-    let folder = match path.parent() {
-        Some(folder) if folder != Path::new("") => folder,
-        _ => Path::new("."),
-    };
-    if let Ok(folder) = File::open(folder) {
-        let _ = folder.sync_all();
+fn in_use() -> io::Error {
+    io::Error::new(ErrorKind::WouldBlock, "it is in use by another program")
+}
+
+/// Refuses what can be no image. It is looked up before it is opened, since opening a pipe waits for its other end.
+fn look_up(path: &Path) -> io::Result<()> {
+    let kind = fs::metadata(path)?.file_type();
+    if kind.is_dir() {
+        return Err(ErrorKind::IsADirectory.into());
     }
+    if kind.is_file() || kind.is_block_device() {
+        return Ok(());
+    }
+    Err(io::Error::new(ErrorKind::InvalidInput, "it is neither a file nor a block device"))
 }
 
 impl FileDevice {
     /// Opens a file or a block device that is there, and locks it as the program `lfs` does: `ErrorKind::WouldBlock` where another program
     /// has it. The lock goes with the device.
     pub fn open(path: impl AsRef<Path>) -> io::Result<FileDevice> {
+        look_up(path.as_ref())?;
         let file = OpenOptions::new().read(true).write(true).open(path)?;
         lock(&file)?;
         Ok(FileDevice { file })
     }
 
-    /// Makes a file with the sectors of a volume of so many segments, and locks it: `ErrorKind::AlreadyExists` where something has its name.
-    pub fn create(path: impl AsRef<Path>, segments: u32) -> io::Result<FileDevice> {
-        let path = path.as_ref();
-        let file = OpenOptions::new().read(true).write(true).create_new(true).open(path)?;
-        lock(&file)?;
-        file.set_len(SECTOR as u64 * sectors_of(segments))?;
-        file.sync_all()?;
-        sync_folder_of(path);
-        Ok(FileDevice { file })
+    /// Opens a file or a block device for reading alone, and takes the lock that `lfs` takes to look, which others may have too:
+    /// `ErrorKind::WouldBlock` where a program that writes has it. A write to it fails.
+    pub fn open_to_look(path: impl AsRef<Path>) -> io::Result<FileDevice> {
+        look_up(path.as_ref())?;
+        let file = File::open(path)?;
+        match file.try_lock_shared() {
+            Err(TryLockError::WouldBlock) => Err(in_use()),
+            _ => Ok(FileDevice { file }),
+        }
+    }
+
+    /// Gives the file this length, with nothing in it.
+    pub(crate) fn clear(&mut self, length: u64) -> io::Result<()> {
+        self.file.set_len(0)?;
+        self.file.set_len(length)
     }
 }
 

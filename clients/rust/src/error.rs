@@ -3,8 +3,8 @@ use std::error;
 use std::fmt::{self, Display, Formatter};
 use std::io;
 
-/// Why a call is refused. After all but [`Error::Halted`] and [`Error::Io`] the tree and the handles are as before the call, and the
-/// volume goes on. `docs/CALLS.md` of the repository has each call with its refusals, in their order.
+/// Why a call is refused. After all but [`Error::Halted`], [`Error::Write`] and [`Error::Sync`] the tree and the handles are as before the
+/// call, and the volume goes on. `docs/CALLS.md` of the repository has each call with its refusals, in their order.
 #[derive(Debug)]
 #[non_exhaustive]
 pub enum Error {
@@ -59,8 +59,12 @@ pub enum Error {
     NoCheckpoint,
     /// The volume is damaged: the first stage of its check, 1 to 15, that it fails.
     Damaged(u8),
-    /// A write or a sync of the device failed. The volume is halted then. The device holds what a loss of power may leave, so a mount of
-    /// it finds every call up to the last sync that was told of.
+    /// A write of the device failed. The volume is halted then. The device holds what a loss of power may leave, so a mount of it finds
+    /// every call up to the last sync that was told of.
+    Write(io::Error),
+    /// A sync of the device failed, and then it is as with `Write`.
+    Sync(io::Error),
+    /// An image can't be opened, locked or named, or the sectors of a device can't be counted.
     Io(io::Error),
     /// The library answered a number that this crate doesn't know.
     Unknown(i32),
@@ -130,7 +134,9 @@ impl Display for Error {
             Error::TooSmall => "the device is shorter than its volume, or than any volume",
             Error::NoCheckpoint => "the device holds no volume",
             Error::Damaged(stage) => return write!(out, "the volume is damaged: it fails stage {stage} of its check"),
-            Error::Io(_) => "a write or a sync of the device failed",
+            Error::Write(error) => return write!(out, "a write failed: {error}"),
+            Error::Sync(error) => return write!(out, "a sync failed: {error}"),
+            Error::Io(error) => return write!(out, "{error}"),
             Error::Unknown(code) => return write!(out, "the library answered {code}, which isn't known here"),
         };
         out.write_str(text)
@@ -140,7 +146,7 @@ impl Display for Error {
 impl error::Error for Error {
     fn source(&self) -> Option<&(dyn error::Error + 'static)> {
         match self {
-            Error::Io(error) => Some(error),
+            Error::Write(error) | Error::Sync(error) | Error::Io(error) => Some(error),
             _ => None,
         }
     }

@@ -1,14 +1,17 @@
 //! Files on a Pansuyog volume: a log-structured file system for a recorder or a small server, in an image file or on a block device, that
 //! survives a loss of power at any moment without a repair, where the device keeps what a sync acknowledged.
 //!
-//! A [`Volume`] stands over any [`Device`], which reads, writes and syncs sectors of 512 bytes. [`FileDevice`] is one in a file.
+//! A [`Volume`] stands over any [`Device`], which reads, writes and syncs sectors of 512 bytes. [`FileDevice`] is one in a file, and
+//! [`make`] makes a volume in a new file.
 //!
 //! ```
 //! use pansuyog::{Error, FileDevice, Version, Volume};
 //!
 //! # fn main() -> Result<(), Error> {
 //! # let image = std::env::temp_dir().join(format!("pansuyog-doc-{}.img", std::process::id()));
-//! let mut volume = Volume::format(FileDevice::create(&image, 64)?, 64, Version::Two)?;
+//! pansuyog::make(&image, 64, Version::Two)?;
+//!
+//! let mut volume = Volume::mount(FileDevice::open(&image)?)?;
 //! let log = volume.create("/log")?;
 //! volume.pwrite(log, 0, b"a record\n")?;
 //! volume.sync()?;
@@ -36,8 +39,10 @@ mod device;
 mod error;
 #[allow(unsafe_code)]
 mod library;
+mod making;
 mod volume;
 
 pub use device::{Device, FileDevice, SECTOR, Sector, sectors_of};
 pub use error::Error;
+pub use making::make;
 pub use volume::{Entry, Handle, Kind, Space, Stat, Version, Volume};

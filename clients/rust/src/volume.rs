@@ -96,7 +96,7 @@ pub enum Version {
 /// A path is any bytes, as `"/log"`, `b"/log"` or a `Vec<u8>`, and is walked from the root.
 ///
 /// The refusals of a method stand there. Beside them any may be `NoMemory` where it reads or changes the tree, and `Halted`. One that may
-/// write may be `Worn`, and `Io` where the device fails.
+/// write may be `Worn`, and `Write` or `Sync` where the device fails.
 pub struct Volume<D> {
     library: Library,
     device: D,
@@ -120,10 +120,10 @@ fn room_of(sectors: u32) -> u32 {
 
 impl<D: Device> Volume<D> {
     /// Makes an empty volume of 64 to 1,024 segments, a multiple of 8, and mounts it. It takes [`sectors_of`](crate::sectors_of) sectors, of
-    /// 32 KiB a segment. Whatever the device held is gone.
+    /// 32 KiB a segment. Whatever the device held is gone: [`make`](crate::make) makes a volume only where no file is.
     ///
     /// # Errors
-    /// `Inval` for another number of segments, `TooSmall`, `NoMemory`, and `Io` where the device fails.
+    /// `Inval` for another number of segments, `TooSmall`, `NoMemory`, and `Write`, `Sync` or `Io` where the device fails.
     pub fn format(device: D, segments: u32, version: Version) -> Result<Volume<D>> {
         let (mut volume, room) = Volume::begin(device)?;
         volume.change(|library| library.format(segments, version as u32, room))?;
@@ -135,8 +135,8 @@ impl<D: Device> Volume<D> {
     ///
     /// # Errors
     /// `NoCheckpoint` where the device holds no volume, `TooSmall` where it is shorter than its volume, and `Damaged` with the stage of the
-    /// check that fails, also where a sector that is needed couldn't be read. `NoMemory`, `Device`, and `Io` where the device can't be synced
-    /// or its sectors counted.
+    /// check that fails, also where a sector that is needed couldn't be read. `NoMemory`, `Device`, `Sync` where the device can't be
+    /// synced, and `Io` where its sectors can't be counted.
     pub fn mount(device: D) -> Result<Volume<D>> {
         let (volume, room) = Volume::begin(device)?;
         volume.mounted(room)
@@ -144,7 +144,7 @@ impl<D: Device> Volume<D> {
 
     /// A volume to whose library all of a device was given that could be read, and the room for its orders.
     fn begin(mut device: D) -> Result<(Volume<D>, u32)> {
-        device.sync()?;
+        device.sync().map_err(Error::Sync)?;
         let sectors = u32::try_from(device.sectors()?).unwrap_or(u32::MAX).min(MOST_SECTORS);
         let mut volume = Volume {
             library: Library::new()?,
@@ -217,10 +217,10 @@ impl<D: Device> Volume<D> {
     fn carry_run(&mut self, number: u64) -> Result<u64> {
         let (first, count) = self.library.run(number, &mut self.run)?;
         if count == 0 {
-            self.device.sync()?;
+            self.device.sync().map_err(Error::Sync)?;
             return Ok(1);
         }
-        self.device.write(first, &self.run[..count.min(RUN)])?;
+        self.device.write(first, &self.run[..count.min(RUN)]).map_err(Error::Write)?;
         Ok(count as u64)
     }
 

@@ -310,9 +310,25 @@ fn each_call_of_the_device_fails_in_turn() {
             assert!(good_calls >= 6);
             return;
         }
-        assert!(matches!(saved, Err(Error::Io(_))), "{saved:?}");
+        assert!(matches!(saved, Err(Error::Write(_) | Error::Sync(_))), "{saved:?}");
         assert!(size == 4 || size == 8);
     }
+}
+
+/// The error of a call of the device stays with the refusal, which says what failed and why.
+#[test]
+fn a_refusal_tells_what_failed_and_why() {
+    let mut device = MemoryDevice::new(64);
+    drop(volume(&mut device));
+    device.good_calls = 1;
+    let text = |refused: Result<(), Error>| refused.unwrap_err().to_string();
+    assert_eq!(text(append_anew(&mut device, 0)), "a sync failed: the device failed");
+    device.lose_power();
+    device.good_calls = 3;
+    assert_eq!(text(append_anew(&mut device, 0)), "a write failed: the device failed");
+    let full = || io::Error::from(io::ErrorKind::StorageFull);
+    assert_eq!(Error::Write(full()).to_string(), format!("a write failed: {}", full()));
+    assert_eq!(Error::Io(full()).to_string(), full().to_string());
 }
 
 /// A device whose writes panic in the place of a failure.
@@ -398,7 +414,8 @@ fn mounted(path: &Path) -> Volume<FileDevice> {
 #[test]
 fn a_file_keeps_a_volume() {
     let image = Image::new("keeps");
-    let mut volume = Volume::format(FileDevice::create(&image.0, 1024).unwrap(), 1024, Version::Two).unwrap();
+    pansuyog::make(&image.0, 1024, Version::Two).unwrap();
+    let mut volume = mounted(&image.0);
     let handle = volume.create("/log").unwrap();
     for number in 0..200u8 {
         volume.pwrite(handle, 4_000 * u64::from(number), &[number; 4_000]).unwrap();
@@ -418,15 +435,51 @@ fn a_file_keeps_a_volume() {
 #[test]
 fn an_image_is_used_by_one_volume() {
     let image = Image::new("locked");
-    let volume = Volume::format(FileDevice::create(&image.0, 64).unwrap(), 64, Version::One).unwrap();
+    pansuyog::make(&image.0, 64, Version::One).unwrap();
+    let volume = mounted(&image.0);
     assert_eq!(FileDevice::open(&image.0).unwrap_err().kind(), io::ErrorKind::WouldBlock);
-    assert_eq!(FileDevice::create(&image.0, 64).unwrap_err().kind(), io::ErrorKind::AlreadyExists);
     drop(volume);
-    drop(mounted(&image.0));
+    assert_eq!(mounted(&image.0).version().unwrap(), Version::One);
     assert_eq!(
         FileDevice::open(image.0.join("none")).unwrap_err().kind(),
         io::ErrorKind::NotADirectory
     );
+}
+
+#[test]
+fn an_image_is_looked_at_by_several_volumes() {
+    let image = Image::new("looks");
+    pansuyog::make(&image.0, 64, Version::Two).unwrap();
+    let look = || FileDevice::open_to_look(&image.0);
+    let (mut first, second) = (Volume::mount(look().unwrap()).unwrap(), look().unwrap());
+    assert_eq!(first.readdir("/").unwrap(), []);
+    assert_eq!(FileDevice::open(&image.0).unwrap_err().kind(), io::ErrorKind::WouldBlock);
+    first.create("/f").unwrap();
+    assert!(matches!(first.sync(), Err(Error::Write(_))));
+    drop((first, second));
+    let volume = mounted(&image.0);
+    assert_eq!(look().unwrap_err().kind(), io::ErrorKind::WouldBlock);
+    drop(volume);
+    assert_eq!(FileDevice::open_to_look("/").unwrap_err().kind(), io::ErrorKind::IsADirectory);
+    assert_eq!(
+        FileDevice::open_to_look("/dev/null").unwrap_err().kind(),
+        io::ErrorKind::InvalidInput
+    );
+}
+
+#[test]
+fn a_volume_is_made_where_no_file_is() {
+    let image = Image::new("made");
+    for segments in [0, 63, 65, 1032, u32::MAX] {
+        assert_eq!(refusal(pansuyog::make(&image.0, segments, Version::Two)), "Inval");
+    }
+    assert!(!image.0.exists());
+    pansuyog::make(&image.0, 72, Version::Two).unwrap();
+    let made = fs::read(&image.0).unwrap();
+    assert_eq!(made.len(), 512 * (2 + 64 * 72));
+    assert_eq!(refusal(pansuyog::make(&image.0, 64, Version::One)), "Exist");
+    assert!(fs::read(&image.0).unwrap() == made);
+    assert!(matches!(pansuyog::make(image.0.join("none"), 64, Version::One), Err(Error::Io(_))));
 }
 
 #[test]

@@ -1,5 +1,4 @@
 //! An hour's recorder in compressed time: a record for each second, saved by itself, and about once a minute the recorder is killed.
-use pansuyog::{FileDevice, Version, Volume};
 use std::env;
 use std::fs;
 use std::hash::{BuildHasher, RandomState};
@@ -53,7 +52,6 @@ fn counted(image: &Path) -> u64 {
 #[test]
 fn each_record_that_was_told_of_is_there_after_each_kill() {
     let image = env::temp_dir().join(format!("pansuyog-{}-recorder.img", process::id()));
-    drop(Volume::format(FileDevice::create(&image, 64).unwrap(), 64, Version::Two).unwrap());
     let (mut told, mut kills) = (0, 0);
     while told < wanted() {
         told = told.max(killed(&image, told));

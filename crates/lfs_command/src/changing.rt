@@ -2,6 +2,7 @@
 use lfs_device::{SectorDevice, World};
 use lfs_recover::image::fault::{Ending, Fault};
 use lfs_recover::image::image;
+use lfs_recover::image::image::end_caused;
 use lfs_recover::image::looking::read_path;
 use lfs_recover::image::printing::{print, refuse};
 use lfs_recover::image::room::refusal_of;
@@ -132,7 +133,7 @@ fn change_in<Here: World, R: Files<File = File> + Clock, W: Write>(
     match image::mount_to_write::<Here, R>(rt, alloc, image) {
         Ok(mut fs) => {
             let done = change_by(&mut fs, change, words);
-            end_change(&mut fs, done, output)
+            end_caused(end_change(&mut fs, done, output), fs.device())
         }
         Err(refusal) => refuse(output, refusal),
     }

@@ -14,14 +14,14 @@ use crate::request::{Action, Request, read_request};
 use crate::simulation;
 use crate::simulation::{Plan, read_plan};
 use crate::terminals::Terminals;
-use lfs_device::{Left, MemDevice, SectorDevice, ThisWorld, World};
+use lfs_device::{FileDeviceIn, Left, MemDevice, SectorDevice, ThisWorld, World};
 use lfs_recover::image::fault::{Ending, Fault, Outcome, Refusal, Told};
-use lfs_recover::image::foreign::explained;
-use lfs_recover::image::image::Making;
+use lfs_recover::image::image;
+use lfs_recover::image::image::{Making, unmounted};
 use lfs_recover::image::looking::{end_look, show};
+use lfs_recover::image::making::mkfs;
 use lfs_recover::image::printing::{flush, print, put, put_count, refuse};
 use lfs_recover::image::viewing::look;
-use lfs_recover::image::{image, making};
 use lfs_recover::script::{
     Looks, ScriptEnd, StrictEnd, Witness, read_u32, use_and_stop_told, use_volume_told,
 };
@@ -55,8 +55,15 @@ struct Answered<'a> {
     unsaved: Option<&'a str>,
 }
 
-// How a volume is made that has so many segments, as a word still.
-fn making_of(segments: &str, version: u32, force: bool, reserve: bool) -> Result<Making, Fault> {
+// How a volume is made that has so many segments, as a word still. A person is asked where there is
+// one, unless it is forced.
+fn making_of(
+    terminals: Terminals,
+    segments: &str,
+    version: u32,
+    force: bool,
+    reserve: bool,
+) -> Result<Making, Fault> {
     let Some(segments) = read_u32(segments.as_bytes()) else {
         return Err(Fault::Segments);
     };
@@ -64,6 +71,7 @@ fn making_of(segments: &str, version: u32, force: bool, reserve: bool) -> Result
         segments,
         version,
         force,
+        asks: terminals.input && terminals.errors && !force,
         reserve,
     })
 }
@@ -132,28 +140,28 @@ fn play<D: SectorDevice, I: Read, W: Write, S: Witness<D, W>>(
 }
 
 // Says more of a volume that wasn't mounted, by its device.
-fn explain_ending<D: SectorDevice>(
+fn explain_ending<Here: World>(
     ending: Result<Ending, Fault>,
-    device: &mut D,
+    device: &mut FileDeviceIn<Here>,
 ) -> Result<Ending, Fault> {
     match ending {
         Ok(Ending::Refused(Refusal::Mount(fault))) => {
-            Ok(Ending::Refused(explained(fault, device)))
+            Ok(Ending::Refused(unmounted(fault, device)))
         }
         ending => ending,
     }
 }
 
 // The same of a strict run.
-fn explain_outcome<D: SectorDevice>(
+fn explain_outcome<Here: World>(
     outcome: Result<Outcome, Fault>,
-    device: &mut D,
+    device: &mut FileDeviceIn<Here>,
 ) -> Result<Outcome, Fault>
     ensures { result ≡ Ok Outcome.CallRefused → outcome ≡ Ok Outcome.CallRefused }
 {
     match outcome {
         Ok(Outcome::Ended(Ending::Refused(Refusal::Mount(fault)))) => {
-            let refusal = explained(fault, device);
+            let refusal = unmounted(fault, device);
             Ok(Outcome::Ended(Ending::Refused(refusal)))
         }
         outcome => outcome,
@@ -334,7 +342,7 @@ fn sim<I: Read, W: Write>(
 }
 
 // Does what is asked for with an image, in any world, which only contracts see.
-fn act<Here: World, R: Files<File = File> + Clock, I: Read, W: Write>(
+fn act<Here: World, R: Files<File = File> + Clock, I: Read, W: Write, E: Write>(
     rt: &R,
     alloc: Global,
     terminals: Terminals,
@@ -342,6 +350,7 @@ fn act<Here: World, R: Files<File = File> + Clock, I: Read, W: Write>(
     action: Action<'_>,
     input: &mut I,
     output: &mut W,
+    errors: &mut E,
 ) -> Result<Ending, Fault> {
     match action {
         Action::Mkfs {
@@ -350,8 +359,8 @@ fn act<Here: World, R: Files<File = File> + Clock, I: Read, W: Write>(
             force,
             reserve,
         } => {
-            let making = making_of(segments, version, force, reserve)?;
-            making::mkfs::<Here, R, W>(rt, alloc, image, making, output)
+            let making = making_of(terminals, segments, version, force, reserve)?;
+            mkfs::<Here, R, I, W, E>(rt, alloc, image, making, input, output, errors)
         }
         Action::Look(asked) => look::<Here, R, W>(rt, alloc, image, asked, output),
         Action::Explain => explain::<Here, R, W>(rt, alloc, image, output),
@@ -406,13 +415,14 @@ fn unsaved_of(image: &str, is_saved: bool) -> Option<&str> {
 }
 
 // Does what a command line asks for.
-fn answer_request<'a, R: Files<File = File> + Clock, I: Read, W: Write>(
+fn answer_request<'a, R: Files<File = File> + Clock, I: Read, W: Write, E: Write>(
     rt: &R,
     alloc: Global,
     terminals: Terminals,
     request: Request<'a>,
     input: &mut I,
     output: &mut W,
+    errors: &mut E,
 ) -> Answered<'a>
     ensures strict { IfOk result.told (λ told. told.outcome ≡ Outcome.CallRefused
         → IsStrict request) }
@@ -436,8 +446,8 @@ fn answer_request<'a, R: Files<File = File> + Clock, I: Read, W: Write>(
             Answered { told, unsaved }
         }
         Request::Image { image, action } => {
-            let ending = act::<ThisWorld, R, I, W>(
-                rt, alloc, terminals, image, action, input, output,
+            let ending = act::<ThisWorld, R, I, W, E>(
+                rt, alloc, terminals, image, action, input, output, errors,
             );
             let told = told(image, action.path(), ending);
             let unsaved = None;
@@ -458,19 +468,20 @@ fn answer_request<'a, R: Files<File = File> + Clock, I: Read, W: Write>(
 }
 
 // Answers words, of which those that ask for nothing are a fault.
-fn answer<'a, R: Files<File = File> + Clock, I: Read, W: Write>(
+fn answer<'a, R: Files<File = File> + Clock, I: Read, W: Write, E: Write>(
     rt: &R,
     alloc: Global,
     terminals: Terminals,
     words: &'a [String],
     input: &mut I,
     output: &mut W,
+    errors: &mut E,
 ) -> Answered<'a>
     ensures strict { IfOk result.told (λ told. told.outcome ≡ Outcome.CallRefused
         → HasWord words.now (codes "--strict")) }
 {
     match read_request(alloc, words) {
-        Ok(request) => answer_request(rt, alloc, terminals, request, input, output),
+        Ok(request) => answer_request(rt, alloc, terminals, request, input, output, errors),
         Err(fault) => {
             let told = Err(fault);
             let unsaved = None;
@@ -492,18 +503,19 @@ fn answer_unflushed<'a>(answered: Answered<'a>, fault: Fault) -> Answered<'a>
 }
 
 // What came before a fault goes out before its text.
-fn answer_and_flush<'a, R: Files<File = File> + Clock, I: Read, W: Write>(
+fn answer_and_flush<'a, R: Files<File = File> + Clock, I: Read, W: Write, E: Write>(
     rt: &R,
     alloc: Global,
     terminals: Terminals,
     words: &'a [String],
     input: &mut I,
     output: &mut W,
+    errors: &mut E,
 ) -> Answered<'a>
     ensures strict { IfOk result.told (λ told. told.outcome ≡ Outcome.CallRefused
         → HasWord words.now (codes "--strict")) }
 {
-    let answered = answer(rt, alloc, terminals, words, input, output);
+    let answered = answer(rt, alloc, terminals, words, input, output, errors);
     match flush(output) {
         Ok(()) => answered,
         Err(fault) => answer_unflushed(answered, fault),
@@ -512,19 +524,22 @@ fn answer_and_flush<'a, R: Files<File = File> + Clock, I: Read, W: Write>(
 
 // Hands the command a buffer before the output. Each part of a command flushes what it wrote, and a
 // script its replies before each read.
-fn answer_buffered<'a, R: Files<File = File> + Clock, I: Read, O: Write>(
+fn answer_buffered<'a, R: Files<File = File> + Clock, I: Read, O: Write, E: Write>(
     rt: &R,
     alloc: Global,
     terminals: Terminals,
     words: &'a [String],
     input: &mut I,
     output: &mut O,
+    errors: &mut E,
 ) -> Answered<'a>
     ensures strict { IfOk result.told (λ told. told.outcome ≡ Outcome.CallRefused
         → HasWord words.now (codes "--strict")) }
 {
     match BufWriter::new(alloc, output) {
-        Ok(mut buffered) => answer_and_flush(rt, alloc, terminals, words, input, &mut buffered),
+        Ok(mut buffered) => {
+            answer_and_flush(rt, alloc, terminals, words, input, &mut buffered, errors)
+        }
         Err(_) => {
             let told = Err(Fault::Memory(AllocError));
             let unsaved = None;
@@ -575,7 +590,7 @@ pub fn command_at<R: Files<File = File> + Clock, I: Read, O: Write, E: Write>(
     ensures strict { result ≡ 3 → HasWord words.now (codes "--strict") }
 {
     let mut input = LineKeeper::new(alloc, input);
-    let answered = answer_buffered(rt, alloc, terminals, words, &mut input, output);
+    let answered = answer_buffered(rt, alloc, terminals, words, &mut input, output, errors);
     let unsaved = answered.unsaved;
     match answered.told {
         Ok(told) => {

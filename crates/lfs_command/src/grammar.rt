@@ -217,7 +217,7 @@ const BY_FORCE: Parameter = Parameter {
     name: FORCE,
     form: Form::Switch,
     value: "",
-    help: "Format IMAGE also where it is a block device",
+    help: "Ask nothing, and format IMAGE also where it is a block device",
 };
 
 const WITH_ROOM: Parameter = Parameter {
@@ -267,10 +267,12 @@ const VOLUME_USAGES: &[Usage] = &[
         verb: Verb::Mkfs,
         name: "mkfs",
         about: "Make an empty volume",
-        details: "Make an empty volume. A regular file is made, or emptied without a question. A\n\
-            block device keeps its length, and is formatted only with --force, and only\n\
-            while it isn't mounted. An image in a file is sparse without --reserve, so that\n\
-            a full disk shows only as the image is written.",
+        details: "Make an empty volume. A new file gets its name once it is whole. A file that is\n\
+            there is emptied: at a terminal, if it has bytes, only where the answer to a\n\
+            question is yes, or with --force. A block device keeps its length, and is\n\
+            formatted only with --force, and only while it isn't mounted. An image in a\n\
+            file is sparse without --reserve, so that a full disk shows only as the image\n\
+            is written.",
         parameters: &[THE_IMAGE, THE_SEGMENTS, THE_FORMAT, BY_FORCE, WITH_ROOM],
     },
     Usage {

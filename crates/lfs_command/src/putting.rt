@@ -4,6 +4,7 @@ use lfs_device::{SectorDevice, World};
 use lfs_model::limits::SECTOR_LEN;
 use lfs_recover::image::fault::{Ending, Fault, Refusal};
 use lfs_recover::image::host::HostFault;
+use lfs_recover::image::image::end_caused;
 use lfs_recover::image::looking::read_path;
 use lfs_recover::image::printing::{print_copied, refuse};
 use lfs_recover::image::room::refusal_of;
@@ -155,15 +156,11 @@ pub fn put_into<Here: World, R: Files<File = File> + Clock, I: Read, W: Write>(
     }
     let path = read_path(alloc, source.path)?;
     match image::mount_to_write::<Here, R>(rt, alloc, image) {
-        Ok(mut fs) => put_from(
-            rt,
-            alloc,
-            &mut fs,
-            path.as_slice(),
-            source.file,
-            input,
-            output,
-        ),
+        Ok(mut fs) => {
+            let path = path.as_slice();
+            let ending = put_from(rt, alloc, &mut fs, path, source.file, input, output);
+            end_caused(ending, fs.device())
+        }
         Err(refusal) => refuse(output, refusal),
     }
 }

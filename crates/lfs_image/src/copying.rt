@@ -4,6 +4,7 @@ use crate::host;
 use crate::host::HostFault;
 use crate::looking::Looked;
 use crate::printing::print_copied;
+use crate::sparse::SparseFile;
 use lfs_device::SectorDevice;
 use lfs_put::{GetFault, get};
 use lfs_script::fs::{Fs, FsError};
@@ -31,9 +32,14 @@ impl From<GetFault> for CopyFault {
     }
 }
 
-// Copies the file of a path into an open file of the host.
-fn fill<D: SectorDevice>(fs: &mut Fs<D>, path: &[u8], mut file: File) -> Result<u64, CopyFault> {
-    Ok(get(fs, path, &mut file)?)
+// Copies the file of a path into an open file of the host, which is empty.
+fn fill<D: SectorDevice>(fs: &mut Fs<D>, path: &[u8], file: File) -> Result<u64, CopyFault> {
+    let mut sparse = SparseFile::new(file);
+    let count = get(fs, path, &mut sparse)?;
+    match sparse.finish() {
+        Ok(()) => Ok(count),
+        Err(fault) => Err(CopyFault::Host(fault)),
+    }
 }
 
 /// Makes a new file of the host of all bytes of the file of a path: their number. Where that fails

@@ -1,6 +1,7 @@
 //! Why a command ends.
 ghost use Rattle.std.specs.Prelude.{◌≡◌, ◌≤◌, ◌⊎◌};
 
+use crate::cause::Cause;
 use crate::host::HostFault;
 use crate::reason;
 use lfs_script::fs::{FormatFault, FsError, MountFault};
@@ -28,14 +29,33 @@ pub enum ImageFault {
     InUse,
     /// Another program writes it, and no whole state was seen.
     Unsteady,
+    /// It has bytes, and nobody agreed that they go.
+    Declined,
+    /// Its name has another file by now, or none.
+    Taken,
+    /// The name under which a new image stands until it is whole has no regular file.
+    Aside,
     /// The file can't have the length of the volume.
-    Length,
+    Length(Cause),
     /// There is no room for each of its sectors.
-    Room,
+    Room(Cause),
     /// The folder that has its name can't be synced.
-    Unnamed,
+    Unnamed(Cause),
+    /// The system refuses to open it, to make it or to name it.
+    Unopened(Cause),
     /// The system refuses a call on it.
     System,
+}
+
+impl ImageFault {
+    // Why the system refused a call.
+    fn cause(self) -> Cause {
+        match self {
+            ImageFault::Length(cause) | ImageFault::Room(cause) => cause,
+            ImageFault::Unnamed(cause) | ImageFault::Unopened(cause) => cause,
+            _ => Cause::Untold,
+        }
+    }
 }
 
 impl From<io::Error> for ImageFault {
@@ -44,7 +64,7 @@ impl From<io::Error> for ImageFault {
             ErrorKind::NotFound => ImageFault::Missing,
             ErrorKind::PermissionDenied => ImageFault::Denied,
             ErrorKind::ReadOnlyFilesystem => ImageFault::ReadOnly,
-            _ => ImageFault::System,
+            _ => ImageFault::Unopened(Cause::of(&error)),
         }
     }
 }
@@ -67,6 +87,8 @@ pub enum Refusal {
     /// It is shorter than its volume, of so many segments.
     Cut(u32),
     Call(FsError),
+    /// `Device` or `Halted`, since the system refused a call of the device for this.
+    Failed(FsError, Cause),
     /// There is no space for a change. A new file may have so many bytes.
     Full(u64),
     /// A file is to have the name under which files stand until they are whole.
@@ -86,7 +108,7 @@ impl Refusal {
             Refusal::Mount(fault) | Refusal::Foreign(fault) => fault.name(),
             Refusal::NoOlder => MountFault::NoCheckpoint.name(),
             Refusal::Cut(_) => MountFault::TooSmall.name(),
-            Refusal::Call(fault) => fault.name(),
+            Refusal::Call(fault) | Refusal::Failed(fault, _) => fault.name(),
             Refusal::Full(_) => FsError::NoSpace.name(),
         }
     }
@@ -99,7 +121,28 @@ impl Refusal {
                 | Refusal::Mount(MountFault::NoCheckpoint | MountFault::Device)
                 | Refusal::Foreign(MountFault::NoCheckpoint)
                 | Refusal::Call(FsError::Device)
+                | Refusal::Failed(FsError::Device, _)
         )
+    }
+
+    /// The same refusal, with why the system refused a call of the device, where it is for that.
+    pub fn caused_by(self, cause: Cause) -> Refusal {
+        match self {
+            Refusal::Call(FsError::Halted) => Refusal::Failed(FsError::Halted, cause),
+            Refusal::Call(FsError::Device)
+            | Refusal::Mount(MountFault::Device)
+            | Refusal::Format(FormatFault::Device) => Refusal::Failed(FsError::Device, cause),
+            refusal => refusal,
+        }
+    }
+
+    // Why the system refused a call.
+    fn cause(self) -> Cause {
+        match self {
+            Refusal::Image(fault) => fault.cause(),
+            Refusal::Failed(_, cause) => cause,
+            _ => Cause::Untold,
+        }
     }
 
     /// Whether it is about the path that a command has.
@@ -130,6 +173,7 @@ impl Refusal {
             Refusal::NoOlder => reason::NO_OLDER,
             Refusal::Cut(_) => reason::of_mount(MountFault::TooSmall),
             Refusal::Call(fault) => reason::of_call(fault),
+            Refusal::Failed(fault, cause) => reason::of_failure(fault, cause),
             Refusal::Full(_) => reason::of_call(FsError::NoSpace),
             Refusal::Unfinished => reason::UNFINISHED,
             Refusal::NoInput => reason::NO_INPUT,
@@ -247,7 +291,7 @@ impl Told<'_> {
 
 /// A number whose digits people read in groups of three, at most three groups of them.
 #[derive(Clone, Copy)]
-struct Grouped(u64);
+pub struct Grouped(pub u64);
 
 impl Display for Grouped {
     fn fmt<W: fmt::Write>(&self, f: &mut Formatter<W>) -> fmt::Result {
@@ -281,7 +325,13 @@ impl Display for Ending {
                 let free = Grouped(*free);
                 write!(f, "no space: {free} bytes are free for one new file")
             }
-            Ending::Refused(refusal) => f.write_str(refusal.reason()),
+            Ending::Refused(refusal) => {
+                f.write_str(refusal.reason())?;
+                match refusal.cause().text() {
+                    Some(cause) => write!(f, ": {cause}"),
+                    None => Ok(()),
+                }
+            }
             Ending::BadLine(line) => write!(f, "line {line} of the script is bad"),
         }
     }

@@ -1,17 +1,20 @@
 //! Image files and block devices, in any world.
 ghost use Rattle.std.specs.Prelude.{◌<◌, ◌^◌};
 
-use crate::fault::{ImageFault, Refusal};
+use crate::asking::may_empty;
+use crate::cause::Cause;
+use crate::fault::{Ending, Fault, ImageFault, Refusal};
 use crate::foreign::explained;
+use crate::new_image::make_new;
 use lfs_device::{FileDeviceIn, World};
 use lfs_layout::{is_segment_count, is_version};
 use lfs_model::limits::{CHECKPOINT_SLOTS, SECTOR_LEN, SEGMENT_SECTORS};
-use lfs_script::fs::{Fs, format_version};
+use lfs_script::fs::{Fs, MountFault, format_version};
 use std::alloc::Global;
 use std::fs::{File, Metadata, OpenOptions, TryLockError};
-use std::io::ErrorKind;
+use std::io::{ErrorKind, Read, Write};
 use std::os::fd::{AsRawFd, RawFd};
-use std::os::unix::fs::{FileExt, FileTypeExt};
+use std::os::unix::fs::{FileExt, FileTypeExt, MetadataExt};
 use std::rt::Files;
 use std::thread::sleep;
 use std::time::{Clock, Duration};
@@ -37,6 +40,8 @@ pub struct Making {
     pub version: u32,
     /// Also on a block device.
     pub force: bool,
+    /// A file that has bytes is asked about before it is emptied.
+    pub asks: bool,
     /// With room for each sector.
     pub reserve: bool,
 }
@@ -149,16 +154,20 @@ pub fn open_to_look<Here: World, R: Files<File = File>>(
     Ok((device_of(file)?, beside))
 }
 
-// How an image is opened that is written.
-fn to_write() -> OpenOptions {
+/// How an image is opened that is written.
+pub fn to_write() -> OpenOptions {
     let mut how = File::options();
     how.read(true).write(true);
     how
 }
 
-// Opens a file for writing, and locks it.
-fn open_locked<R: Files<File = File> + Clock>(rt: &R, image: &str) -> Result<File, ImageFault> {
-    let file = open_apart(rt, &to_write(), image)?;
+/// Opens a file so, and locks it.
+pub fn open_locked<R: Files<File = File> + Clock>(
+    rt: &R,
+    how: &OpenOptions,
+    path: &str,
+) -> Result<File, ImageFault> {
+    let file = open_apart(rt, how, path)?;
     lock(rt, &file)?;
     Ok(file)
 }
@@ -169,7 +178,7 @@ pub fn open_to_write<Here: World, R: Files<File = File> + Clock>(
     image: &str,
 ) -> Result<FileDeviceIn<Here>, ImageFault> {
     look_up(rt, image)?;
-    device_of(open_locked(rt, image)?)
+    device_of(open_locked(rt, &to_write(), image)?)
 }
 
 // Refuses a medium on which no volume is made. A block device wants to be forced.
@@ -181,16 +190,16 @@ fn check_medium(metadata: &Metadata, force: bool) -> Result<Medium, ImageFault> 
     Ok(medium)
 }
 
-// As `check_medium`, of what stands under a name, which may be nothing yet.
-fn check_name<R: Files<File = File>>(rt: &R, image: &str, force: bool) -> Result<(), ImageFault> {
+// As `check_medium`, of what stands under a name: whether something does.
+fn check_name<R: Files<File = File>>(rt: &R, image: &str, force: bool) -> Result<bool, ImageFault> {
     match fs::metadata(rt, image) {
         Ok(metadata) => {
             check_medium(&metadata, force)?;
-            Ok(())
+            Ok(true)
         }
         Err(error) => {
-            if error.kind() == ErrorKind::NotFound {
-                Ok(())
+            if error.kind() == ErrorKind::NotFound && !image.is_empty() {
+                Ok(false)
             } else {
                 Err(ImageFault::from(error))
             }
@@ -198,144 +207,193 @@ fn check_name<R: Files<File = File>>(rt: &R, image: &str, force: bool) -> Result
     }
 }
 
+fn set_length(file: &File, len: u64) -> Result<(), ImageFault> {
+    match file.set_len(len) {
+        Ok(()) => Ok(()),
+        Err(error) => Err(ImageFault::Length(Cause::of(&error))),
+    }
+}
+
 // Makes all of a file's bytes zeros, so many of them. That it may be so long is tried before it is
 // emptied.
 fn clear(file: &File, old: u64, len: u64) -> Result<(), ImageFault> {
-    if old < len && file.set_len(len).is_err() {
-        return Err(ImageFault::Length);
+    if old < len {
+        set_length(file, len)?;
     }
-    if file.set_len(0).is_err() || file.set_len(len).is_err() {
-        return Err(ImageFault::Length);
-    }
-    Ok(())
+    set_length(file, 0)?;
+    set_length(file, len)
 }
 
-// Makes an empty file where nothing has the name, and tells whether it did.
-fn touch<R: Files<File = File>>(rt: &R, image: &str) -> Result<bool, ImageFault> {
-    match File::options().write(true).create_new(true).open(rt, image) {
-        Ok(_) => Ok(true),
-        Err(error) if error.kind() == ErrorKind::AlreadyExists => Ok(false),
-        Err(error) => Err(ImageFault::from(error)),
-    }
+/// Makes all bytes of a regular file of this length zeros, as many as a volume has that is made so.
+pub fn empty(file: &File, old: u64, making: Making) -> Result<(), ImageFault> {
+    clear(file, old, SECTOR_BYTES * sectors_of(making.segments))
+}
+
+fn no_room(error: &io::Error) -> ImageFault {
+    ImageFault::Room(Cause::of(error))
 }
 
 // Writes each sector, so that there is room for it: a file that only has a length has none.
 fn reserve(file: &File, segments: u32) -> Result<(), ImageFault> {
     for sector in 0..sectors_of(segments) {
-        if file
-            .write_all_at(&[0; SECTOR_LEN], SECTOR_BYTES * sector)
-            .is_err()
-        {
-            return Err(ImageFault::Room);
+        if let Err(error) = file.write_all_at(&[0; SECTOR_LEN], SECTOR_BYTES * sector) {
+            return Err(no_room(&error));
         }
     }
-    if file.sync_all().is_err() {
-        return Err(ImageFault::Room);
-    }
-    Ok(())
-}
-
-// Makes all of a locked file's bytes zeros. It is looked at again: the name may have had another
-// file before.
-fn empty(file: &File, making: Making) -> Result<(), ImageFault> {
-    let Ok(metadata) = file.metadata() else {
-        return Err(ImageFault::System);
-    };
-    match check_medium(&metadata, making.force)? {
-        Medium::File => clear(
-            file,
-            metadata.len(),
-            SECTOR_BYTES * sectors_of(making.segments),
-        ),
-        Medium::Blocks => Ok(()),
-    }
-}
-
-// Opens and locks what a volume is to be made in, and makes it ready.
-fn open_to_make<R: Files<File = File> + Clock>(
-    rt: &R,
-    image: &str,
-    making: Making,
-) -> Result<File, ImageFault> {
-    let file = open_apart(rt, to_write().create(true), image)?;
-    lock(rt, &file)?;
-    empty(&file, making)?;
-    if making.reserve {
-        reserve(&file, making.segments)?;
-    }
-    Ok(file)
-}
-
-fn format_file<Here: World>(file: File, making: Making) -> Result<(), Refusal> {
-    let mut device = device_of::<Here>(file)?;
-    format_version(&mut device, making.segments, making.version).map_err(Refusal::Format)
-}
-
-// Makes a volume in what has the name, which may be nothing yet.
-fn make_in<Here: World, R: Files<File = File> + Clock>(
-    rt: &R,
-    image: &str,
-    making: Making,
-) -> Result<(), Refusal> {
-    let file = open_to_make(rt, image, making)?;
-    format_file::<Here>(file, making)
-}
-
-// The folder that a file of this name is in.
-fn folder_of(image: &str) -> &str {
-    match image.rfind('/') {
-        Some(0) => "/",
-        Some(slash) => &image[..slash],
-        None => ".",
-    }
-}
-
-// Syncs the folder of a new file, so that its name stays. Not every folder can be read, and not
-// every file system syncs one.
-fn sync_folder<R: Files<File = File>>(rt: &R, image: &str) -> Result<(), ImageFault> {
-    let Ok(folder) = File::open(rt, folder_of(image)) else {
-        return Ok(());
-    };
-    match folder.sync_all() {
-        Err(error) if error.kind() != ErrorKind::InvalidInput => Err(ImageFault::Unnamed),
-        _ => Ok(()),
-    }
-}
-
-// Makes a volume in a new file, of which nothing is left where that is refused.
-fn make_new<Here: World, R: Files<File = File> + Clock>(
-    rt: &R,
-    image: &str,
-    making: Making,
-) -> Result<(), Refusal> {
-    let made = make_in::<Here, R>(rt, image, making);
-    match made.and_then(|()| sync_folder(rt, image).map_err(Refusal::Image)) {
+    match file.sync_all() {
         Ok(()) => Ok(()),
-        Err(refusal) => {
-            let _ = fs::remove_file(rt, image);
-            Err(refusal)
-        }
+        Err(error) => Err(no_room(&error)),
     }
 }
 
-/// Makes a volume. A regular file is made, or emptied, and gets the volume's length; a block device
-/// keeps its own, which has to be enough, and is formatted only by force. Where that is asked for,
-/// each sector is written first. A wrong number of segments, or a wrong version, is refused with no
-/// file touched.
-pub fn make<Here: World, R: Files<File = File> + Clock>(
+// The metadata of a file that is open.
+fn metadata_of(file: &File) -> Result<Metadata, ImageFault> {
+    match file.metadata() {
+        Ok(metadata) => Ok(metadata),
+        Err(_) => Err(ImageFault::System),
+    }
+}
+
+/// Whether these are of one file.
+pub fn are_same(one: &Metadata, other: &Metadata) -> bool {
+    one.dev() == other.dev() && one.ino() == other.ino()
+}
+
+// Refuses a locked file whose name has another one by now.
+fn check_named<R: Files<File = File>>(
     rt: &R,
     image: &str,
+    metadata: &Metadata,
+) -> Result<(), ImageFault> {
+    match fs::metadata(rt, image) {
+        Ok(named) if are_same(&named, metadata) => Ok(()),
+        _ => Err(ImageFault::Taken),
+    }
+}
+
+/// The device of an open file, by a descriptor of its own.
+pub fn device_of_copy<Here: World>(file: &File) -> Result<FileDeviceIn<Here>, ImageFault> {
+    device_of(file.try_clone()?)
+}
+
+fn format_device<Here: World>(
+    device: &mut FileDeviceIn<Here>,
     making: Making,
+) -> Result<(), Refusal> {
+    match format_version(device, making.segments, making.version) {
+        Ok(()) => Ok(()),
+        Err(fault) => Err(caused(Refusal::Format(fault), device)),
+    }
+}
+
+/// Makes a volume in a file that is ready for it, or in a block device, with room for each sector
+/// where that is asked for.
+pub fn fill<Here: World>(file: &File, making: Making) -> Result<(), Refusal> {
+    if making.reserve {
+        reserve(file, making.segments)?;
+    }
+    let mut device = device_of_copy::<Here>(file)?;
+    format_device(&mut device, making)
+}
+
+// Refuses a file of so many bytes, unless it is agreed that a volume is made over it.
+fn agree<Here: World, I: Read, E: Write>(
+    alloc: Global,
+    image: &str,
+    file: &File,
+    len: u64,
+    input: &mut I,
+    errors: &mut E,
+) -> Result<(), Refusal> {
+    if may_empty::<Here, I, E>(alloc, image, file, len, input, errors)? {
+        Ok(())
+    } else {
+        Err(Refusal::Image(ImageFault::Declined))
+    }
+}
+
+// Empties a locked file, or a block device not at all. It is looked at again: the name may have had
+// another file before.
+fn make_ready<Here: World, R: Files<File = File>, I: Read, E: Write>(
+    rt: &R,
+    alloc: Global,
+    image: &str,
+    file: &File,
+    making: Making,
+    input: &mut I,
+    errors: &mut E,
+) -> Result<(), Refusal> {
+    let metadata = metadata_of(file)?;
+    if check_medium(&metadata, making.force)? == Medium::Blocks {
+        return Ok(());
+    }
+    if making.asks && metadata.len() > 0 {
+        agree::<Here, I, E>(alloc, image, file, metadata.len(), input, errors)?;
+    }
+    check_named(rt, image, &metadata)?;
+    Ok(empty(file, metadata.len(), making)?)
+}
+
+// Makes a volume over what has the name.
+fn make_over<Here: World, R: Files<File = File> + Clock, I: Read, E: Write>(
+    rt: &R,
+    alloc: Global,
+    image: &str,
+    making: Making,
+    input: &mut I,
+    errors: &mut E,
+) -> Result<(), Refusal> {
+    let file = open_locked(rt, &to_write(), image)?;
+    match make_ready::<Here, R, I, E>(rt, alloc, image, &file, making, input, errors) {
+        Ok(()) => fill::<Here>(&file, making),
+        Err(refusal) => Err(refusal),
+    }
+}
+
+/// Makes a volume. A new file gets its name once the volume is whole and synced, and nothing is left
+/// of it where it is refused. A file that is there is emptied under its lock, and gets the volume's
+/// length; where it has bytes, and that is asked for, a line of `input` has to agree to a question,
+/// which goes to `errors`. A block device keeps its length, which has to be enough, and is
+/// formatted only by force. A wrong number of segments, or a wrong version, is refused with no file
+/// touched.
+pub fn make<Here: World, R: Files<File = File> + Clock, I: Read, E: Write>(
+    rt: &R,
+    alloc: Global,
+    image: &str,
+    making: Making,
+    input: &mut I,
+    errors: &mut E,
 ) -> Result<(), Refusal> {
     if !is_segment_count(making.segments) || !is_version(making.version) {
         return Err(Refusal::Inval);
     }
-    check_name(rt, image, making.force)?;
-    if touch(rt, image)? {
-        make_new::<Here, R>(rt, image, making)
+    if check_name(rt, image, making.force)? {
+        make_over::<Here, R, I, E>(rt, alloc, image, making, input, errors)
     } else {
-        make_in::<Here, R>(rt, image, making)
+        make_new::<Here, R>(rt, alloc, image, making)
     }
+}
+
+// The same refusal, with why the system refused a call of this device, where it is for that.
+fn caused<Here: World>(refusal: Refusal, device: &FileDeviceIn<Here>) -> Refusal {
+    refusal.caused_by(Cause::of_number(device.last_error()))
+}
+
+/// The same for the ending of a command.
+pub fn end_caused<Here: World>(
+    ending: Result<Ending, Fault>,
+    device: &FileDeviceIn<Here>,
+) -> Result<Ending, Fault> {
+    match ending {
+        Ok(Ending::Refused(refusal)) => Ok(Ending::Refused(caused(refusal, device))),
+        ending => ending,
+    }
+}
+
+/// The refusal of an image whose device isn't mounted for this fault.
+pub fn unmounted<Here: World>(fault: MountFault, device: &mut FileDeviceIn<Here>) -> Refusal {
+    let refusal = explained(fault, device);
+    caused(refusal, device)
 }
 
 /// Mounts the volume of a device.
@@ -345,7 +403,7 @@ pub fn mount<Here: World>(
 ) -> Result<Fs<FileDeviceIn<Here>>, Refusal> {
     match Fs::mount(alloc, device) {
         Ok(fs) => Ok(fs),
-        Err((fault, mut device)) => Err(explained(fault, &mut device)),
+        Err((fault, mut device)) => Err(unmounted(fault, &mut device)),
     }
 }
 

@@ -1,6 +1,8 @@
 //! Images of volumes in files and block devices, looks at them, and why a command ends.
 #![tactic(auto)]
 
+mod asking;
+mod cause;
 mod copying;
 mod describing;
 mod exporting;
@@ -12,9 +14,11 @@ pub mod listing;
 pub mod looking;
 pub mod making;
 mod mounts;
+mod new_image;
 pub mod printing;
 mod reason;
 pub mod room;
+mod sparse;
 pub mod viewing;
 mod walking;
 

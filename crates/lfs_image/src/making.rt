@@ -7,7 +7,7 @@ use lfs_device::World;
 use lfs_layout::is_segment_count;
 use std::alloc::Global;
 use std::fs::File;
-use std::io::Write;
+use std::io::{Read, Write};
 use std::rt::Files;
 use std::time::Clock;
 
@@ -28,18 +28,20 @@ fn refuse_mounted<R: Files<File = File>, W: Write>(
     })
 }
 
-/// Makes a volume in an image.
-pub fn mkfs<Here: World, R: Files<File = File> + Clock, W: Write>(
+/// Makes a volume in an image. A question before it goes to `errors`, and `input` has the answer.
+pub fn mkfs<Here: World, R: Files<File = File> + Clock, I: Read, W: Write, E: Write>(
     rt: &R,
     alloc: Global,
     image: &str,
     making: Making,
+    input: &mut I,
     output: &mut W,
+    errors: &mut E,
 ) -> Result<Ending, Fault> {
     if making.force && is_segment_count(making.segments) {
         refuse_mounted(rt, alloc, image, output)?;
     }
-    match image::make::<Here, R>(rt, image, making) {
+    match image::make::<Here, R, I, E>(rt, alloc, image, making, input, errors) {
         Ok(()) => {
             print(output, "ok\n")?;
             Ok(Ending::Done)

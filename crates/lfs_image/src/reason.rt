@@ -1,10 +1,16 @@
 //! What people are told of a refusal, beside its name.
+use crate::cause::Cause;
 use crate::fault::ImageFault;
 use lfs_script::fs::{FormatFault, FsError, MountFault};
 
 const NO_MEMORY: &str = "there isn't enough memory";
 
 const DEVICE: &str = "a read, a write or a sync of it failed";
+
+const HALTED: &str = "it can't be written: a read, a write or a sync of it failed";
+
+/// Where it wasn't a read.
+const UNWRITTEN: &str = "it can't be written: a write or a sync of it failed";
 
 /// Of a file that is to have the name under which files stand until they are whole.
 pub const UNFINISHED: &str = "this is the name under which `put` keeps a file that isn't whole yet";
@@ -42,10 +48,16 @@ pub fn of_image(fault: ImageFault) -> &'static str {
         ImageFault::Unsteady => {
             "another program writes it, and no whole state was seen; try again"
         }
-        ImageFault::Length => "the file can't have the length of the volume",
-        ImageFault::Room => "there is no room for all of its sectors",
-        ImageFault::Unnamed => "the folder that has it can't be synced",
-        ImageFault::System => "the system refuses to open it or to tell its length",
+        ImageFault::Declined => "the answer wasn't yes, so nothing was done",
+        ImageFault::Taken => {
+            "another program changed meanwhile what has this name, and nothing was done to that"
+        }
+        ImageFault::Aside => "something other than a file has its name with `.lfs-make` behind",
+        ImageFault::Length(_) => "the file can't have the length of the volume",
+        ImageFault::Room(_) => "there is no room for all of its sectors",
+        ImageFault::Unnamed(_) => "the folder that has it can't be synced",
+        ImageFault::Unopened(_) => "the system refuses to open it or to make it",
+        ImageFault::System => "the system refuses to tell its length",
     }
 }
 
@@ -113,8 +125,17 @@ pub fn of_call(fault: FsError) -> &'static str {
         FsError::DirFull => "the directory has 1024 entries",
         FsError::NoMemory => NO_MEMORY,
         FsError::Device => DEVICE,
-        FsError::Halted => "it can't be written: a write or a sync of it failed",
+        FsError::Halted => HALTED,
         FsError::Stuck => "too few of its segments are clean",
         FsError::Worn => "it was changed too often to be changed again",
+    }
+}
+
+/// Of a call that is refused since the system refused one of the device for this.
+pub fn of_failure(fault: FsError, cause: Cause) -> &'static str {
+    if cause.is_of_writes() {
+        UNWRITTEN
+    } else {
+        of_call(fault)
     }
 }

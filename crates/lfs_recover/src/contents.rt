@@ -5,7 +5,7 @@ use lfs_device::SectorDevice;
 use lfs_image::host::{HostFault, made};
 use lfs_layout::Inode;
 use lfs_model::limits::SECTOR_LEN;
-use lfs_salvage::{Blocks, Gap, MOST_STEPS, Piece, Readings};
+use lfs_salvage::{Blocks, Flaw, MOST_STEPS, Piece, Readings};
 use std::alloc::{AllocError, AllocFailed, Global};
 use std::fs::File;
 use std::os::unix::fs::FileExt;
@@ -37,7 +37,7 @@ fn write_block(file: &File, block: u32, bytes: &[u8; 512]) -> Result<(), HostFau
     made(file.write_all_at(bytes, u64::from(block) * BLOCK_LEN))
 }
 
-/// Copies the blocks of a file into one of the host, which gets its size: what is missing of them.
+/// Copies the blocks of a file into one of the host, which gets its size: what is amiss with them.
 ///
 /// # Errors
 ///
@@ -48,21 +48,29 @@ pub fn fill<D: SectorDevice>(
     readings: &mut Readings,
     inode: &Inode,
     file: &File,
-) -> Result<Vec<Gap>, Stop>
+) -> Result<Vec<Flaw>, Stop>
     ensures { TellsNothing (D.state device.old) (D.state device.new) }
 {
-    let mut gaps = Vec::new(alloc);
+    let mut flaws = Vec::new(alloc);
     let mut blocks = Blocks::new(readings, *inode);
     for _ in 0..MOST_STEPS {
         match blocks.step(device, readings) {
             Some(Piece::Nothing) => {}
             Some(Piece::Block(block, _, bytes)) => write_block(file, block, &bytes)?,
-            Some(Piece::Gap(gap)) => gaps.push(gap)?,
+            Some(Piece::Flaw(flaw)) => flaws.push(flaw)?,
             None => break,
         }
     }
     made(file.set_len(u64::from(inode.size)))?;
-    Ok(gaps)
+    Ok(flaws)
+}
+
+/// The text of a link.
+#[derive(Drop)]
+pub struct Text {
+    pub bytes: Vec<u8>,
+    /// A sector that has bytes past the end of it, or leads there.
+    pub past_end: Option<u32>,
 }
 
 /// The text of a link, all of whose addresses stand in its inode. None where a block of it isn't
@@ -76,18 +84,20 @@ pub fn text_of<D: SectorDevice>(
     device: &mut D,
     readings: &mut Readings,
     inode: &Inode,
-) -> Result<Option<Vec<u8>>, AllocError>
+) -> Result<Option<Text>, AllocError>
     ensures { TellsNothing (D.state device.old) (D.state device.new) }
 {
-    let mut text = Vec::new(alloc);
+    let mut bytes = Vec::new(alloc);
+    let mut past_end = None;
     let mut blocks = Blocks::new(readings, *inode);
     for _ in 0..MOST_STEPS {
         match blocks.step(device, readings) {
-            Some(Piece::Block(_, _, bytes)) => text.extend_from_slice(&bytes)?,
-            Some(Piece::Nothing | Piece::Gap(_)) => return Ok(None),
+            Some(Piece::Block(_, _, block)) => bytes.extend_from_slice(&block)?,
+            Some(Piece::Flaw(Flaw::PastEnd(sector))) => past_end = Some(sector),
+            Some(Piece::Nothing | Piece::Flaw(Flaw::Gap(_))) => return Ok(None),
             None => break,
         }
     }
-    text.truncate(inode.size as usize);
-    Ok(Some(text))
+    bytes.truncate(inode.size as usize);
+    Ok(Some(Text { bytes, past_end }))
 }

@@ -10,7 +10,7 @@ use lfs_image::printing::flush;
 use lfs_image::put::UNFINISHED;
 use lfs_image::viewing::look;
 use lfs_layout::Checkpoint;
-use lfs_salvage::{Damage, Slot, find_damage, read_addresses, read_paths, read_slots};
+use lfs_salvage::{Damage, find_damage, read_addresses, read_paths, read_slots};
 use std::alloc::{AllocError, Global};
 use std::fs::File;
 use std::io::Write;
@@ -74,11 +74,8 @@ fn explain_device<D: SectorDevice, W: Write>(
     let Some(checkpoint) = slots.newest() else {
         return Ok(());
     };
-    let (sector, slot) = slots.other();
-    match slot {
-        Slot::Other => put_slot(output, sector)?,
-        Slot::Empty if checkpoint.number > 1 => put_slot(output, sector)?,
-        Slot::Empty | Slot::Whole(_) => {}
+    if let Some(sector) = slots.lost() {
+        put_slot(output, sector)?;
     }
     put_places(alloc, device, &checkpoint, code, output)?;
     flush(output)

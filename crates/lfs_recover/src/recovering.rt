@@ -3,6 +3,7 @@ ghost use Rattle.lfs_salvage.specs.Telling.{TellsNothing};
 
 use crate::rescue::Rescue;
 use crate::telling::tell_map;
+use crate::wording::put_slot;
 use lfs_device::{SectorDevice, World};
 use lfs_image::fault::{Ending, Fault, ImageFault, Refusal};
 use lfs_image::foreign::explained;
@@ -26,21 +27,48 @@ pub struct Recovery<'a> {
     pub older: bool,
 }
 
-// The checkpoint that a recovery begins with.
-fn chosen<D: SectorDevice>(device: &mut D, older: bool) -> Result<Checkpoint, Refusal>
+/// What a recovery begins with.
+#[derive(Clone, Copy)]
+struct Start {
+    checkpoint: Checkpoint,
+    /// The slot whose checkpoint may be lost, and be a newer one.
+    lost: Option<u32>,
+}
+
+// What a recovery begins with. By the older checkpoint the newest is there.
+fn chosen<D: SectorDevice>(device: &mut D, older: bool) -> Result<Start, Refusal>
     ensures { TellsNothing (D.state device.old) (D.state device.new) }
 {
     let slots = read_slots(device);
     let Some(newest) = slots.newest() else {
         return Err(explained(MountFault::NoCheckpoint, device));
     };
+    let lost = slots.lost();
     if !older {
-        return Ok(newest);
+        return Ok(Start {
+            checkpoint: newest,
+            lost,
+        });
     }
     match slots.older() {
-        Some(checkpoint) => Ok(checkpoint),
+        Some(checkpoint) => Ok(Start { checkpoint, lost }),
         None => Err(Refusal::NoOlder),
     }
+}
+
+// Tells what of the checkpoint and of the map is missing: whether anything is.
+fn tell_start<W: Write>(
+    lost: Option<u32>,
+    gaps: &[(u32, u32)],
+    output: &mut W,
+) -> Result<bool, Fault> {
+    if let Some(sector) = lost {
+        put_slot(output, sector)?;
+    }
+    for (block, sector) in gaps {
+        tell_map(output, *block, *sector)?;
+    }
+    Ok(lost.is_some() || !gaps.is_empty())
 }
 
 // Brings out all, and tells how much that is.
@@ -48,15 +76,13 @@ fn take_all<D: SectorDevice, R: Files<File = File>, W: Write>(
     rt: &R,
     alloc: Global,
     device: &mut D,
+    lost: Option<u32>,
     rescue: &mut Rescue<'_>,
     output: &mut W,
 ) -> Result<Ending, Fault>
     ensures { TellsNothing (D.state device.old) (D.state device.new) }
 {
-    for (block, sector) in rescue.gaps() {
-        tell_map(output, *block, *sector)?;
-    }
-    rescue.is_lacking = !rescue.gaps().is_empty();
+    rescue.is_lacking = tell_start(lost, rescue.gaps(), output)?;
     rescue.take_all(rt, alloc, device, output)?;
     put_count(output, b"ok ", rescue.whole)?;
     put_count(output, b" files whole, ", rescue.in_part)?;
@@ -68,22 +94,22 @@ fn take_all<D: SectorDevice, R: Files<File = File>, W: Write>(
     }
 }
 
-// Brings out what a checkpoint leads to.
+// Brings out what the checkpoint leads to.
 fn recover_from<D: SectorDevice, R: Files<File = File>, W: Write>(
     rt: &R,
     alloc: Global,
     device: &mut D,
-    checkpoint: &Checkpoint,
+    start: &Start,
     folder: &str,
     output: &mut W,
 ) -> Result<Ending, Fault>
     ensures { TellsNothing (D.state device.old) (D.state device.new) }
 {
-    let mut rescue = Rescue::new(alloc, device, checkpoint, folder)?;
+    let mut rescue = Rescue::new(alloc, device, &start.checkpoint, folder)?;
     if let Err(fault) = host::make_folder(rt, folder) {
         return Err(Fault::of_host(alloc, folder, fault));
     }
-    match take_all(rt, alloc, device, &mut rescue, output) {
+    match take_all(rt, alloc, device, start.lost, &mut rescue, output) {
         Ok(ending) => Ok(ending),
         Err(fault) => {
             flush(output)?;
@@ -109,9 +135,7 @@ pub fn recover<Here: World, R: Files<File = File>, W: Write>(
         return refuse(output, Refusal::Image(ImageFault::Unsteady));
     }
     match chosen(&mut device, recovery.older) {
-        Ok(checkpoint) => {
-            recover_from(rt, alloc, &mut device, &checkpoint, recovery.folder, output)
-        }
+        Ok(start) => recover_from(rt, alloc, &mut device, &start, recovery.folder, output),
         Err(refusal) => refuse(output, refusal),
     }
 }

@@ -1,9 +1,9 @@
 //! A volume that is gone through, and what came out of it so far.
 ghost use Rattle.lfs_salvage.specs.Telling.{TellsNothing};
 
-use crate::contents::{Stop, fill, text_of};
+use crate::contents::{Stop, Text, fill, text_of};
 use crate::places::{LOST, Places, below, by_number, on_host};
-use crate::telling::{tell_gaps, tell_lost, tell_moved, tell_path, tell_strays};
+use crate::telling::{tell_lost, tell_moved, tell_part, tell_path, tell_strays};
 use lfs_device::SectorDevice;
 use lfs_image::fault::Fault;
 use lfs_image::host;
@@ -11,7 +11,7 @@ use lfs_image::host::{HostFault, made};
 use lfs_layout::{Checkpoint, Inode};
 use lfs_model::Kind;
 use lfs_salvage::{
-    Addresses, Entry, Gap, Listing, NUMBERS, Object, ROOT, Readings, Walk, list, named_by,
+    Addresses, Entry, Flaw, Listing, NUMBERS, Object, ROOT, Readings, Walk, list, named_by,
     read_addresses,
 };
 use std::alloc::{AllocError, Global};
@@ -68,6 +68,21 @@ fn judged(alloc: Global, name: &str, done: Result<(), HostFault>) -> Result<Made
     }
 }
 
+// Makes a link of the host of a text, which has to be UTF-8 without a zero byte.
+fn link_to<R: Files<File = File>>(
+    rt: &R,
+    alloc: Global,
+    text: &[u8],
+    name: &str,
+) -> Result<Made, Fault> {
+    match str::from_utf8(text) {
+        Ok(text) if !text.as_bytes().contains(&0) => {
+            judged(alloc, name, host::make_link(rt, text, name))
+        }
+        _ => Ok(Made::Unfit),
+    }
+}
+
 impl<'a> Rescue<'a> {
     /// Begins with a checkpoint.
     ///
@@ -95,20 +110,25 @@ impl<'a> Rescue<'a> {
         })
     }
 
-    /// The blocks of the inode map that can't be read.
+    /// The blocks of the inode map that are missing.
     pub fn gaps(&self) -> &[(u32, u32)] {
         self.addresses.gaps()
     }
 
-    // Tells what is missing of a file, and counts it.
-    fn count<W: Write>(&mut self, path: &[u8], gaps: &[Gap], output: &mut W) -> Result<(), Fault> {
-        if gaps.is_empty() {
+    // Tells what is amiss with a file, and counts it.
+    fn count<W: Write>(
+        &mut self,
+        path: &[u8],
+        flaws: &[Flaw],
+        output: &mut W,
+    ) -> Result<(), Fault> {
+        if flaws.is_empty() {
             self.whole = self.whole.saturating_add(1);
             return Ok(());
         }
         self.in_part = self.in_part.saturating_add(1);
         self.is_lacking = true;
-        tell_gaps(output, path, gaps)
+        tell_part(output, path, flaws)
     }
 
     // Makes a file of the host.
@@ -129,8 +149,8 @@ impl<'a> Rescue<'a> {
             Err(fault) => return judged(alloc, name, Err(fault)),
         };
         match fill(alloc, device, &mut self.readings, inode, &file) {
-            Ok(gaps) => {
-                self.count(path, gaps.as_slice(), output)?;
+            Ok(flaws) => {
+                self.count(path, flaws.as_slice(), output)?;
                 Ok(Made::Done)
             }
             Err(stop) => Err(at_host(alloc, name, stop)),
@@ -152,25 +172,42 @@ impl<'a> Rescue<'a> {
         judged(alloc, name, host::make_folder(rt, name))
     }
 
-    // Makes a link of the host. Its text has to be UTF-8 without a zero byte.
-    fn make_link<D: SectorDevice, R: Files<File = File>>(
+    // Tells what is amiss with a link that was made.
+    fn tell_link<W: Write>(
+        &mut self,
+        path: &[u8],
+        text: &Text,
+        output: &mut W,
+    ) -> Result<(), Fault> {
+        let Some(sector) = text.past_end else {
+            return Ok(());
+        };
+        self.is_lacking = true;
+        tell_part(output, path, &[Flaw::PastEnd(sector)])
+    }
+
+    // Makes a link of the host.
+    fn make_link<D: SectorDevice, R: Files<File = File>, W: Write>(
         &mut self,
         rt: &R,
         alloc: Global,
         device: &mut D,
         inode: &Inode,
+        path: &[u8],
         name: &str,
+        output: &mut W,
     ) -> Result<Made, Fault>
         ensures { TellsNothing (D.state device.old) (D.state device.new) }
     {
         let Some(text) = text_of(alloc, device, &mut self.readings, inode)? else {
             return Ok(Made::Unfit);
         };
-        match str::from_utf8(text.as_slice()) {
-            Ok(text) if !text.as_bytes().contains(&0) => {
-                judged(alloc, name, host::make_link(rt, text, name))
+        match link_to(rt, alloc, text.bytes.as_slice(), name)? {
+            Made::Done => {
+                self.tell_link(path, &text, output)?;
+                Ok(Made::Done)
             }
-            _ => Ok(Made::Unfit),
+            made => Ok(made),
         }
     }
 
@@ -192,7 +229,7 @@ impl<'a> Rescue<'a> {
         match inode.kind {
             Kind::File => self.make_file(rt, alloc, device, inode, path, name.as_str(), output),
             Kind::Directory => self.make_folder(rt, alloc, path, name.as_str()),
-            Kind::Link => self.make_link(rt, alloc, device, inode, name.as_str()),
+            Kind::Link => self.make_link(rt, alloc, device, inode, path, name.as_str(), output),
         }
     }
 
@@ -352,18 +389,18 @@ impl<'a> Rescue<'a> {
         }
     }
 
-    // Tells what is missing of a directory.
+    // Tells what is amiss with a directory.
     fn tell_listing<W: Write>(
         &mut self,
         path: &[u8],
         listing: &Listing,
         output: &mut W,
     ) -> Result<(), Fault> {
-        if listing.gaps.is_empty() && listing.strays.is_empty() {
+        if listing.flaws.is_empty() && listing.strays.is_empty() {
             return Ok(());
         }
         self.is_lacking = true;
-        tell_gaps(output, path, listing.gaps.as_slice())?;
+        tell_part(output, path, listing.flaws.as_slice())?;
         tell_strays(output, listing.strays.as_slice())
     }
 

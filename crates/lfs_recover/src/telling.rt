@@ -2,7 +2,7 @@
 use lfs_image::fault::Fault;
 use lfs_image::printing::{put, put_count, put_word};
 use lfs_model::limits::BLOCK_POINTERS;
-use lfs_salvage::{Gap, Place};
+use lfs_salvage::{Flaw, Gap, Place};
 use std::io::Write;
 
 /// Writes the path of an object, that of the root as a slash.
@@ -50,8 +50,8 @@ pub fn tell_map<W: Write>(output: &mut W, block: u32, sector: u32) -> Result<(),
     put(output, b"\n")
 }
 
-/// Writes which blocks are missing.
-pub fn tell_gap<W: Write>(output: &mut W, gap: Gap) -> Result<(), Fault> {
+// Writes which blocks are missing.
+fn tell_gap<W: Write>(output: &mut W, gap: Gap) -> Result<(), Fault> {
     let first = u64::from(gap.first);
     if gap.count > 1 {
         put_count(output, b"  blocks ", first)?;
@@ -64,11 +64,22 @@ pub fn tell_gap<W: Write>(output: &mut W, gap: Gap) -> Result<(), Fault> {
     put(output, b"\n")
 }
 
-/// Writes that the object of a path is there in part, and which blocks are missing.
-pub fn tell_gaps<W: Write>(output: &mut W, path: &[u8], gaps: &[Gap]) -> Result<(), Fault> {
+// Writes what is amiss with blocks.
+fn tell_flaw<W: Write>(output: &mut W, flaw: Flaw) -> Result<(), Fault> {
+    match flaw {
+        Flaw::Gap(gap) => tell_gap(output, gap),
+        Flaw::PastEnd(sector) => {
+            put_count(output, b"  past the end sector ", u64::from(sector))?;
+            put(output, b"\n")
+        }
+    }
+}
+
+/// Writes that the object of a path is there in part, or has more than its own, and where.
+pub fn tell_part<W: Write>(output: &mut W, path: &[u8], flaws: &[Flaw]) -> Result<(), Fault> {
     tell_path(output, b"part ", path)?;
-    for gap in gaps {
-        tell_gap(output, *gap)?;
+    for flaw in flaws {
+        tell_flaw(output, *flaw)?;
     }
     Ok(())
 }

@@ -3,24 +3,25 @@ ghost use Rattle.lfs_salvage.specs.Telling.{TellsNothing};
 
 use crate::readings::read_sector;
 use lfs_device::SectorDevice;
-use lfs_layout::{Checkpoint, Inode, InodeView, PointerView};
+use lfs_layout::{Checkpoint, Inode, InodeView, PointerView, is_zero};
 use std::alloc::{AllocError, Global};
 
 /// What a number leads to.
 #[derive(Clone, Copy)]
 pub enum Object {
-    /// The map has no inode of this number, or its block of the map can't be read.
+    /// The map has no inode of this number, or its block of the map is missing.
     Absent,
     /// The sector of its inode can't be read, or holds no inode of this number.
     Lost(u32),
     There(Inode),
 }
 
-/// The sectors of all inodes, by the numbers of their objects, and what of the map can't be read.
+/// The sectors of all inodes, by the numbers of their objects, and what of the map is missing.
 #[derive(Drop)]
 pub struct Addresses {
     inodes: Vec<u32>,
-    /// Blocks of the map that can't be read, each with its sector.
+    /// Blocks of the map that can't be read or are all zero, as no stored one is, each with its
+    /// sector.
     gaps: Vec<(u32, u32)>,
 }
 
@@ -41,23 +42,18 @@ impl Addresses {
     ) -> Result<(), AllocError>
         ensures { TellsNothing (D.state device.old) (D.state device.new) }
     {
-        let bytes = match sector {
-            0 => None,
-            _ => read_sector(device, sector),
-        };
-        let Some(bytes) = bytes else {
-            if sector != 0 {
-                self.gaps.push((block, sector))?;
+        let mut addresses = [0; 128];
+        if sector != 0 {
+            match read_sector(device, sector) {
+                Some(bytes) if !is_zero(&bytes) => addresses = PointerView::new(&bytes).to_array(),
+                _ => self.gaps.push((block, sector))?,
             }
-            self.inodes.extend_from_slice(&[0; 128])?;
-            return Ok(());
-        };
-        self.inodes
-            .extend_from_slice(&PointerView::new(&bytes).to_array())?;
+        }
+        self.inodes.extend_from_slice(&addresses)?;
         Ok(())
     }
 
-    /// The blocks of the map that can't be read, each with its sector.
+    /// The blocks of the map that are missing, each with its sector.
     pub fn gaps(&self) -> &[(u32, u32)] {
         self.gaps.as_slice()
     }

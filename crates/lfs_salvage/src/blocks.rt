@@ -1,25 +1,35 @@
 //! The blocks of an object, one after another.
+ghost use Rattle.lfs_salvage.specs.Blocks.{FindsBlock, IsOf};
 ghost use Rattle.lfs_salvage.specs.Telling.{TellsNothing};
 
 use crate::readings::Readings;
 use lfs_device::SectorDevice;
-use lfs_layout::{Inode, PointerView};
+use lfs_layout::{Inode, PointerView, is_zero};
 use lfs_model::limits::{BLOCK_POINTERS, DIRECT_BLOCKS, FILE_BLOCKS, FIRST_DOUBLE, SECTOR_LEN};
 
 /// The bytes of a block.
 pub const BLOCK_LEN: u32 = SECTOR_LEN as u32;
 
-/// The most steps that the blocks of an object take: one to each, one to each row of addresses, and
-/// one to the double root.
-pub const MOST_STEPS: u32 = FILE_BLOCKS + BLOCK_POINTERS + 3;
+/// The most steps that the blocks of an object take: one to each, one to each row of addresses, one
+/// to the double root, and one to what stands past the end.
+pub const MOST_STEPS: u32 = FILE_BLOCKS + BLOCK_POINTERS + 4;
 
-/// Blocks that can't be read, and the sector that is to blame.
+/// Blocks that are missing, and the sector that is to blame: it can't be read, or is all zero, as no
+/// stored block is.
 #[derive(Clone, Copy)]
 pub struct Gap {
     /// The first of them.
     pub first: u32,
     pub count: u32,
     pub sector: u32,
+}
+
+/// What is amiss with the blocks of an object.
+#[derive(Clone, Copy)]
+pub enum Flaw {
+    Gap(Gap),
+    /// This sector has bytes past the end that aren't 0, or leads there. Nothing is missing for it.
+    PastEnd(u32),
 }
 
 /// What a step finds.
@@ -29,7 +39,24 @@ pub enum Piece {
     Nothing,
     /// A block, its sector and its bytes.
     Block(u32, u32, [u8; 512]),
-    Gap(Gap),
+    Flaw(Flaw),
+}
+
+// Whether all bytes from a place on are 0.
+fn is_zero_from(bytes: &[u8; 512], place: u32) -> bool {
+    bytes.iter().skip(place as usize).all(|byte| *byte == 0)
+}
+
+/// Whether a block of an object has no bytes past the end.
+pub fn ends_within(inode: &Inode, block: u32, bytes: &[u8; 512]) -> bool {
+    let start = BLOCK_LEN.saturating_mul(block);
+    is_zero_from(bytes, inode.size.saturating_sub(start).min(BLOCK_LEN))
+}
+
+// The first address from a place on that isn't 0.
+fn stored_from(addresses: &[u32], place: u32) -> Option<u32> {
+    let mut rest = addresses.iter().skip(place as usize).copied();
+    rest.find(|sector| *sector != 0)
 }
 
 /// A block of addresses, and the block that the first of them leads to.
@@ -63,6 +90,10 @@ pub struct Blocks {
     row: Option<Row>,
     /// The addresses of the leaves in its double root, once they were read.
     root: Option<Row>,
+    /// The sector of its last block, where that has bytes past the end.
+    tail: Option<u32>,
+    /// All blocks were gone through.
+    is_done: bool,
 }
 
 /// What a step reads.
@@ -105,6 +136,8 @@ impl Blocks {
             next: 0,
             row: None,
             root: None,
+            tail: None,
+            is_done: false,
         }
     }
 
@@ -167,10 +200,15 @@ impl Blocks {
     }
 
     // Takes in what was read.
-    fn take(&mut self, way: Way, bytes: &[u8; 512]) -> Piece {
+    fn take(&mut self, way: Way, bytes: &[u8; 512]) -> Piece
+        ensures { IsOf way.sector bytes.now result }
+    {
         match way.goal {
             Goal::Block => {
                 let block = self.pass(1, way.sector).first;
+                if !ends_within(&self.inode, block, bytes) {
+                    self.tail = Some(way.sector);
+                }
                 return Piece::Block(block, way.sector, *bytes);
             }
             Goal::Row => self.row = Some(Row::new(self.next, bytes)),
@@ -179,23 +217,72 @@ impl Blocks {
         Piece::Nothing
     }
 
-    /// Goes on by a block, a row of addresses, or a row of blocks that aren't there. None behind the
-    /// last block.
+    // A sector that is stored past the end, as far as the addresses are at hand.
+    fn stored_past_end(&self) -> Option<u32> {
+        if let Some(sector) = stored_from(&self.inode.direct, self.count) {
+            return Some(sector);
+        }
+        if self.count <= DIRECT_BLOCKS && self.inode.single != 0 {
+            return Some(self.inode.single);
+        }
+        if self.count <= FIRST_DOUBLE && self.inode.double != 0 {
+            return Some(self.inode.double);
+        }
+        if let Some(sector) = self.stored_past_row() {
+            return Some(sector);
+        }
+        self.stored_past_root()
+    }
+
+    // The same of the row that was read last.
+    fn stored_past_row(&self) -> Option<u32> {
+        let row = self.row?;
+        stored_from(&row.addresses, self.count.saturating_sub(row.first))
+    }
+
+    // The same of the leaves in the double root.
+    fn stored_past_root(&self) -> Option<u32> {
+        let root = self.root?;
+        let blocks = self.count.saturating_sub(root.first);
+        stored_from(&root.addresses, blocks.div_ceil(BLOCK_POINTERS))
+    }
+
+    // The sector that has bytes past the end, or leads there. It is told once.
+    fn rest(&mut self) -> Option<u32> {
+        if self.is_done {
+            return None;
+        }
+        self.is_done = true;
+        match self.tail {
+            Some(sector) => Some(sector),
+            None => self.stored_past_end(),
+        }
+    }
+
+    /// Goes on by a block, a row of addresses, or a row of blocks that aren't there; and behind the
+    /// last block by what stands past the end. None behind that.
     pub fn step<D: SectorDevice>(
         &mut self,
         device: &mut D,
         readings: &mut Readings,
     ) -> Option<Piece>
-        ensures { TellsNothing (D.state device.old) (D.state device.new) }
+        ensures block { FindsBlock (D.state device.old) (D.state device.new) result }
+        ensures told { TellsNothing (D.state device.old) (D.state device.new) }
     {
-        let way = self.way()?;
+        let Some(way) = self.way() else {
+            let sector = self.rest()?;
+            return Some(Piece::Flaw(Flaw::PastEnd(sector)));
+        };
         if way.sector == 0 {
             self.pass(way.goal.blocks(), 0);
             return Some(Piece::Nothing);
         }
-        let Some(bytes) = readings.read(device, way.sector) else {
-            return Some(Piece::Gap(self.pass(way.goal.blocks(), way.sector)));
-        };
-        Some(self.take(way, &bytes))
+        match readings.read(device, way.sector) {
+            Some(bytes) if !is_zero(&bytes) => Some(self.take(way, &bytes)),
+            _ => {
+                let gap = self.pass(way.goal.blocks(), way.sector);
+                Some(Piece::Flaw(Flaw::Gap(gap)))
+            }
+        }
     }
 }

@@ -1,7 +1,7 @@
 //! The entries of a directory, as far as they can be read.
 ghost use Rattle.lfs_salvage.specs.Telling.{TellsNothing};
 
-use crate::blocks::{BLOCK_LEN, Blocks, Gap, MOST_STEPS, Piece};
+use crate::blocks::{BLOCK_LEN, Blocks, Flaw, MOST_STEPS, Piece};
 use crate::readings::Readings;
 use lfs_device::SectorDevice;
 use lfs_layout::{Inode, SlotView, nth_slot, slot_len};
@@ -26,8 +26,8 @@ pub struct Entry {
 #[derive(Drop)]
 pub struct Listing {
     pub entries: Vec<Entry>,
-    /// Blocks that can't be read.
-    pub gaps: Vec<Gap>,
+    /// What is amiss with its blocks.
+    pub flaws: Vec<Flaw>,
     /// Slots that can be read and aren't well-formed.
     pub strays: Vec<Place>,
 }
@@ -108,7 +108,7 @@ pub fn list<D: SectorDevice>(
 {
     let mut listing = Listing {
         entries: Vec::new(alloc),
-        gaps: Vec::new(alloc),
+        flaws: Vec::new(alloc),
         strays: Vec::new(alloc),
     };
     let mut blocks = Blocks::new(readings, *inode);
@@ -118,7 +118,7 @@ pub fn list<D: SectorDevice>(
             Some(Piece::Block(block, sector, bytes)) => {
                 take_block(alloc, &mut listing, inode, block, sector, &bytes)?;
             }
-            Some(Piece::Gap(gap)) => listing.gaps.push(gap)?,
+            Some(Piece::Flaw(flaw)) => listing.flaws.push(flaw)?,
             None => break,
         }
     }

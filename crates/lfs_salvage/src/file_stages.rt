@@ -1,7 +1,7 @@
 //! Stages 4 to 7: inodes, blocks of pointers, and data blocks.
 ghost use Rattle.lfs_salvage.specs.Telling.{TellsNothing};
 
-use crate::blocks::BLOCK_LEN;
+use crate::blocks::ends_within;
 use crate::damage::{Checked, Part, Stage, Stop};
 use crate::readings::read_sector;
 use crate::survey::Survey;
@@ -124,17 +124,9 @@ fn take_leaves<D: SectorDevice>(device: &mut D, survey: &mut Survey, inode: &Ino
     Ok(())
 }
 
-// Whether all bytes from a place on are 0.
-fn is_zero_from(bytes: &[u8; 512], place: u32) -> bool {
-    bytes.iter().skip(place as usize).all(|byte| *byte == 0)
-}
-
-// Whether a data block may have these bytes.
+// Whether a data block may have these bytes. One at or past the end would have none but zeros.
 fn is_block(inode: &Inode, block: u32, bytes: &[u8; 512]) -> bool {
-    let start = BLOCK_LEN.saturating_mul(block);
-    start < inode.size
-        && !is_zero(bytes)
-        && is_zero_from(bytes, inode.size.saturating_sub(start).min(BLOCK_LEN))
+    !is_zero(bytes) && ends_within(inode, block, bytes)
 }
 
 // Looks at data blocks whose addresses follow one another.

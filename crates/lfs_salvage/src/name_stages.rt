@@ -1,7 +1,7 @@
 //! Stages 10 to 13: directories, texts of links, names, and counts of links.
 ghost use Rattle.lfs_salvage.specs.Telling.{TellsNothing};
 
-use crate::blocks::{BLOCK_LEN, Blocks, MOST_STEPS, Piece};
+use crate::blocks::{BLOCK_LEN, Blocks, Flaw, MOST_STEPS, Piece};
 use crate::damage::{Checked, Part, Stage};
 use crate::directory::{Entry, list};
 use crate::readings::Readings;
@@ -119,7 +119,7 @@ fn take_directory<D: SectorDevice>(
         let slot = Part::Slot(place.slot);
         return Err(Stage(10).fails_of(inode.number, slot, place.sector));
     }
-    if let Some(gap) = listing.gaps.first() {
+    if let Some(Flaw::Gap(gap)) = listing.flaws.first() {
         return Err(Stage(10).fails_of(inode.number, Part::Block(gap.first), gap.sector));
     }
     if listing.len(inode.form) != inode.size as usize {

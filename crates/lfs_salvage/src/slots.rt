@@ -1,5 +1,17 @@
 //! The two slots of the checkpoint.
-ghost use Rattle.std.specs.Prelude.{◌≡◌, ◌<◌, ◌≤◌, ◌↔◌, ◌⊎◌, IsTrue, IsSome, IfSome};
+ghost use Rattle.std.specs.Prelude.{
+  ◌≡◌,
+  ◌<◌,
+  ◌≤◌,
+  ◌↔◌,
+  ◌⊎◌,
+  IsFalse,
+  IsTrue,
+  IsSome,
+  IfSome,
+  None,
+  Some,
+};
 ghost use Rattle.lfs_salvage.specs.Slots.{number_in};
 ghost use Rattle.lfs_salvage.specs.Telling.{TellsNothing};
 
@@ -36,6 +48,20 @@ impl Slot {
             Slot::Whole(checkpoint) => checkpoint.number,
             Slot::Empty | Slot::Other => 0,
         }
+    }
+
+    // Whether it holds no checkpoint, though the other slot holds one. Zeros beside the first one
+    // never held any.
+    fn is_lost_beside(&self, other: &Slot) -> bool
+        ensures lost { number_in self.now ≡ 0 → 1 < number_in other.now → IsTrue result }
+        ensures held { 0 < number_in self.now → IsFalse result }
+        ensures beside { number_in other.now ≡ 0 → IsFalse result }
+    {
+        let least = match self {
+            Slot::Empty => 2,
+            Slot::Whole(_) | Slot::Other => 1,
+        };
+        self.number() == 0 && other.number() >= least
     }
 }
 
@@ -103,6 +129,24 @@ impl Slots {
             (1, self.second)
         } else {
             (0, self.first)
+        }
+    }
+
+    /// The slot that holds no checkpoint, and may have held a newer one than the other does.
+    pub fn lost(&self) -> Option<u32>
+        ensures first { number_in self.now.first ≡ 0 → 1 < number_in self.now.second
+            → result ≡ Some 0 }
+        ensures second { number_in self.now.second ≡ 0 → 1 < number_in self.now.first
+            → result ≡ Some 1 }
+        ensures neither { 0 < number_in self.now.first → 0 < number_in self.now.second
+            → result ≡ None }
+    {
+        if self.first.is_lost_beside(&self.second) {
+            Some(0)
+        } else if self.second.is_lost_beside(&self.first) {
+            Some(1)
+        } else {
+            None
         }
     }
 

@@ -5,7 +5,7 @@ use rand_pcg::Pcg32;
 use std::alloc::{AllocError, Global};
 use std::fs::{File, Permissions};
 use std::io::{Read, Write};
-use std::os::unix::fs::{FileExt, PermissionsExt};
+use std::os::unix::fs::{FileExt, MetadataExt, PermissionsExt, symlink};
 use std::process::Abort;
 use std::rt::Files;
 use std::time::Clock;
@@ -108,6 +108,8 @@ enum Step<'a> {
     /// The files have one length, and the same bytes as far as a volume of 64 segments goes.
     Same(&'a str, &'a str),
     Lacks(&'a str),
+    /// A file takes less than half the room that it would without holes.
+    HasHoles(&'a str),
     Remove(&'a str),
     RemoveFolder(&'a str),
     /// A symbolic link has this text.
@@ -117,6 +119,10 @@ enum Step<'a> {
     Locked(&'a str, &'a [&'a str], u8, Said<'a>),
     /// Lets nobody write a file.
     Protect(&'a str),
+    /// Gives a file a further name.
+    Name(&'a str, &'a str),
+    /// Makes a symbolic link of this name with this text.
+    Link(&'a str, &'a str),
 }
 
 fn words(alloc: Global, line: &str) -> Result<Vec<String>, AllocError> {
@@ -337,6 +343,13 @@ fn same<R: Files<File = File> + Clock + AllocGlobal>(rt: &R, one: &str, other: &
     }
 }
 
+fn has_holes<R: Files<File = File> + Clock + AllocGlobal>(rt: &R, path: &str) -> bool {
+    match fs::metadata(rt, path) {
+        Ok(metadata) => metadata.blocks().saturating_mul(1_024) < metadata.len(),
+        Err(_) => false,
+    }
+}
+
 fn leads_to<R: Files<File = File> + Clock + AllocGlobal>(rt: &R, path: &str, text: &str) -> bool {
     match fs::read_link(rt, path) {
         Ok(found) => found.as_str() == text,
@@ -378,6 +391,7 @@ fn is_well<R: Files<File = File> + Clock + AllocGlobal>(rt: &R, step: Step<'_>) 
         Step::Damage(sector, at, byte, reply) => is_refused(rt, (sector, at, &[byte]), reply),
         Step::Same(one, other) => same(rt, one, other),
         Step::Lacks(path) => matches!(fs::exists(rt, path), Ok(false)),
+        Step::HasHoles(path) => has_holes(rt, path),
         Step::Remove(path) => fs::remove_file(rt, path).is_ok(),
         Step::RemoveFolder(path) => fs::remove_dir_all(rt, path).is_ok(),
         Step::LeadsTo(path, text) => leads_to(rt, path, text),
@@ -385,6 +399,8 @@ fn is_well<R: Files<File = File> + Clock + AllocGlobal>(rt: &R, step: Step<'_>) 
         Step::Protect(path) => {
             fs::set_permissions(rt, path, Permissions::from_mode(0o444)).is_ok()
         }
+        Step::Name(path, name) => fs::hard_link(rt, path, name).is_ok(),
+        Step::Link(path, text) => symlink(rt, text, path).is_ok(),
     }
 }
 
@@ -995,7 +1011,10 @@ const RECOVERED: &[Step] = &[
         &["lfs recover r.img r.root"],
         b"",
         1,
-        Said::Reply(b"lost / sector 3\nfound /lost+found/2\nok 1 files whole, 0 in part\n"),
+        Said::Reply(
+            b"note: slot 0 holds no checkpoint: a newer state may be lost\n\
+            lost / sector 3\nfound /lost+found/2\nok 1 files whole, 0 in part\n",
+        ),
     ),
     Step::Same("r.root/lost+found/2", "r.want"),
     Step::Change("r.img", LEN, &[(1, 0, b"s")]),
@@ -1034,6 +1053,184 @@ const RECOVERED: &[Step] = &[
 #[test]
 fn damaged_volumes_are_recovered(rt: HostRuntime) {
     want(&rt, RECOVERED);
+}
+
+// What is stored is never all zero, and has no bytes past the end: the file's block, the block of the
+// root's names, a leaf and a double root of zeros, a further byte, and a further block.
+const PARTS: &[Step] = &[
+    Step::Change("p.img", 0, &[]),
+    Step::Change("p.img", LEN, NEW),
+    Step::Change("p.img", LEN, ONE_BYTE),
+    Step::Change("p.img", LEN, &[(8, 0, &[0])]),
+    Step::Change("p.want", 1, &[]),
+    Step::Says(
+        &["lfs recover p.img p.block"],
+        b"",
+        1,
+        Said::Reply(b"part /f\n  block 0 sector 8\nok 0 files whole, 1 in part\n"),
+    ),
+    Step::Same("p.block/f", "p.want"),
+    Step::Change("p.img", LEN, &[(8, 0, b"ab")]),
+    Step::Change("p.want", 1, &[(0, 0, b"a")]),
+    Step::Says(
+        &["lfs recover p.img p.byte"],
+        b"",
+        1,
+        Said::Reply(b"part /f\n  past the end sector 8\nok 0 files whole, 1 in part\n"),
+    ),
+    Step::Same("p.byte/f", "p.want"),
+    Step::Change("p.img", LEN, &[(8, 1, &[0]), (6, 0, &[0; 6])]),
+    Step::Says(
+        &["lfs recover p.img p.names"],
+        b"",
+        1,
+        Said::Reply(
+            b"part /\n  block 0 sector 6\nfound /lost+found/2\nok 1 files whole, 0 in part\n",
+        ),
+    ),
+    Step::Same("p.names/lost+found/2", "p.want"),
+    Step::Change(
+        "p.img",
+        LEN,
+        &[(6, 0, &[2, 0, 0, 0, 1, 0x66]), (7, 12, &[0])],
+    ),
+    Step::Says(
+        &["lfs recover p.img p.further"],
+        b"",
+        1,
+        Said::Reply(b"part /f\n  past the end sector 8\nok 0 files whole, 1 in part\n"),
+    ),
+    // 114 blocks, the last two of which are behind the leaf.
+    Step::Change("p.img", LEN, &[(7, 12, &[0, 0xe4]), (7, 480, &[9])]),
+    Step::Says(
+        &["lfs recover p.img p.leaf"],
+        b"",
+        1,
+        Said::Reply(b"part /f\n  blocks 112 to 113 sector 9\nok 0 files whole, 1 in part\n"),
+    ),
+    // The greatest size, with a double root alone.
+    Step::Change(
+        "p.img",
+        LEN,
+        &[(7, 12, &[0, 0xe0, 0x81]), (7, 480, &[0, 0, 0, 0, 9])],
+    ),
+    Step::Says(
+        &["lfs recover p.img p.root"],
+        b"",
+        1,
+        Said::Reply(b"part /f\n  blocks 240 to 16623 sector 9\nok 0 files whole, 1 in part\n"),
+    ),
+    Step::HasHoles("p.root/f"),
+    // The block of the map.
+    Step::Change("p.img", LEN, &[(4, 4, &[0, 0, 0, 0, 0])]),
+    Step::Says(
+        &["lfs recover p.img p.map"],
+        b"",
+        1,
+        Said::Reply(b"lost numbers 0 to 127 sector 4\nlost /\nok 0 files whole, 0 in part\n"),
+    ),
+    Step::Remove("p.img"),
+    Step::Remove("p.want"),
+    Step::RemoveFolder("p.block"),
+    Step::RemoveFolder("p.byte"),
+    Step::RemoveFolder("p.names"),
+    Step::RemoveFolder("p.further"),
+    Step::RemoveFolder("p.leaf"),
+    Step::RemoveFolder("p.root"),
+    Step::RemoveFolder("p.map"),
+];
+
+#[test]
+fn zeros_and_bytes_past_the_end_are_parts(rt: HostRuntime) {
+    want(&rt, PARTS);
+}
+
+// Two commits after that of `mkfs`: the second one of them is number 3, in slot 1.
+const LOST_SLOT: &[Step] = &[
+    Step::Says(&["lfs mkfs l.img --segments 64"], b"", 0, OK),
+    Step::Says(
+        &["lfs recover l.img l.new"],
+        b"",
+        0,
+        Said::Reply(b"ok 0 files whole, 0 in part\n"),
+    ),
+    Step::Says(
+        &["lfs run l.img"],
+        b"create /a\nsync\ncreate /b\nsync\n",
+        0,
+        Said::Reply(b"ok 0\nok\nok 1\nok\n"),
+    ),
+    Step::Says(
+        &["lfs recover l.img l.whole"],
+        b"",
+        0,
+        Said::Reply(b"ok 2 files whole, 0 in part\n"),
+    ),
+    Step::Change("l.img", LEN, &[(1, 0, &[0; 512])]),
+    Step::Says(
+        &["lfs recover l.img l.newest"],
+        b"",
+        1,
+        Said::Tells(
+            b"note: slot 1 holds no checkpoint: a newer state may be lost\n\
+            ok 1 files whole, 0 in part\n",
+            b"lfs: l.img: what is missing, or isn't under its own name, is named on standard output\n",
+        ),
+    ),
+    Step::Remove("l.img"),
+    Step::RemoveFolder("l.new"),
+    Step::RemoveFolder("l.whole"),
+    Step::RemoveFolder("l.newest"),
+];
+
+#[test]
+fn a_lost_slot_is_told(rt: HostRuntime) {
+    want(&rt, LOST_SLOT);
+}
+
+const HOLES: &[Step] = &[
+    Step::Says(&["lfs mkfs h.img --segments 64"], b"", 0, OK),
+    Step::Says(
+        &["lfs run h.img"],
+        b"create /h\ntruncate 0 1000000\nsync\npwrite 0 500000 61\nsync\n",
+        0,
+        Said::Reply(b"ok 0\nok\nok\nok 1\nok\n"),
+    ),
+    Step::Says(
+        &["lfs get h.img /h h.out"],
+        b"",
+        0,
+        Said::Reply(b"ok 1000000\n"),
+    ),
+    Step::Says(
+        &["lfs export h.img h.tree"],
+        b"",
+        0,
+        Said::Reply(b"ok 1 files 1000000 bytes\n"),
+    ),
+    Step::Says(
+        &["lfs recover h.img h.safe"],
+        b"",
+        0,
+        Said::Reply(b"ok 1 files whole, 0 in part\n"),
+    ),
+    Step::Change("h.want", 1_000_000, &[(976, 288, b"a")]),
+    Step::Same("h.out", "h.want"),
+    Step::Same("h.tree/h", "h.want"),
+    Step::Same("h.safe/h", "h.want"),
+    Step::HasHoles("h.out"),
+    Step::HasHoles("h.tree/h"),
+    Step::HasHoles("h.safe/h"),
+    Step::Remove("h.img"),
+    Step::Remove("h.out"),
+    Step::Remove("h.want"),
+    Step::RemoveFolder("h.tree"),
+    Step::RemoveFolder("h.safe"),
+];
+
+#[test]
+fn holes_stay_holes(rt: HostRuntime) {
+    want(&rt, HOLES);
 }
 
 const ONE_FILE: &[u8] = b"create /a\nsync\n";
@@ -1297,6 +1494,206 @@ const MEDIA: &[Step] = &[
 #[test]
 fn images_that_others_use(rt: HostRuntime) {
     want(&rt, MEDIA);
+}
+
+const DONE: Said = Said::Tells(b"ok\n", b"");
+
+const ONE_FILE_STAYS: Said = Said::Tells(
+    b"err Image\n",
+    b"lfs: q.img: this seems to be a volume with 1 file; make a new one over it? [y/N] \
+    lfs: q.img: the answer wasn't yes, so nothing was done\n",
+);
+
+// Where the input ends the text begins a line of its own.
+const ENDED_STAYS: Said = Said::Tells(
+    b"err Image\n",
+    b"lfs: q.img: this seems to be a volume with 1 file; make a new one over it? [y/N] \n\
+    lfs: q.img: the answer wasn't yes, so nothing was done\n",
+);
+
+// A file that has bytes is emptied only where a person at a terminal agrees.
+const QUESTIONS: &[Step] = &[
+    Step::Change("q.want", LEN, NEW),
+    Step::AtTerminal("lfs mkfs q.img --segments 64", b"", 0, DONE),
+    Step::Same("q.img", "q.want"),
+    Step::AtTerminal(
+        "lfs mkfs q.img --segments 72",
+        b"n\n",
+        1,
+        Said::Tells(
+            b"err Image\n",
+            b"lfs: q.img: this seems to be a volume with 0 files; make a new one over it? [y/N] \
+            lfs: q.img: the answer wasn't yes, so nothing was done\n",
+        ),
+    ),
+    // A file with two names is one.
+    Step::Says(
+        &["lfs run q.img"],
+        b"create /f\nlink /f /g\nmkdir /d\nsymlink 66 /s\nsync\n",
+        0,
+        Said::Reply(b"ok 0\nok\nok\nok\nok\n"),
+    ),
+    Step::AtTerminal("lfs mkfs q.img --segments 64", b"no\n", 1, ONE_FILE_STAYS),
+    Step::AtTerminal("lfs mkfs q.img --segments 64", b"\n", 1, ONE_FILE_STAYS),
+    Step::AtTerminal("lfs mkfs q.img --segments 64", b"yy\n", 1, ONE_FILE_STAYS),
+    Step::AtTerminal("lfs mkfs q.img --segments 64", b"y \n", 1, ONE_FILE_STAYS),
+    Step::AtTerminal("lfs mkfs q.img --segments 64", b"n\ny\n", 1, ONE_FILE_STAYS),
+    Step::AtTerminal("lfs mkfs q.img --segments 64", b"", 1, ENDED_STAYS),
+    Step::AtTerminal("lfs mkfs q.img --segments 64", b"yes", 1, ENDED_STAYS),
+    Step::Says(&["lfs ls q.img"], b"", 0, Said::Reply(b"d/\nf\ng\ns\n")),
+];
+
+// What a question calls the file, and answers that agree.
+const AGREED: &[Step] = &[
+    Step::Change("q.want", LEN, NEW),
+    Step::Change("q.img", 3_000, &[]),
+    Step::AtTerminal(
+        "lfs mkfs q.img --segments 64",
+        b"y\n",
+        0,
+        Said::Tells(
+            b"ok\n",
+            b"lfs: q.img: this seems to be another file of 3,000 bytes; make a volume over it? [y/N] ",
+        ),
+    ),
+    Step::Same("q.img", "q.want"),
+    Step::Change("q.img", 1, &[]),
+    Step::AtTerminal(
+        "lfs mkfs q.img --segments 64",
+        b"Yes\n",
+        0,
+        Said::Tells(
+            b"ok\n",
+            b"lfs: q.img: this seems to be another file of 1 byte; make a volume over it? [y/N] ",
+        ),
+    ),
+    Step::Same("q.img", "q.want"),
+    // A checkpoint that names a segment of usage that isn't there.
+    Step::Change("q.img", LEN, &[(1, 160, &[6])]),
+    Step::AtTerminal(
+        "lfs mkfs q.img --segments 64",
+        b"YES\n",
+        0,
+        Said::Tells(
+            b"ok\n",
+            b"lfs: q.img: this seems to be a damaged volume; make a new one over it? [y/N] ",
+        ),
+    ),
+    Step::Same("q.img", "q.want"),
+    Step::Change("q.img", LEN, &[(0, 0, b"SLFSCKP1"), (1, 0, &[0])]),
+    Step::AtTerminal(
+        "lfs mkfs q.img --segments 64",
+        b"Y\n",
+        0,
+        Said::Tells(
+            b"ok\n",
+            b"lfs: q.img: this seems to be a damaged volume; make a new one over it? [y/N] ",
+        ),
+    ),
+    Step::Same("q.img", "q.want"),
+    // Nothing is asked of an empty file, and by force of none.
+    Step::AtTerminal("lfs mkfs q.img --segments 64 --force", b"", 0, DONE),
+    Step::Change("q.img", 0, &[]),
+    Step::AtTerminal("lfs mkfs q.img --segments 64", b"", 0, DONE),
+    Step::Same("q.img", "q.want"),
+    Step::Remove("q.img"),
+    Step::Remove("q.want"),
+];
+
+#[test]
+fn volumes_over_files(rt: HostRuntime) {
+    want(&rt, QUESTIONS);
+    want(&rt, AGREED);
+}
+
+// A new image stands under another name until it is whole, which one program has at a time. What
+// a stop left under that name begins anew, but never a file that has another name too.
+const UNMADE: &[Step] = &[
+    Step::Change("u.want", LEN, NEW),
+    Step::Change(
+        "u.img.lfs-make",
+        9_000,
+        &[(0, 0, b"left"), (17, 100, b"left")],
+    ),
+    Step::Says(&["lfs mkfs u.img --segments 64"], b"", 0, OK),
+    Step::Same("u.img", "u.want"),
+    Step::Lacks("u.img.lfs-make"),
+    Step::Remove("u.img"),
+    Step::Change("u.img.lfs-make", 0, &[]),
+    Step::Locked(
+        "u.img.lfs-make",
+        &["lfs mkfs u.img --segments 64"],
+        1,
+        Said::Tells(
+            b"err Image\n",
+            b"lfs: u.img: it is in use: another program has held its lock for a second\n",
+        ),
+    ),
+    Step::Lacks("u.img"),
+    Step::Remove("u.img.lfs-make"),
+    Step::Change("kept.img", 4, &[(0, 0, b"kept")]),
+    Step::Change("kept.want", 4, &[(0, 0, b"kept")]),
+    Step::Name("kept.img", "u.img.lfs-make"),
+    Step::Says(&["lfs mkfs u.img --segments 64"], b"", 0, OK),
+    Step::Same("u.img", "u.want"),
+    Step::Lacks("u.img.lfs-make"),
+    Step::Same("kept.img", "kept.want"),
+    Step::Remove("u.img"),
+    Step::Link("u.img.lfs-make", "kept.img"),
+    Step::Says(&["lfs mkfs u.img --segments 64"], b"", 1, ASIDE),
+    Step::Same("kept.img", "kept.want"),
+    Step::Remove("u.img.lfs-make"),
+    Step::Says(
+        &["lfs export u.want u.img.lfs-make"],
+        b"",
+        0,
+        Said::Reply(b"ok 0 files 0 bytes\n"),
+    ),
+    Step::Says(&["lfs mkfs u.img --segments 64"], b"", 1, ASIDE),
+    Step::Lacks("u.img"),
+    Step::RemoveFolder("u.img.lfs-make"),
+    Step::Remove("kept.img"),
+    Step::Remove("kept.want"),
+    Step::Remove("u.want"),
+];
+
+const ASIDE: Said = Said::Tells(
+    b"err Image\n",
+    b"lfs: u.img: something other than a file has its name with `.lfs-make` behind\n",
+);
+
+// Where a symbolic link leads to nothing, what it leads to is made.
+const LED_TO: &[Step] = &[
+    Step::Change("l.want", LEN, NEW),
+    Step::Link("l.img", "./m.img"),
+    Step::Link("m.img", "n.img"),
+    Step::Says(&["lfs mkfs l.img --segments 64"], b"", 0, OK),
+    Step::Same("n.img", "l.want"),
+    Step::LeadsTo("l.img", "./m.img"),
+    Step::LeadsTo("m.img", "n.img"),
+    Step::Lacks("l.img.lfs-make"),
+    Step::Lacks("n.img.lfs-make"),
+    Step::Remove("m.img"),
+    Step::Link("m.img", "none/n.img"),
+    Step::Says(
+        &["lfs mkfs l.img --segments 64"],
+        b"",
+        1,
+        Said::Tells(
+            b"err Image\n",
+            b"lfs: l.img: there is no such file or folder\n",
+        ),
+    ),
+    Step::Remove("l.img"),
+    Step::Remove("m.img"),
+    Step::Remove("n.img"),
+    Step::Remove("l.want"),
+];
+
+#[test]
+fn images_under_way(rt: HostRuntime) {
+    want(&rt, UNMADE);
+    want(&rt, LED_TO);
 }
 
 const NOT_THERE: Said = Said::OfPath(b"err NoEntry\n", b"the volume has nothing of this name");
