@@ -427,7 +427,7 @@ fn answer_request<'a, R: Files<File = File> + Clock, I: Read, W: Write, E: Write
     errors: &mut E,
 ) -> Answered<'a>
     ensures strict { IfOk result.told (λ told. told.outcome ≡ Outcome.CallRefused
-        → IsStrict request) }
+        → IsStrict request.entry) }
 {
     match request {
         Request::Run { image } => {
