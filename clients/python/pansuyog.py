@@ -51,6 +51,8 @@ __all__ += ["Entry", "Space", "Stat", "TreeRow", "Written", "make"]
 _NO_MEMORY = "there isn't enough memory"
 _DEVICE = "a read, a write or a sync of it failed"
 _UNWRITABLE = "it can't be written"
+# What `lfs run` says at its end of a script that doesn't end with a sync.
+_UNSAVED = "what was done since the last `sync` isn't saved"
 _CALL_TEXTS = {
     "NoEntry": "the volume has nothing of this name",
     "NotDir": "a directory is needed here",
@@ -71,7 +73,7 @@ _CALL_TEXTS = {
     "DirFull": "the directory has 1024 entries",
     "NoMemory": _NO_MEMORY,
     "Device": _DEVICE,
-    "Halted": f"{_UNWRITABLE}: a write or a sync of it failed",
+    "Halted": f"{_UNWRITABLE}: {_DEVICE}",
     "Stuck": "too few of its segments are clean",
     "Worn": "it was changed too often to be changed again",
 }
@@ -241,9 +243,9 @@ def _started(lfs, words):
         raise FileNotFoundError(f'the program {lfs} isn\'t {where}; pass ProcessVolume(image, lfs="../lfs")') from None
 
 
-def _cause(errors, reply):
-    """What standard error says, without the program's name, or else the reply."""
-    lines = errors.decode(errors="replace").strip().splitlines()
+def _cause(errors, reply, but=None):
+    """What standard error says, without the program's name and without lines that have some words, or else the reply."""
+    lines = [line for line in errors.decode(errors="replace").splitlines() if line and not (but and but in line)]
     return "; ".join(line[5:] if line.startswith("lfs: ") else line for line in lines) or reply
 
 
@@ -255,9 +257,9 @@ def make(image, segments, lfs=None, format=1, *, library=None, force=False, rese
     and an earlier content is gone. With `reserve=True` each sector is written first, so that the disk has room for all of them: else the
     image is sparse, and a disk that is full makes a later call `Halted`.
 
-    By the library a new image gets its name once the volume is made and synced: after any stop it is there whole or not at all. Until then
-    it stands beside as IMAGE.lfs-make, and what a stop leaves of that the next `make` begins anew. Where a file can't have two names, as on
-    vfat and exFAT, a stop may leave an empty file of the image's name too. By the program a stop may leave an image that isn't whole."""
+    A new image gets its name once the volume is made and synced: after any stop it is there whole or not at all. Until then it stands beside
+    as IMAGE.lfs-make, and what a stop leaves of that the next `make` begins anew. Where a file can't have two names, as on vfat and exFAT, a
+    stop may leave an empty file of the image's name too."""
     if lfs is None:
         Volume._make(image, segments, format, reserve, force, library)
     else:
@@ -265,31 +267,17 @@ def make(image, segments, lfs=None, format=1, *, library=None, force=False, rese
 
 
 def _make_by_program(image, segments, lfs, format, reserve, force):
+    if not force:
+        with _told_of(image):
+            _refuse_present(image, os.path.realpath(os.fsdecode(image)))
     words = [*["--force"] * force, *["--reserve"] * reserve]
-    with contextlib.nullcontext() if force else _new_name(image):
-        with _started(lfs, ["mkfs", os.fspath(image), "--segments", str(segments), "--format", str(format), *words]) as child:
-            output, errors = child.communicate()
-        reply = output.decode(errors="replace").strip()
-        if reply.startswith("err "):
-            raise _refusal(reply.split()[1], _cause(errors, reply))
-        if child.returncode != 0:
-            raise ChildDied(f"lfs mkfs ended with status {child.returncode}: {_cause(errors, reply)}")
-
-
-@contextlib.contextmanager
-def _new_name(image):
-    """Takes a name for an image that is made meanwhile. It must be free, and is free again where that fails."""
-    path = os.path.realpath(os.fsdecode(image))
-    with _told_of(image):
-        _refuse_present(image, path)
-        _hold(path)
-    try:
-        yield
-    except BaseException:
-        with contextlib.suppress(OSError):
-            os.unlink(path)
-        raise
-    _sync_folder(image, path)
+    with _started(lfs, ["mkfs", os.fspath(image), "--segments", str(segments), "--format", str(format), *words]) as child:
+        output, errors = child.communicate()
+    reply = output.decode(errors="replace").strip()
+    if reply.startswith("err "):
+        raise _refusal(reply.split()[1], _cause(errors, reply))
+    if child.returncode != 0:
+        raise ChildDied(f"lfs mkfs ended with status {child.returncode}: {_cause(errors, reply)}")
 
 
 class Calls:
@@ -756,9 +744,9 @@ class ProcessVolume(Files):
             raise ChildDied(f"{self._sent}: lfs run ended with status {status}: {cause}")
         return line[:-1].decode("ascii").split(" ")
 
-    def _end(self, reply):
-        """The child's status, once it has ended, and what it says of that."""
-        return self._child.wait(), _cause(self._child.stderr.read(), reply)
+    def _end(self, reply, but=None):
+        """The child's status, once it has ended, and what it says of that, but for lines that have some words."""
+        return self._child.wait(), _cause(self._child.stderr.read(), reply, but)
 
     def _call(self, name, *arguments):
         if self._is_read_only:
@@ -789,7 +777,8 @@ class ProcessVolume(Files):
         if refusal == "Halted":
             with contextlib.suppress(OSError):
                 self._child.stdin.close()
-            _, cause = self._end("")
+            # That something isn't saved goes without saying.
+            _, cause = self._end("", but=_UNSAVED)
             self._halted_by = f"{_UNWRITABLE}: {cause}" if cause else _CALL_TEXTS[refusal]
         return _refused_call(name, arguments, refusal, self._halted_by)
 
@@ -934,7 +923,7 @@ _IMAGE_TEXTS = {
     errno.ENOTBLK: "it is neither a regular file nor a block device",
     errno.EWOULDBLOCK: "it is in use: another program has held its lock for a second",
 }
-_SYSTEM = "the system refuses to open it or to tell its length"
+_SYSTEM = "the system refuses to open it or to make it"
 _PRESENT = "it is there already; make(.., force=True) makes a volume in its place"
 _LOCK_TRIES, _LOCK_PAUSE = 1_000, 0.001
 # How a write fails that finds no room: nothing that was written before is in doubt then.
@@ -1106,29 +1095,26 @@ def _opened_unmade(image, path):
             os.unlink(place)
     file = _opened(place, os.O_RDWR | os.O_CREAT | os.O_NOFOLLOW)
     try:
-        if not _has_name(file, place):
-            raise BlockingIOError(errno.EWOULDBLOCK, "another make had it")
+        is_ours = _has_name_alone(file, place)
         if os.path.lexists(path):
-            with contextlib.suppress(FileNotFoundError):
+            if is_ours:
                 os.unlink(place)
             raise _refused_image(image, _PRESENT)
+        if not is_ours:
+            raise BlockingIOError(errno.EWOULDBLOCK, "another make had it")
     except BaseException:
         os.close(file)
         raise
     return file
 
 
-def _has_name(file, place):
-    """Whether an open file still has its name. Another `make` may have taken that away, until this one got the lock."""
+def _has_name_alone(file, place):
+    """Whether an open file still has its name, and no other. Another `make` may have had it until the lock was there."""
     try:
-        return os.path.samestat(os.fstat(file), os.lstat(place))
+        held = os.fstat(file)
+        return held.st_nlink <= 1 and os.path.samestat(held, os.lstat(place))
     except FileNotFoundError:
         return False
-
-
-def _hold(path):
-    """Makes an empty file of a name that is free."""
-    os.close(os.open(path, os.O_WRONLY | os.O_CREAT | os.O_EXCL | os.O_CLOEXEC, 0o666))
 
 
 def _name(place, path):
@@ -1138,16 +1124,26 @@ def _name(place, path):
     except OSError as error:
         if error.errno not in _NO_LINKS:
             raise
-        _hold(path)
+        _replace(place, path)
+    else:
+        # Another `make` may have taken it for what a stop leaves.
+        with contextlib.suppress(FileNotFoundError):
+            os.unlink(place)
+
+
+def _replace(place, path):
+    """Gives a whole image its own name, which an empty file holds before. What another wrote there meanwhile stays."""
+    held = _opened(path, os.O_RDWR | os.O_CREAT | os.O_EXCL)
+    try:
+        if os.fstat(held).st_size:
+            raise FileExistsError(errno.EEXIST, "another program wrote there")
         try:
             os.rename(place, path)
         except BaseException:
             os.unlink(path)
             raise
-    else:
-        # Another `make` may have taken it for what a stop leaves.
-        with contextlib.suppress(FileNotFoundError):
-            os.unlink(place)
+    finally:
+        os.close(held)
 
 
 def _sync_folder(image, path):
@@ -1211,8 +1207,6 @@ class Volume(Files):
         with contextlib.closing(made), contextlib.nullcontext() if is_over else made._naming(path):
             made._empty(_SECTOR * (2 + 64 * segments), reserve)
             made._begin("format", segments, format)
-        if not is_over:
-            _sync_folder(image, path)
 
     @contextlib.contextmanager
     def _naming(self, path):
@@ -1222,6 +1216,8 @@ class Volume(Files):
             yield
             with _told_of(self._image):
                 _name(place, path)
+            place = path
+            _sync_folder(self._image, path)
         except BaseException:
             with contextlib.suppress(OSError):
                 os.unlink(place)

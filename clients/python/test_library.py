@@ -343,7 +343,7 @@ class Making(OfTheLibrary):
             "ftruncate": (pansuyog.Image, "the file can't have the length of the volume"),
             "pwrite": (pansuyog.Device, "a write of it failed"),
             "fsync": (pansuyog.Device, "a sync of it failed"),
-            "link": (pansuyog.Image, "the system refuses to open it or to tell its length"),
+            "link": (pansuyog.Image, "the system refuses to open it or to make it"),
         }
         for name, (refusal, text) in told.items():
             with mock.patch(f"os.{name}", side_effect=full), self.assertRaises(refusal) as caught:
@@ -374,6 +374,21 @@ class Making(OfTheLibrary):
             used().make(self.image, 64)
         self.assertEqual(str(caught.exception), f"{self.image}: the folder that has it can't be synced: Input/output error")
         self.assertTrue(caught.exception.needs_restart)
+        self.assertEqual(os.listdir(self.folder), [])
+
+    def test_what_another_writes_meanwhile_stays(self):
+        lock = fcntl.flock
+
+        def writing(file, kind):
+            lock(file, kind)
+            if os.path.exists(self.image):
+                put(self.image, b"another's")
+
+        with mock.patch("os.link", is_no_link), mock.patch("fcntl.flock", writing):
+            self.assertRaisesRegex(pansuyog.Image, "it is there already", used().make, self.image, 64)
+        with open(self.image, "rb") as file:
+            self.assertEqual(file.read(), b"another's")
+        self.assertEqual(os.listdir(self.folder), ["disk.img"])
 
     def test_a_file_that_cannot_be_so_long_keeps_its_content(self):
         put(self.image, b"a letter")

@@ -632,14 +632,15 @@ class Child(OnAVolume):
 
     def test_a_halted_volume_tells_what_the_program_says(self):
         halted = "while read word rest; do case $word in space) echo ok 0 1 727 3008;; *) echo err Halted;; esac; done\n"
-        volume = self.scripted(halted + f"echo 'lfs: a write of {self.image} failed: No space left on device' >&2")
+        unsaved = f"echo 'lfs: {self.image}: what was done since the last `sync` isn'\"'\"'t saved; end the script with the line sync' >&2\n"
+        volume = self.scripted(halted + f"echo 'lfs: a write of {self.image} failed: No space left on device' >&2\n{unsaved}")
         for call, line in ((volume.sync, "sync"), (volume.clean, "clean"), (lambda: volume.create("/f"), "create /f")):
             with self.assertRaises(pansuyog.Halted) as caught:
                 call()
             self.assertEqual(str(caught.exception), f"{line}: it can't be written: a write of {self.image} failed: No space left on device")
             self.assertTrue(caught.exception.needs_restart)
-        volume = self.scripted(halted)
-        self.assertRaisesRegex(pansuyog.Halted, "^sync: it can't be written: a write or a sync of it failed$", volume.sync)
+        volume = self.scripted(halted + unsaved)
+        self.assertRaisesRegex(pansuyog.Halted, "^sync: it can't be written: a read, a write or a sync of it failed$", volume.sync)
 
     def test_a_call_that_is_interrupted_ends_the_child(self):
         volume = self.mounted()

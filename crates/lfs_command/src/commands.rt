@@ -1,9 +1,9 @@
 //! The commands, over words and streams that are handed in.
-ghost use Rattle.std.specs.Prelude.{◌≡◌, ◌≢◌, ◌≤◌, Ok, IfOk, codes, false, true};
+ghost use Rattle.std.specs.Prelude.{◌≡◌, ◌≢◌, ◌≤◌, Ok, IfOk, OnOk, codes, false, true};
 ghost use Rattle.std.specs.Io.KnownBytes.{Keeps};
 ghost use Rattle.lfs_model.specs.Device.{Carries};
 ghost use Rattle.lfs_device.specs.MemoryDevice.{device_state};
-ghost use Rattle.lfs_command.specs.Asking.{HasWord};
+ghost use Rattle.lfs_command.specs.Asking.{HasWord, IsStrict};
 ghost use Rattle.lfs_command.specs.Playing.{PlaysToRefusal, Plays, PlaysStrictly, TellsSaved};
 
 use crate::bad_line::{put_bad_line, reason_of};
@@ -168,6 +168,29 @@ fn explain_outcome<Here: World>(
     }
 }
 
+fn run<Here: World, R: Files<File = File> + Clock, I: Read, W: Write>(
+    rt: &R,
+    alloc: Global,
+    image: &str,
+    input: &mut I,
+    output: &mut W,
+) -> Played<Ending> {
+    match image::open_to_write::<Here, R>(rt, image) {
+        Ok(device) => {
+            let mut looks = Looks::new();
+            let (played, mut device) = play(alloc, device, input, output, &mut looks);
+            Played {
+                end: explain_ending(played.end, &mut device),
+                is_saved: played.is_saved,
+            }
+        }
+        Err(fault) => Played {
+            end: refuse(output, Refusal::Image(fault)),
+            is_saved: true,
+        },
+    }
+}
+
 // The outcome of a command that ended so.
 fn outcome_of(ending: Result<Ending, Fault>) -> Result<Outcome, Fault>
     ensures { result ≢ Ok Outcome.CallRefused }
@@ -175,31 +198,6 @@ fn outcome_of(ending: Result<Ending, Fault>) -> Result<Outcome, Fault>
     match ending {
         Ok(ending) => Ok(Outcome::Ended(ending)),
         Err(fault) => Err(fault),
-    }
-}
-
-fn run<Here: World, R: Files<File = File> + Clock, I: Read, W: Write>(
-    rt: &R,
-    alloc: Global,
-    image: &str,
-    input: &mut I,
-    output: &mut W,
-) -> Played<Outcome>
-    ensures { result.end ≢ Ok Outcome.CallRefused }
-{
-    match image::open_to_write::<Here, R>(rt, image) {
-        Ok(device) => {
-            let mut looks = Looks::new();
-            let (played, mut device) = play(alloc, device, input, output, &mut looks);
-            Played {
-                end: outcome_of(explain_ending(played.end, &mut device)),
-                is_saved: played.is_saved,
-            }
-        }
-        Err(fault) => Played {
-            end: outcome_of(refuse(output, Refusal::Image(fault))),
-            is_saved: true,
-        },
     }
 }
 
@@ -326,10 +324,11 @@ fn finish_sim<W: Write>(
 // Runs a script on a volume in memory, prints the number of writes, and the tree after a stop.
 fn sim<I: Read, W: Write>(
     alloc: Global,
-    plan: Plan,
+    plan: Result<Plan, Fault>,
     input: &mut I,
     output: &mut W,
 ) -> Result<Ending, Fault> {
+    let plan = plan?;
     let device = match simulation::start(alloc, plan) {
         Ok(device) => device,
         Err(refusal) => return refuse(output, refusal),
@@ -363,8 +362,10 @@ fn act<Here: World, R: Files<File = File> + Clock, I: Read, W: Write, E: Write>(
             let making = making_of(terminals, segments, version, force, reserve)?;
             mkfs::<Here, R, I, W, E>(rt, alloc, image, making, input, output, errors)
         }
-        Action::Look(asked) => look::<Here, R, W>(rt, alloc, image, asked, output),
-        Action::Explain => explain::<Here, R, W>(rt, alloc, image, output),
+        Action::Look(asked, patience) => {
+            look::<Here, R, W>(rt, alloc, image, asked, patience, output)
+        }
+        Action::Explain(patience) => explain::<Here, R, W>(rt, alloc, image, patience, output),
         Action::Recover(asked) => recover::<Here, R, W>(rt, alloc, image, asked, output),
         Action::Change(asked) => change_volume::<Here, R, W>(rt, alloc, image, asked, output),
         Action::Put(source) => {
@@ -391,37 +392,84 @@ fn told<'a>(
     }
 }
 
-fn help<W: Write>(text: &str, output: &mut W) -> Result<Ending, Fault> {
-    print(output, text)?;
-    Ok(Ending::Done)
-}
-
-// Answers what comes of a script on an image.
-fn answer_run<'a>(image: &'a str, played: Played<Outcome>) -> Answered<'a>
-    ensures { IfOk result.told (λ told. Ok told.outcome ≡ played.end) }
+// The same of a strict script on an image.
+fn told_strictly<'a>(image: &'a str, outcome: Result<Outcome, Fault>) -> Result<Told<'a>, Fault>
+    ensures { IfOk result (λ told. Ok told.outcome ≡ outcome) }
 {
-    let unsaved = if played.is_saved { None } else { Some(image) };
-    let told = match played.end {
+    match outcome {
         Ok(outcome) => Ok(Told {
             subject: image,
             path: None,
             outcome,
         }),
         Err(fault) => Err(fault),
-    };
-    Answered { told, unsaved }
-}
-
-// Answers what has nothing to save.
-fn answer_told<'a>(told: Result<Told<'a>, Fault>) -> Answered<'a>
-    ensures { result.told ≡ told }
-{
-    Answered {
-        told,
-        unsaved: None,
     }
 }
 
+fn help<W: Write>(text: &str, output: &mut W) -> Result<Ending, Fault> {
+    print(output, text)?;
+    Ok(Ending::Done)
+}
+
+// The image of a script, where something that it did isn't saved.
+fn unsaved_of(image: &str, is_saved: bool) -> Option<&str> {
+    if is_saved { None } else { Some(image) }
+}
+
+// Does what a command line asks for.
+fn answer_request<'a, R: Files<File = File> + Clock, I: Read, W: Write, E: Write>(
+    rt: &R,
+    alloc: Global,
+    terminals: Terminals,
+    request: Request<'a>,
+    input: &mut I,
+    output: &mut W,
+    errors: &mut E,
+) -> Answered<'a>
+    ensures strict { IfOk result.told (λ told. told.outcome ≡ Outcome.CallRefused
+        → IsStrict request) }
+{
+    match request {
+        Request::Run { image } => {
+            let played = run::<ThisWorld, R, I, W>(rt, alloc, image, input, output);
+            let unsaved = unsaved_of(image, played.is_saved);
+            let told = told(image, None, played.end);
+            Answered { told, unsaved }
+        }
+        Request::Strict { image } => {
+            let played = run_strict::<ThisWorld, R, I, W>(rt, alloc, image, input, output);
+            let unsaved = unsaved_of(image, played.is_saved);
+            let told = told_strictly(image, played.end);
+            Answered { told, unsaved }
+        }
+        Request::Help(text) => {
+            let told = told(IN_MEMORY, None, help(text.as_str(), output));
+            let unsaved = None;
+            Answered { told, unsaved }
+        }
+        Request::Image { image, action } => {
+            let ending = act::<ThisWorld, R, I, W, E>(
+                rt, alloc, terminals, image, action, input, output, errors,
+            );
+            let told = told(image, action.path(), ending);
+            let unsaved = None;
+            Answered { told, unsaved }
+        }
+        Request::Sim {
+            segments,
+            version,
+            stop,
+            left,
+        } => {
+            let plan = read_plan(segments, version, stop, left);
+            let told = told(IN_MEMORY, None, sim(alloc, plan, input, output));
+            let unsaved = None;
+            Answered { told, unsaved }
+        }
+    }
+}
+
+// Answers words, of which those that ask for nothing are a fault.
 fn answer<'a, R: Files<File = File> + Clock, I: Read, W: Write, E: Write>(
     rt: &R,
     alloc: Global,
@@ -435,52 +483,25 @@ fn answer<'a, R: Files<File = File> + Clock, I: Read, W: Write, E: Write>(
         → HasWord words.now (codes "--strict")) }
 {
     match read_request(alloc, words) {
-        Ok(Request::Help(text)) => {
-            answer_told(told(IN_MEMORY, None, help(text.as_str(), output)))
+        Ok(request) => answer_request(rt, alloc, terminals, request, input, output, errors),
+        Err(fault) => {
+            let told = Err(fault);
+            let unsaved = None;
+            Answered { told, unsaved }
         }
-        Ok(Request::Image { image, action }) => {
-            let ending = act::<ThisWorld, R, I, W, E>(
-                rt, alloc, terminals, image, action, input, output, errors,
-            );
-            answer_told(told(image, action.path(), ending))
-        }
-        Ok(Request::Run { image }) => {
-            answer_run(
-                image,
-                run::<ThisWorld, R, I, W>(rt, alloc, image, input, output),
-            )
-        }
-        Ok(Request::Strict { image }) => {
-            answer_run(
-                image,
-                run_strict::<ThisWorld, R, I, W>(rt, alloc, image, input, output),
-            )
-        }
-        Ok(
-            Request::Sim {
-                segments,
-                version,
-                stop,
-                left,
-            },
-        ) => match read_plan(segments, version, stop, left) {
-            Ok(plan) => answer_told(told(IN_MEMORY, None, sim(alloc, plan, input, output))),
-            Err(fault) => answer_told(Err(fault)),
-        },
-        Err(fault) => answer_told(Err(fault)),
     }
 }
 
-// What is told where an output was flushed so.
-fn told_behind<'a>(
-    told: Result<Told<'a>, Fault>,
-    flushed: Result<(), Fault>,
-) -> Result<Told<'a>, Fault>
-    ensures { IfOk result (λ all. told ≡ Ok all) }
+// An answer whose output can't be flushed. An earlier fault is told alone.
+fn answer_unflushed<'a>(answered: Answered<'a>, fault: Fault) -> Answered<'a>
+    ensures { OnOk result.told ⊥ }
 {
-    let told = told?;
-    flushed?;
-    Ok(told)
+    let unsaved = answered.unsaved;
+    let told = match answered.told {
+        Ok(_) => Err(fault),
+        Err(earlier) => Err(earlier),
+    };
+    Answered { told, unsaved }
 }
 
 // What came before a fault goes out before its text.
@@ -497,10 +518,9 @@ fn answer_and_flush<'a, R: Files<File = File> + Clock, I: Read, W: Write, E: Wri
         → HasWord words.now (codes "--strict")) }
 {
     let answered = answer(rt, alloc, terminals, words, input, output, errors);
-    let flushed = flush(output);
-    Answered {
-        told: told_behind(answered.told, flushed),
-        unsaved: answered.unsaved,
+    match flush(output) {
+        Ok(()) => answered,
+        Err(fault) => answer_unflushed(answered, fault),
     }
 }
 
@@ -522,7 +542,11 @@ fn answer_buffered<'a, R: Files<File = File> + Clock, I: Read, O: Write, E: Writ
         Ok(mut buffered) => {
             answer_and_flush(rt, alloc, terminals, words, input, &mut buffered, errors)
         }
-        Err(_) => answer_told(Err(Fault::Memory(AllocError))),
+        Err(_) => {
+            let told = Err(Fault::Memory(AllocError));
+            let unsaved = None;
+            Answered { told, unsaved }
+        }
     }
 }
 
@@ -536,43 +560,24 @@ fn tell<I, E: Write>(alloc: Global, told: Told<'_>, input: &LineKeeper<I>, error
     let _ = put_bad_line(errors, number, reason);
 }
 
-// Tells people that what a script did on an image isn't all saved.
-fn tell_unsaved<E: Write>(image: &str, errors: &mut E) -> Result<(), Fault> {
+// Writes the line that tells people that what a script did on an image isn't all saved.
+fn put_unsaved<E: Write>(errors: &mut E, image: &str) -> Result<(), Fault> {
     put(errors, b"lfs: ")?;
     put(errors, image.as_bytes())?;
     put(errors, UNSAVED)
 }
 
-// Tells people what came of a command, and answers the exit status.
-fn tell_outcome<I, E: Write>(
-    alloc: Global,
-    told: Result<Told<'_>, Fault>,
-    input: &LineKeeper<I>,
-    errors: &mut E,
-) -> u8
-    ensures most { result ≤ 3 }
-    ensures strict { result ≡ 3 → IfOk told (λ told. told.outcome ≡ Outcome.CallRefused) }
-{
-    match told {
-        Ok(told) => {
-            let status = told.outcome.status();
-            if told.has_text() {
-                tell(alloc, told, input, errors);
-            }
-            status
-        }
-        Err(fault) => {
-            let status = fault.status();
-            let _ = errors.writeln(fault);
-            status
-        }
+// Tells it, where there is such an image.
+fn tell_unsaved<E: Write>(unsaved: Option<&str>, errors: &mut E) {
+    if let Some(image) = unsaved {
+        let _ = put_unsaved(errors, image);
     }
 }
 
 /// Runs a command line, whose first word is the program's name, and answers the exit status: 0
 /// done, 1 a command refused, or input, output or memory failed, 2 a bad line of the script or a
 /// bad command line, 3 a call of a script refused, where the words ask for an end there. Where it
-/// isn't 0, a text for people goes to `errors`, and behind a look beside another program's writes.
+/// isn't 0, a text for people goes to `errors`.
 /// A last line of it says that what a script did on an image isn't all saved.
 pub fn command_at<R: Files<File = File> + Clock, I: Read, O: Write, E: Write>(
     rt: &R,
@@ -588,11 +593,23 @@ pub fn command_at<R: Files<File = File> + Clock, I: Read, O: Write, E: Write>(
 {
     let mut input = LineKeeper::new(alloc, input);
     let answered = answer_buffered(rt, alloc, terminals, words, &mut input, output, errors);
-    let status = tell_outcome(alloc, answered.told, &input, errors);
-    if let Some(image) = answered.unsaved {
-        let _ = tell_unsaved(image, errors);
+    let unsaved = answered.unsaved;
+    match answered.told {
+        Ok(told) => {
+            let status = told.outcome.status();
+            if told.has_text() {
+                tell(alloc, told, &input, errors);
+            }
+            tell_unsaved(unsaved, errors);
+            status
+        }
+        Err(fault) => {
+            let status = fault.status();
+            let _ = errors.writeln(fault);
+            tell_unsaved(unsaved, errors);
+            status
+        }
     }
-    status
 }
 
 /// As `command_at`, where no stream is a terminal.

@@ -110,6 +110,8 @@ pub const LEFT: &str = "left";
 
 pub const VERBOSE: &str = "verbose";
 
+pub const WAIT: &str = "wait";
+
 pub const CHECKPOINT: &str = "checkpoint";
 
 /// The word of the checkpoint before the newest.
@@ -255,6 +257,13 @@ const IN_WORDS: Parameter = Parameter {
     help: "Say in words where the volume is damaged, and what else is odd",
 };
 
+const WAITING: Parameter = Parameter {
+    name: WAIT,
+    form: Form::Switch,
+    value: "",
+    help: "Wait until no other program writes IMAGE",
+};
+
 const WHICH_CHECKPOINT: Parameter = Parameter {
     name: CHECKPOINT,
     form: Form::OptionalChoice(&[OLDER]),
@@ -284,7 +293,7 @@ const VOLUME_USAGES: &[Usage] = &[
             that the tree needs, and the most that it may need. With -v further lines say\n\
             where a damaged volume fails, and name a slot without a checkpoint and what an\n\
             unfinished `put` left.",
-        parameters: &[THE_IMAGE, IN_WORDS],
+        parameters: &[THE_IMAGE, IN_WORDS, WAITING],
     },
     Usage {
         verb: Verb::Mount,
@@ -292,7 +301,7 @@ const VOLUME_USAGES: &[Usage] = &[
         about: "Print the tree as a script's reply",
         details: "Check the whole volume, and print its tree as the reply to the line `tree` of a\n\
             script. Nothing is written.",
-        parameters: &[THE_IMAGE],
+        parameters: &[THE_IMAGE, WAITING],
     },
     Usage {
         verb: Verb::Run,
@@ -321,7 +330,7 @@ const VOLUME_USAGES: &[Usage] = &[
             With -l the kind, the size in bytes and the number of links stand before the\n\
             name, and a total behind all. With -0 each name is as it is, with a zero byte\n\
             behind it, as `xargs -0` takes it.",
-        parameters: &[THE_IMAGE, A_PATH, LONG_LINES, RAW_NAMES],
+        parameters: &[THE_IMAGE, A_PATH, LONG_LINES, RAW_NAMES, WAITING],
     },
     Usage {
         verb: Verb::Tree,
@@ -329,7 +338,7 @@ const VOLUME_USAGES: &[Usage] = &[
         about: "Print the tree for people, with sizes in bytes",
         details: "Print the tree below PATH for people: a line for each name, indented below its\n\
             directory, with the size in bytes.",
-        parameters: &[THE_IMAGE, A_PATH],
+        parameters: &[THE_IMAGE, A_PATH, WAITING],
     },
     Usage {
         verb: Verb::Cat,
@@ -337,7 +346,7 @@ const VOLUME_USAGES: &[Usage] = &[
         about: "Print the bytes of a file",
         details: "Print the bytes of a file. Where the device fails behind the first bytes, the\n\
             command ends with status 1 and prints no line with `err`.",
-        parameters: &[THE_IMAGE, THE_PATH],
+        parameters: &[THE_IMAGE, THE_PATH, WAITING],
     },
 ];
 
@@ -348,9 +357,9 @@ const FILE_USAGES: &[Usage] = &[
         name: "get",
         about: "Copy a file out of the volume",
         details: "Copy the bytes of the file PATH to a new file of the host, and print `ok` and\n\
-            their number. Nothing that is there is written over, and where the copy fails\n\
-            nothing is left of FILE. Without FILE the bytes are printed, as by `cat`.",
-        parameters: &[THE_IMAGE, THE_PATH, TO_FILE],
+            their number. Nothing that is there is written over. The copy stands as\n\
+            FILE.lfs-get until it is whole. Without FILE the bytes are printed, as by `cat`.",
+        parameters: &[THE_IMAGE, THE_PATH, TO_FILE, WAITING],
     },
     Usage {
         verb: Verb::Put,
@@ -413,7 +422,7 @@ const FILE_USAGES: &[Usage] = &[
         about: "Print how much of the volume is used and free",
         details: "Print the size of the volume, the bytes of its files, and the bytes of the\n\
             largest new file that the root has room for.",
-        parameters: &[THE_IMAGE],
+        parameters: &[THE_IMAGE, WAITING],
     },
     Usage {
         verb: Verb::Info,
@@ -422,7 +431,7 @@ const FILE_USAGES: &[Usage] = &[
         details: "Print the number of the newest checkpoint, the segments and the space, and a\n\
             picture with a sign for each segment: a dot for one with no live block, else 1\n\
             to 9 for up to 7 to 63 of them.",
-        parameters: &[THE_IMAGE],
+        parameters: &[THE_IMAGE, WAITING],
     },
     Usage {
         verb: Verb::Export,
@@ -431,8 +440,9 @@ const FILE_USAGES: &[Usage] = &[
         details: "Copy the whole tree into a new folder of the host, symbolic links as links, and\n\
             print `ok`, the number of files and that of their bytes. A name that the host\n\
             can't have, or that isn't UTF-8, is left out with all that is below it: a line\n\
-            `omitted` names it, and the status is 1.",
-        parameters: &[THE_IMAGE, TO_FOLDER],
+            `omitted` names it, and the status is 1. The folder stands as FOLDER.lfs-export\n\
+            until it is whole.",
+        parameters: &[THE_IMAGE, TO_FOLDER, WAITING],
     },
     Usage {
         verb: Verb::Recover,

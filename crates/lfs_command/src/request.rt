@@ -6,7 +6,7 @@ ghost use Rattle.lfs_command.specs.Asking.{HasWord, IsStrict};
 use crate::changing::Change;
 use crate::grammar::{
     CHECKPOINT, FILE, FIRST_FORMAT, FOLDER, FORCE, FORMAT, FROM, IMAGE, LEFT, LONG, NULL, OLDER,
-    PASSES, PATH, RESERVE, SECOND_FORMAT, SEGMENTS, STOP, STRICT, TO, VERBOSE, Verb, program,
+    PASSES, PATH, RESERVE, SECOND_FORMAT, SEGMENTS, STOP, STRICT, TO, VERBOSE, Verb, WAIT, program,
     verb_of,
 };
 use crate::putting::Source;
@@ -15,6 +15,7 @@ use clap::{ArgMatches, Error};
 use lfs_device::Left;
 use lfs_recover::Recovery;
 use lfs_recover::image::fault::Fault;
+use lfs_recover::image::image::Patience;
 use lfs_recover::image::listing::Style;
 use lfs_recover::image::looking::Look;
 use std::alloc::{AllocError, Global};
@@ -32,9 +33,9 @@ pub enum Action<'a> {
         force: bool,
         reserve: bool,
     },
-    Look(Look<'a>),
+    Look(Look<'a>, Patience),
     /// The volume is checked, and where it is damaged is told in words.
-    Explain,
+    Explain(Patience),
     Recover(Recovery<'a>),
     Change(Change<'a>),
     Put(Source<'a>),
@@ -44,10 +45,10 @@ impl<'a> Action<'a> {
     /// The path that it has, as a word of scripts.
     pub fn path(self) -> Option<&'a str> {
         match self {
-            Action::Look(look) => look.path(),
+            Action::Look(look, _) => look.path(),
             Action::Put(source) => Some(source.path),
             Action::Change(change) => change.path(),
-            Action::Explain | Action::Recover(_) => None,
+            Action::Explain(_) | Action::Recover(_) => None,
             Action::Mkfs { .. } => None,
         }
     }
@@ -122,8 +123,17 @@ fn on_image<'a>(action: Option<Action<'a>>, found: &ArgMatches<'a>) -> Option<Re
     })
 }
 
+// How long a look waits for a writer's end.
+fn patience_of(found: &ArgMatches<'_>) -> Patience {
+    if found.get_flag(WAIT) {
+        Patience::Endless
+    } else {
+        Patience::Impatient
+    }
+}
+
 fn looks<'a>(look: Look<'a>, found: &ArgMatches<'a>) -> Option<Request<'a>> {
-    on_image(Some(Action::Look(look)), found)
+    on_image(Some(Action::Look(look, patience_of(found))), found)
 }
 
 fn changes<'a>(change: Option<Change<'a>>, found: &ArgMatches<'a>) -> Option<Request<'a>> {
@@ -166,9 +176,9 @@ fn read_put<'a>(found: &ArgMatches<'a>) -> Option<Action<'a>> {
 
 fn read_check<'a>(found: &ArgMatches<'a>) -> Action<'a> {
     if found.get_flag(VERBOSE) {
-        Action::Explain
+        Action::Explain(patience_of(found))
     } else {
-        Action::Look(Look::Check)
+        Action::Look(Look::Check, patience_of(found))
     }
 }
 

@@ -11,7 +11,6 @@ use lfs_device::SectorDevice;
 impl<D: SectorDevice> Fs<D> {
     /// Whether all that was done is saved: a stop now takes away nothing but files without a name.
     /// A `sync` would write nothing.
-    #[tactic(auto, using(crate::proofs::save::Saved::saved_left))]
     pub fn is_saved(&self) -> bool
         ensures value { result ≡ (seen self.now).log.saved }
         ensures kept { IsTrue result → LeavesAll D.SectorDevice.state (seen self.now) }

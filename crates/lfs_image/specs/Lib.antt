@@ -1,1 +1,2 @@
 pub use Rattle.lfs_script.specs as script
+pub mod Steady

@@ -5,6 +5,7 @@ use crate::host::HostFault;
 use crate::looking::Looked;
 use crate::printing::print_copied;
 use crate::sparse::SparseFile;
+use crate::unfinished::Unfinished;
 use lfs_device::SectorDevice;
 use lfs_put::{GetFault, get};
 use lfs_script::fs::{Fs, FsError};
@@ -70,32 +71,34 @@ fn try_open<D: SectorDevice>(fs: &mut Fs<D>, path: &[u8]) -> Result<(), FsError>
 fn end_copy<W: Write>(
     alloc: Global,
     copied: Result<u64, CopyFault>,
-    name: &str,
+    product: &mut Unfinished<'_>,
     output: &mut W,
 ) -> Result<Looked, Fault> {
     match copied {
         Ok(count) => {
+            product.note_made();
             print_copied(output, count)?;
             Ok(Looked::Done)
         }
         Err(CopyFault::Call(refusal)) => Ok(Looked::Refused(Refusal::Call(refusal))),
-        Err(CopyFault::Host(fault)) => Err(Fault::of_host(alloc, name, fault)),
+        Err(CopyFault::Host(fault)) => Err(product.fault_of(alloc, fault)),
     }
 }
 
-/// Makes a new file of the host of all bytes of the file of a path, and prints their number. What
-/// the volume refuses comes first.
+/// Makes a new file of the host of all bytes of the file of a path, under its other name, and prints
+/// their number. What the volume refuses comes first.
 pub fn get_file<D: SectorDevice, R: Files<File = File>, W: Write>(
     rt: &R,
     alloc: Global,
     fs: &mut Fs<D>,
     path: &[u8],
-    name: &str,
+    product: &mut Unfinished<'_>,
     output: &mut W,
 ) -> Result<Looked, Fault> {
-    let copied = match try_open(fs, path) {
-        Ok(()) => copy_file(rt, fs, path, name),
-        Err(refusal) => Err(CopyFault::Call(refusal)),
-    };
-    end_copy(alloc, copied, name, output)
+    if let Err(refusal) = try_open(fs, path) {
+        return Ok(Looked::Refused(Refusal::Call(refusal)));
+    }
+    product.check_name(rt, alloc)?;
+    let copied = copy_file(rt, fs, path, product.other());
+    end_copy(alloc, copied, product, output)
 }

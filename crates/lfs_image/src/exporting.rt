@@ -4,7 +4,8 @@ use crate::fault::{Fault, Refusal};
 use crate::host;
 use crate::host::HostFault;
 use crate::looking::Looked;
-use crate::printing::{flush, print, put, put_count, put_word};
+use crate::printing::{print, put, put_count, put_word};
+use crate::unfinished::Unfinished;
 use crate::walking::{ROOT, Visit, Walk, most_steps};
 use lfs_device::SectorDevice;
 use lfs_model::Kind;
@@ -217,35 +218,32 @@ fn copy_tree<D: SectorDevice, R: Files<File = File>, W: Write>(
     rt: &R,
     alloc: Global,
     fs: &mut Fs<D>,
-    folder: &str,
+    product: &mut Unfinished<'_>,
     rows: &[TreeRow],
     output: &mut W,
 ) -> Result<Looked, Fault> {
-    if let Err(fault) = host::make_folder(rt, folder) {
-        return Err(Fault::of_host(alloc, folder, fault));
-    }
-    let mut export = Progress::new(alloc, folder);
+    product.check_name(rt, alloc)?;
+    product.make_folder(rt, alloc)?;
+    let mut export = Progress::new(alloc, product.other());
     match copy_rows(rt, alloc, fs, &mut export, rows, output) {
         Ok(()) => put_copied(&export, output),
-        Err(Stop::Call(refusal)) => Ok(Looked::Stopped(Refusal::Call(refusal))),
-        Err(Stop::Fault(fault)) => {
-            flush(output)?;
-            Err(fault)
-        }
+        Err(Stop::Call(refusal)) => Ok(Looked::Refused(Refusal::Call(refusal))),
+        Err(Stop::Fault(fault)) => Err(fault),
     }
 }
 
-/// Copies the whole tree of a volume into a new folder of the host, links as links, and prints how
-/// many files and bytes that was. What the host can't have is left out, and told.
+/// Copies the whole tree of a volume into a new folder of the host, under its other name, links as
+/// links, and prints how many files and bytes that was. What the host can't have is left out, and
+/// told.
 pub fn export<D: SectorDevice, R: Files<File = File>, W: Write>(
     rt: &R,
     alloc: Global,
     fs: &mut Fs<D>,
-    folder: &str,
+    product: &mut Unfinished<'_>,
     output: &mut W,
 ) -> Result<Looked, Fault> {
     match fs.tree() {
-        Ok(rows) => copy_tree(rt, alloc, fs, folder, rows.as_slice(), output),
+        Ok(rows) => copy_tree(rt, alloc, fs, product, rows.as_slice(), output),
         Err(refusal) => Ok(Looked::Refused(Refusal::Call(refusal))),
     }
 }

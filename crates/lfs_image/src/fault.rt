@@ -120,6 +120,7 @@ impl Refusal {
             Refusal::Damaged(_)
                 | Refusal::Mount(MountFault::NoCheckpoint | MountFault::Device)
                 | Refusal::Foreign(MountFault::NoCheckpoint)
+                | Refusal::Image(ImageFault::Unsteady)
                 | Refusal::Call(FsError::Device)
                 | Refusal::Failed(FsError::Device, _)
         )
@@ -210,8 +211,6 @@ impl From<MountFault> for Refusal {
 pub enum Ending {
     /// The work is done, whatever the replies were.
     Done,
-    /// A look is done, beside another program that writes.
-    DoneBeside,
     /// The work is done but for what the host can't have, which was told.
     Partial,
     /// What a volume still holds is copied. Something is missing or has another name, which was told.
@@ -227,7 +226,7 @@ impl Ending {
         ensures { result ≤ 2 }
     {
         match self {
-            Ending::Done | Ending::DoneBeside => 0,
+            Ending::Done => 0,
             Ending::Partial | Ending::InPart | Ending::Refused(_) => 1,
             Ending::BadLine(_) => 2,
         }
@@ -315,7 +314,6 @@ impl Display for Ending {
     fn fmt<W: fmt::Write>(&self, f: &mut Formatter<W>) -> fmt::Result {
         match self {
             Ending::Done => f.write_str("done"),
-            Ending::DoneBeside => f.write_str(reason::BESIDE),
             Ending::Partial => f.write_str(reason::PARTIAL),
             Ending::InPart => f.write_str(reason::IN_PART),
             Ending::Refused(Refusal::Cut(segments)) => {

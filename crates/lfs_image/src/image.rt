@@ -105,6 +105,28 @@ pub fn open_apart<R: Files<File = File>>(
     how.open(rt, path)
 }
 
+/// How long a look waits for the end of a program that writes the image.
+#[derive(Clone, Copy)]
+pub enum Patience {
+    /// It looks beside it.
+    Impatient,
+    /// As long as a writer waits for a look.
+    Second,
+    /// Until that has ended.
+    Endless,
+}
+
+impl Patience {
+    // How often it tries to keep writers out.
+    fn tries(self) -> u64 {
+        match self {
+            Patience::Impatient => 1,
+            Patience::Second => u64::from(LOCK_TRIES),
+            Patience::Endless => u64::MAX,
+        }
+    }
+}
+
 /// Who has an image beside a program that looks at it.
 #[derive(Clone, Copy, PartialEq, Eq)]
 pub enum Beside {
@@ -114,12 +136,20 @@ pub enum Beside {
     Writer,
 }
 
-// Keeps writers out, if there is none yet.
-fn lock_to_look(file: &File) -> Beside {
-    match file.try_lock_shared() {
-        Err(TryLockError::WouldBlock) => Beside::Writer,
-        _ => Beside::Nobody,
+// Keeps writers out, once there is none.
+fn lock_to_look<R: Clock>(rt: &R, file: &File, patience: Patience) -> Beside {
+    for _ in 0..patience.tries() {
+        match file.try_lock_shared() {
+            Err(TryLockError::WouldBlock) => pause(rt),
+            _ => return Beside::Nobody,
+        }
     }
+    Beside::Writer
+}
+
+// Waits before a lock is tried again.
+fn pause<R: Clock>(rt: &R) {
+    sleep(rt, Duration::from_millis(LOCK_PAUSE_MILLIS));
 }
 
 // Refuses an image that another program has for longer than a look takes. A file system without
@@ -127,30 +157,42 @@ fn lock_to_look(file: &File) -> Beside {
 fn lock<R: Clock>(rt: &R, file: &File) -> Result<(), ImageFault> {
     for _ in 0..LOCK_TRIES {
         match file.try_lock() {
-            Err(TryLockError::WouldBlock) => sleep(rt, Duration::from_millis(LOCK_PAUSE_MILLIS)),
+            Err(TryLockError::WouldBlock) => pause(rt),
             _ => return Ok(()),
         }
     }
     Err(ImageFault::InUse)
 }
 
-fn device_of<Here: World>(file: File) -> Result<FileDeviceIn<Here>, ImageFault> {
+/// An open file as a device.
+pub fn device_of<Here: World>(file: File) -> Result<FileDeviceIn<Here>, ImageFault> {
     let Ok(device) = FileDeviceIn::new(file) else {
         return Err(ImageFault::System);
     };
     Ok(device)
 }
 
-/// The device of an image that is only looked at, and who has it beside. It is opened for reading.
-pub fn open_to_look<Here: World, R: Files<File = File>>(
+/// The file of an image that is only looked at, and who has it beside. It is opened for reading.
+pub fn open_file_to_look<R: Files<File = File> + Clock>(
     rt: &R,
     image: &str,
-) -> Result<(FileDeviceIn<Here>, Beside), ImageFault> {
+    patience: Patience,
+) -> Result<(File, Beside), ImageFault> {
     look_up(rt, image)?;
     let mut how = File::options();
     how.read(true);
     let file = open_apart(rt, &how, image)?;
-    let beside = lock_to_look(&file);
+    let beside = lock_to_look(rt, &file, patience);
+    Ok((file, beside))
+}
+
+/// The same as a device.
+pub fn open_to_look<Here: World, R: Files<File = File> + Clock>(
+    rt: &R,
+    image: &str,
+    patience: Patience,
+) -> Result<(FileDeviceIn<Here>, Beside), ImageFault> {
+    let (file, beside) = open_file_to_look(rt, image, patience)?;
     Ok((device_of(file)?, beside))
 }
 

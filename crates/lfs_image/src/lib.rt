@@ -19,6 +19,8 @@ pub mod printing;
 mod reason;
 pub mod room;
 mod sparse;
+mod steadiness;
+mod unfinished;
 pub mod viewing;
 mod walking;
 

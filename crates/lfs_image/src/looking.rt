@@ -6,6 +6,7 @@ use crate::fault::{Ending, Fault, Refusal};
 use crate::listing::{Style, list, tree};
 use crate::printing::{flush, print, put_count, refuse};
 use crate::room::put_free;
+use crate::unfinished::Unfinished;
 use lfs_device::SectorDevice;
 use lfs_model::limits::NEED_OF_SEGMENT;
 use lfs_put::{GetFault, get};
@@ -40,6 +41,11 @@ pub enum Look<'a> {
 }
 
 impl<'a> Look<'a> {
+    /// Whether it makes a file or a folder of the host.
+    pub fn makes_something(self) -> bool {
+        matches!(self, Look::Get(..) | Look::Export(_))
+    }
+
     /// The path that it has.
     pub fn path(self) -> Option<&'a str> {
         match self {
@@ -50,18 +56,33 @@ impl<'a> Look<'a> {
     }
 }
 
+/// What is looked at, and the bytes of its path.
+#[derive(Clone, Copy)]
+pub struct Asked<'a> {
+    pub look: Look<'a>,
+    pub path: &'a [u8],
+}
+
 /// How a look ends.
 #[derive(Clone, Copy)]
 pub enum Looked {
     Done,
-    /// Nothing was printed.
+    /// Nothing was printed that counts.
     Refused(Refusal),
     /// A beginning was printed, as of a file.
     Broken(Refusal),
-    /// A beginning was done, of which nothing was printed.
-    Stopped(Refusal),
     /// It was done but for what the host can't have.
     Partial,
+}
+
+impl Looked {
+    /// Whether it may have come of what another program writes meanwhile.
+    pub fn is_doubtful(self) -> bool {
+        match self {
+            Looked::Done | Looked::Partial => false,
+            Looked::Refused(refusal) | Looked::Broken(refusal) => refusal.is_doubtful(),
+        }
+    }
 }
 
 /// Prints the line of a look that is refused. Behind a beginning it would be a part of that.
@@ -70,7 +91,6 @@ pub fn end_look<W: Write>(looked: Looked, output: &mut W) -> Result<Ending, Faul
         Looked::Done => Ok(Ending::Done),
         Looked::Partial => Ok(Ending::Partial),
         Looked::Refused(refusal) => refuse(output, refusal),
-        Looked::Stopped(refusal) => refuse(output, refusal),
         Looked::Broken(refusal) => Ok(Ending::Refused(refusal)),
     }
 }
@@ -164,24 +184,24 @@ pub fn path_of(alloc: Global, look: Look<'_>) -> Result<Vec<u8>, Fault> {
     }
 }
 
-/// Looks at a mounted volume.
-pub fn look_at<D: SectorDevice + Drop, R: Files<File = File>, W: Write>(
+/// Looks at a mounted volume. What it makes on the host stands under its other name then.
+pub fn look_at<D: SectorDevice, R: Files<File = File>, W: Write>(
     rt: &R,
     alloc: Global,
-    mut fs: Fs<D>,
-    look: Look<'_>,
-    path: &[u8],
+    fs: &mut Fs<D>,
+    asked: Asked<'_>,
+    product: &mut Unfinished<'_>,
     output: &mut W,
 ) -> Result<Looked, Fault> {
-    match look {
-        Look::Check => check(&mut fs, output),
-        Look::Mount => show(&mut fs, output),
-        Look::Tree(_) => tree(alloc, &mut fs, path, output),
-        Look::List(_, style) => list(&mut fs, style, path, output),
-        Look::Cat(_) => cat(&mut fs, path, output),
-        Look::Get(_, name) => get_file(rt, alloc, &mut fs, path, name, output),
-        Look::Export(folder) => export(rt, alloc, &mut fs, folder, output),
-        Look::Info => describe(&mut fs, output),
-        Look::Free => put_free(&mut fs, output),
+    match asked.look {
+        Look::Check => check(fs, output),
+        Look::Mount => show(fs, output),
+        Look::Tree(_) => tree(alloc, fs, asked.path, output),
+        Look::List(_, style) => list(fs, style, asked.path, output),
+        Look::Cat(_) => cat(fs, asked.path, output),
+        Look::Get(..) => get_file(rt, alloc, fs, asked.path, product, output),
+        Look::Export(_) => export(rt, alloc, fs, product, output),
+        Look::Info => describe(fs, output),
+        Look::Free => put_free(fs, output),
     }
 }

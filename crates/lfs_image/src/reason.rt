@@ -22,9 +22,6 @@ pub const NO_INPUT: &str = "standard input has no byte; with - as FILE an empty 
 pub const FOREIGN: &str =
     "this is no Pansuyog volume, or both its checkpoints are lost; mkfs would empty it";
 
-/// Of a look that is done, beside another program that writes.
-pub const BESIDE: &str = "another program writes it, so what was printed may be of two moments";
-
 /// Of an export that leaves out what the host can't have.
 pub const PARTIAL: &str = "what the host can't have was left out, and is named on standard output";
 

@@ -4,7 +4,7 @@ ghost use Rattle.lfs_salvage.specs.Telling.{TellsNothing};
 use crate::wording::{put_damage, put_slot, put_unfinished};
 use lfs_device::{SectorDevice, World};
 use lfs_image::fault::{Ending, Fault, Refusal};
-use lfs_image::image::open_to_look;
+use lfs_image::image::{Beside, Patience, open_to_look};
 use lfs_image::looking::Look;
 use lfs_image::printing::flush;
 use lfs_image::put::UNFINISHED;
@@ -15,6 +15,7 @@ use std::alloc::{AllocError, Global};
 use std::fs::File;
 use std::io::Write;
 use std::rt::Files;
+use std::time::Clock;
 
 // Where the volume is damaged, if the stage that fails here has the code that the mount answered.
 fn damage_of<D: SectorDevice>(
@@ -91,22 +92,24 @@ fn code_of(ending: Ending) -> Option<u8> {
 }
 
 /// Checks the volume of an image as `check` does, and then says in words where it is damaged, which
-/// slot holds no checkpoint, and where a file is that was put and isn't whole.
-pub fn explain<Here: World, R: Files<File = File>, W: Write>(
+/// slot holds no checkpoint, and where a file is that was put and isn't whole. Beside a writer it
+/// says no more than `check`.
+pub fn explain<Here: World, R: Files<File = File> + Clock, W: Write>(
     rt: &R,
     alloc: Global,
     image: &str,
+    patience: Patience,
     output: &mut W,
 ) -> Result<Ending, Fault> {
-    let ending = look::<Here, R, W>(rt, alloc, image, Look::Check, output)?;
+    let ending = look::<Here, R, W>(rt, alloc, image, Look::Check, patience, output)?;
     let Some(code) = code_of(ending) else {
         return Ok(ending);
     };
-    match open_to_look::<Here, R>(rt, image) {
-        Ok((mut device, _)) => {
+    match open_to_look::<Here, R>(rt, image, patience) {
+        Ok((mut device, Beside::Nobody)) => {
             explain_device(alloc, &mut device, code, output)?;
             Ok(ending)
         }
-        Err(_) => Ok(ending),
+        Ok((_, Beside::Writer)) | Err(_) => Ok(ending),
     }
 }

@@ -8,7 +8,7 @@ use lfs_device::{SectorDevice, World};
 use lfs_image::fault::{Ending, Fault, ImageFault, Refusal};
 use lfs_image::foreign::explained;
 use lfs_image::host;
-use lfs_image::image::{Beside, open_to_look};
+use lfs_image::image::{Beside, Patience, open_to_look};
 use lfs_image::printing::{flush, print, put_count, refuse};
 use lfs_image::script::fs::MountFault;
 use lfs_layout::Checkpoint;
@@ -17,6 +17,7 @@ use std::alloc::Global;
 use std::fs::File;
 use std::io::Write;
 use std::rt::Files;
+use std::time::Clock;
 
 /// What a recovery is to do.
 #[derive(Clone, Copy)]
@@ -120,19 +121,19 @@ fn recover_from<D: SectorDevice, R: Files<File = File>, W: Write>(
 
 /// Copies what the volume of an image still holds into a new folder of the host. It writes nothing
 /// to the image, mounts nothing, and goes round what can't be read.
-pub fn recover<Here: World, R: Files<File = File>, W: Write>(
+pub fn recover<Here: World, R: Files<File = File> + Clock, W: Write>(
     rt: &R,
     alloc: Global,
     image: &str,
     recovery: Recovery<'_>,
     output: &mut W,
 ) -> Result<Ending, Fault> {
-    let (mut device, beside) = match open_to_look::<Here, R>(rt, image) {
+    let (mut device, beside) = match open_to_look::<Here, R>(rt, image, Patience::Second) {
         Ok(opened) => opened,
         Err(fault) => return refuse(output, Refusal::Image(fault)),
     };
     if beside == Beside::Writer {
-        return refuse(output, Refusal::Image(ImageFault::Unsteady));
+        return refuse(output, Refusal::Image(ImageFault::InUse));
     }
     match chosen(&mut device, recovery.older) {
         Ok(start) => recover_from(rt, alloc, &mut device, &start, recovery.folder, output),

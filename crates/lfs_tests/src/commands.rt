@@ -1384,12 +1384,13 @@ const IN_USE: Said = Said::Tells(
     b"lfs: e.img: it is in use: another program has held its lock for a second\n",
 );
 
-const EMPTY_BESIDE: Said = Said::Tells(
-    b"ok 0\n",
-    b"lfs: e.img: another program writes it, so what was printed may be of two moments\n",
+const UNSEEN: Said = Said::Tells(
+    b"err Image\n",
+    b"lfs: e.img: another program writes it, and no whole state was seen; try again\n",
 );
 
-// What writes an image is refused while another holds its lock, and what only looks at it isn't.
+// What writes an image is refused while another holds its lock, and so is a recovery. What only looks
+// at it isn't, but damage may be what is under way.
 const MEDIA: &[Step] = &[
     Step::Says(&["lfs mkfs e.img --segments 64"], b"", 0, OK),
     Step::Change("e.want", 0, &[]),
@@ -1407,7 +1408,37 @@ const MEDIA: &[Step] = &[
         1,
         IN_USE,
     ),
-    Step::Locked("e.img", &["lfs mount e.img"], 0, EMPTY_BESIDE),
+    Step::Locked("e.img", &["lfs recover e.img e.out"], 1, IN_USE),
+    Step::Locked("e.img", &["lfs mount e.img"], 0, EMPTY),
+    Step::Locked(
+        "e.img",
+        &["lfs export e.img e.out"],
+        0,
+        Said::Reply(b"ok 0 files 0 bytes\n"),
+    ),
+    Step::RemoveFolder("e.out"),
+    Step::Locked(
+        "e.img",
+        &["lfs get e.img /f e.out"],
+        1,
+        Said::OfPath(b"err NoEntry\n", b"the volume has nothing of this name"),
+    ),
+    Step::Says(&["lfs mount --wait e.img"], b"", 0, EMPTY),
+    Step::Same("e.img", "e.want"),
+    Step::Change("e.img", LEN, &[(5, 2, &[2])]),
+    Step::Locked(
+        "e.img",
+        &[
+            "lfs mount e.img",
+            "lfs check -v e.img",
+            "lfs export e.img e.out",
+        ],
+        1,
+        UNSEEN,
+    ),
+    Step::Lacks("e.out"),
+    Step::Lacks("e.out.lfs-export"),
+    Step::Change("e.img", LEN, &[(5, 2, &[3])]),
     Step::Same("e.img", "e.want"),
     Step::Protect("e.img"),
     Step::Says(&["lfs mount e.img"], b"", 0, EMPTY),
@@ -1546,6 +1577,7 @@ const QUESTIONS: &[Step] = &[
 // What a question calls the file, and answers that agree.
 const AGREED: &[Step] = &[
     Step::Change("q.want", LEN, NEW),
+    Step::Change("q.img", 0, &[]),
     Step::Change("q.img", 3_000, &[]),
     Step::AtTerminal(
         "lfs mkfs q.img --segments 64",
@@ -2756,6 +2788,7 @@ const FILES: &[Step] = &[
     ),
     Step::Says(&["lfs get g.img /h g.out"], b"", 0, Said::Reply(b"ok 6\n")),
     Step::Same("g.out", "g.txt"),
+    Step::Lacks("g.out.lfs-get"),
     Step::Says(&["lfs get g.img /h g.out"], b"", 1, IS_THERE),
     Step::Says(&["lfs export g.img g.out"], b"", 1, IS_THERE),
     Step::Same("g.out", "g.txt"),
@@ -2788,6 +2821,18 @@ const FILES: &[Step] = &[
         1,
         Said::Tells(b"", b"lfs: none/h: there is no such file or folder\n"),
     ),
+    Step::Change("g.new.lfs-get", 1, &[]),
+    Step::Says(
+        &["lfs get g.img /h g.new"],
+        b"",
+        1,
+        Said::Tells(
+            b"",
+            b"lfs: g.new.lfs-get: it is there already; nothing was written over\n",
+        ),
+    ),
+    Step::Lacks("g.new"),
+    Step::Remove("g.new.lfs-get"),
     Step::Says(&["lfs mount g.img"], b"", 0, HELLO),
     Step::Remove("g.img"),
     Step::Remove("g.txt"),
@@ -2819,6 +2864,16 @@ const EXPORTS: &[Step] = &[
         b"",
         0,
         Said::Reply(b"ok 3 files 3 bytes\n"),
+    ),
+    Step::Lacks("x.out.lfs-export"),
+    Step::Says(
+        &["lfs export x.img x.out"],
+        b"",
+        1,
+        Said::Tells(
+            b"",
+            b"lfs: x.out: it is there already; nothing was written over\n",
+        ),
     ),
     Step::Change("x.txt", 3, &[(0, 0, b"abc")]),
     Step::Same("x.out/d/e/f", "x.txt"),
