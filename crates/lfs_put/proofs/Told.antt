@@ -2,7 +2,7 @@
 use Rattle.std.proofs.Common.{◌≡◌, ◌⊎◌, ◌<◌, ◌≤◌, ℕ, zero, suc, ◌*◌, List, [], ◌∷◌, ◌++◌, Result, Ok, Err, refl, sym, ◌∙◌, inl, inr, map}
 use Rattle.std.proofs.Common.{subst}
 use Rattle.std.specs.Prelude.{codes, length}
-use Rattle.lfs_model.specs.Call.{DirectoryEntry, Entries, ListTree, Readdir, Refuse, Room, Rows, Space, Stat, StatOf, Status}
+use Rattle.lfs_model.specs.Call.{DirectoryEntry, ListTree, Readdir, Refuse, Room, Rows, Space, Stat, StatOf, Status}
 use Rattle.lfs_model.specs.Device.{DeviceState}
 use Rattle.lfs_model.specs.Tree.{slot_len}
 use Rattle.lfs_fs.specs.Answers.{row_of}

@@ -1,4 +1,4 @@
-use Rattle.std.proofs.Common.{◌<◌, Bool, false, ◌||◌, ap, refl, ◌==◌}
+use Rattle.std.proofs.Common.{Bool, false, ◌||◌, ap, refl, ◌==◌}
 use Rattle.std.specs.List.{list_any}
 use Rattle.std.proofs.lemmas.List.{get_or-replicate}
 use Rattle.lfs_put.proofs.telling.mark_taken.Goals as goal
