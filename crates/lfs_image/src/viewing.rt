@@ -159,10 +159,8 @@ fn look_beside<Here: World, R: Files<File = File>, W: Write>(
 fn devices_of<Here: World>(
     file: File,
 ) -> Result<(FileDeviceIn<Here>, FileDeviceIn<Here>), ImageFault> {
-    let Ok(again) = file.try_clone() else {
-        return Err(ImageFault::System);
-    };
-    Ok((image::device_of(file)?, image::device_of(again)?))
+    let watched = image::device_of_copy(&file)?;
+    Ok((image::device_of(file)?, watched))
 }
 
 // Looks once at an open image. None where that isn't known to be of one moment.
