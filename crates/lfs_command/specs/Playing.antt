@@ -2,13 +2,13 @@
 use Rattle.std.specs.Prelude.{◌≡◌, ◌⊎◌, ℕ, Bool, true, false, Option, List}
 use Rattle.std.specs.Io.KnownBytes.{Keeps}
 use Rattle.lfs_model.specs.Device.{AllLeft, DeviceState}
-use Rattle.lfs_recover.specs.script.fs.Mounting.{IsRefused}
-use Rattle.lfs_recover.specs.script.fs.log.verify.declared.fault.MountFault.{MountFault}
-use Rattle.lfs_recover.specs.script.Saved.{SessionSaved}
-use Rattle.lfs_recover.specs.script.Session.{SessionTold}
-use Rattle.lfs_recover.specs.script.Told.{Look}
-use Rattle.lfs_recover.specs.script.declared.script.StrictEnd.{StrictEnd}
-use Rattle.lfs_recover.specs.script.declared.script.StrictEnd.TheVariants.{Refused}
+use Rattle.lfs_fs.specs.Mounting.{IsRefused}
+use Rattle.lfs_fs.specs.log.verify.declared.fault.MountFault.{MountFault}
+use Rattle.lfs_script.specs.Saved.{SessionSaved}
+use Rattle.lfs_script.specs.Session.{SessionTold}
+use Rattle.lfs_script.specs.Told.{Look}
+use Rattle.lfs_script.specs.declared.script.StrictEnd.{StrictEnd}
+use Rattle.lfs_script.specs.declared.script.StrictEnd.TheVariants.{Refused}
 
 -- A use of the device's volume before a witness, whose replies were printed.
 pub record IsPlayed (r r' w w' : Option (List ℕ)) (d d' : DeviceState) (s s' : List Look) : Type 0 where

@@ -1,14 +1,14 @@
 //! Commands that change a volume by one call, which is saved.
 use lfs_device::{SectorDevice, World};
-use lfs_recover::image::fault::{Ending, Fault};
-use lfs_recover::image::image;
-use lfs_recover::image::image::end_caused;
-use lfs_recover::image::looking::read_path;
-use lfs_recover::image::printing::{print, refuse};
-use lfs_recover::image::room::refusal_of;
-use lfs_recover::put::{clean, clean_some, make_directory, remove, rename, upgrade};
-use lfs_recover::script::fs::{Fs, FsError};
-use lfs_recover::script::read_u32;
+use lfs_fs::{Fs, FsError};
+use lfs_host::fault::{Ending, Fault};
+use lfs_host::image;
+use lfs_host::image::end_caused;
+use lfs_host::printing::{print, refuse};
+use lfs_put::{clean, clean_some, make_directory, remove, rename, upgrade};
+use lfs_show::free::refusal_of;
+use lfs_show::looking::read_path;
+use lfs_words::read_u32;
 use std::alloc::Global;
 use std::fs::File;
 use std::io::Write;

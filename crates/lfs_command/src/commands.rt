@@ -15,17 +15,16 @@ use crate::simulation;
 use crate::simulation::{Plan, read_plan};
 use crate::terminals::Terminals;
 use lfs_device::{FileDeviceIn, Left, MemDevice, SectorDevice, ThisWorld, World};
-use lfs_recover::image::fault::{Ending, Fault, Outcome, Refusal, Told};
-use lfs_recover::image::image;
-use lfs_recover::image::image::{Making, unmounted};
-use lfs_recover::image::looking::{end_look, show};
-use lfs_recover::image::making::mkfs;
-use lfs_recover::image::printing::{flush, print, put, put_count, refuse};
-use lfs_recover::image::viewing::look;
-use lfs_recover::script::{
-    Looks, ScriptEnd, StrictEnd, Witness, read_u32, use_and_stop_told, use_volume_told,
-};
+use lfs_host::fault::{Ending, Fault, Outcome, Refusal, Told};
+use lfs_host::image;
+use lfs_host::image::{Making, Patience, unmounted};
+use lfs_host::making::mkfs;
+use lfs_host::printing::{flush, print, put, put_count, refuse};
 use lfs_recover::{explain, recover};
+use lfs_script::{Looks, ScriptEnd, StrictEnd, Witness, use_and_stop_told, use_volume_told};
+use lfs_show::looking::{Look, end_look, show};
+use lfs_show::viewing::look;
+use lfs_words::read_u32;
 use std::alloc::{AllocError, Global};
 use std::fs::File;
 use std::io::{BufWriter, Read, Write};
@@ -341,6 +340,18 @@ fn sim<I: Read, W: Write>(
     }
 }
 
+// Checks the volume of an image, and says in words where it is damaged.
+fn check_and_explain<Here: World, R: Files<File = File> + Clock, W: Write>(
+    rt: &R,
+    alloc: Global,
+    image: &str,
+    patience: Patience,
+    output: &mut W,
+) -> Result<Ending, Fault> {
+    let checked = look::<Here, R, W>(rt, alloc, image, Look::Check, patience, output)?;
+    explain::<Here, R, W>(rt, alloc, image, checked, patience, output)
+}
+
 // Does what is asked for with an image, in any world, which only contracts see.
 fn act<Here: World, R: Files<File = File> + Clock, I: Read, W: Write, E: Write>(
     rt: &R,
@@ -365,7 +376,9 @@ fn act<Here: World, R: Files<File = File> + Clock, I: Read, W: Write, E: Write>(
         Action::Look(asked, patience) => {
             look::<Here, R, W>(rt, alloc, image, asked, patience, output)
         }
-        Action::Explain(patience) => explain::<Here, R, W>(rt, alloc, image, patience, output),
+        Action::Explain(patience) => {
+            check_and_explain::<Here, R, W>(rt, alloc, image, patience, output)
+        }
         Action::Recover(asked) => recover::<Here, R, W>(rt, alloc, image, asked, output),
         Action::Change(asked) => change_volume::<Here, R, W>(rt, alloc, image, asked, output),
         Action::Put(source) => {

@@ -13,6 +13,6 @@ mod terminals;
 
 pub use commands::{command, command_at};
 pub use lfs_device as device;
-pub use lfs_recover::put::{PutFault, UNFINISHED, put};
-pub use lfs_recover::script;
+pub use lfs_put::{PutFault, UNFINISHED, put};
+pub use lfs_script as script;
 pub use terminals::Terminals;

@@ -1,16 +1,16 @@
 //! The command that puts a file into a volume, from standard input or from a file of the host.
 use crate::terminals::Terminals;
 use lfs_device::{SectorDevice, World};
+use lfs_fs::Fs;
+use lfs_host::fault::{Ending, Fault, Refusal};
+use lfs_host::host::HostFault;
+use lfs_host::image::end_caused;
+use lfs_host::printing::{print_copied, refuse};
+use lfs_host::{host, image};
 use lfs_model::limits::SECTOR_LEN;
-use lfs_recover::image::fault::{Ending, Fault, Refusal};
-use lfs_recover::image::host::HostFault;
-use lfs_recover::image::image::end_caused;
-use lfs_recover::image::looking::read_path;
-use lfs_recover::image::printing::{print_copied, refuse};
-use lfs_recover::image::room::refusal_of;
-use lfs_recover::image::{host, image};
-use lfs_recover::put::{PutFault, check_place, put};
-use lfs_recover::script::fs::Fs;
+use lfs_put::{PutFault, check_place, put};
+use lfs_show::free::refusal_of;
+use lfs_show::looking::read_path;
 use std::alloc::Global;
 use std::fs::File;
 use std::io::{Read, Write};

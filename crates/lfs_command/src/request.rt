@@ -13,11 +13,11 @@ use crate::putting::Source;
 use clap::error::ErrorKind;
 use clap::{ArgMatches, Error};
 use lfs_device::Left;
+use lfs_host::fault::Fault;
+use lfs_host::image::Patience;
 use lfs_recover::Recovery;
-use lfs_recover::image::fault::Fault;
-use lfs_recover::image::image::Patience;
-use lfs_recover::image::listing::Style;
-use lfs_recover::image::looking::Look;
+use lfs_show::listing::Style;
+use lfs_show::looking::Look;
 use std::alloc::{AllocError, Global};
 
 /// The path that is listed where none is given.

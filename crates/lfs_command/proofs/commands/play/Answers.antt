@@ -1,5 +1,5 @@
 use Rattle.std.proofs.Common.{ap, inl, inr}
-use Rattle.lfs_recover.proofs.scripts.Used.{err_of, ok_of, told_goes_on}
+use Rattle.lfs_script.proofs.Used.{err_of, ok_of, told_goes_on}
 use Rattle.lfs_command.proofs.commands.play.Goals as goal
 
 pub returns-in-Ok-default-clause-plays : goal.returns-in-Ok-default-clause-plays
