@@ -1,5 +1,5 @@
 -- A text is a line's exactly where it is cut into the line's words.
-use Rattle.std.proofs.Common.{◌≡◌, ◌≢◌, ℕ, true, List, [], ◌∷◌, Result, Ok, Err, IfOk, IsTrue, refl, sym, ap, ◌∙◌, arith}
+use Rattle.std.proofs.Common.{◌≡◌, ◌≢◌, ℕ, true, List, ◌∷◌, Result, Ok, Err, IfOk, IsTrue, refl, sym, ap, ◌∙◌, arith}
 use Rattle.lfs_model.specs.Call as call
 use Rattle.lfs_model.specs.Run.{has_word}
 use Rattle.lfs_model.specs.Script.{Line, Plain, Fill, InRange, text_of}
