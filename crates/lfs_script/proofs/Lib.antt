@@ -1,17 +1,6 @@
-pub mod Numbers
 pub mod ScriptBytes
 pub mod ScriptTurns
-pub mod Sent
 pub mod Looking
-pub mod Pieces
-pub mod Digits
-pub mod Escapes
-pub mod PieceTexts
-pub mod Spellings
-pub mod TwoWords
-pub mod Replies
-pub mod Cuts
-pub mod Commands
 pub mod Filling
 pub mod Used
 pub mod InTurn

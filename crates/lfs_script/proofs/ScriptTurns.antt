@@ -13,12 +13,12 @@ use Rattle.lfs_model.specs.Run.{has_word}
 use Rattle.lfs_model.specs.Script.{InRange, Line, bad, lines, reply, text_of}
 use Rattle.lfs_fs.specs.Scripts.{RunsLines, ServesLine, TellsLines}
 use Rattle.lfs_fs.specs.Volume.{Mounted}
-use Rattle.lfs_script.specs.Bytes.{AppendsSome}
+use Rattle.lfs_words.specs.Bytes.{AppendsSome}
 use Rattle.lfs_script.specs.LineEnd.{OnTooLong, consumed_by_line}
 use Rattle.lfs_script.specs.declared.line.LineEnd.{LineEnd}
 use Rattle.lfs_script.specs.declared.line.LineEnd.TheVariants.{TooLong}
 use Rattle.lfs_script.specs.declared.source.ReadError.{ReadError}
-use Rattle.lfs_script.specs.Lines.{IsUnknown}
+use Rattle.lfs_lines.specs.Lines.{IsUnknown}
 use Rattle.lfs_script.specs.Ending.{EndOf, IsBadLine, IsBadText, IsText, EndsWithLine, ended_texts, replies}
 use Rattle.lfs_script.specs.Running.{AnswersText, Called, Ends, EndsBy, EndsTold, Finishes, LooksBeforeReply, RepliesBadLine, SoFar, Turns}
 use Rattle.lfs_script.specs.Told.{Look, Looked, LooksAt}

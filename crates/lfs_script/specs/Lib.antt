@@ -1,12 +1,5 @@
 pub mod Bytes
 pub mod LineEnd
-pub mod Words
-pub mod Reading
-pub mod Lines
-pub mod Calls
-pub mod Command
-pub mod Pieces
-pub mod Answers
 pub mod Ending
 pub mod Strict
 pub mod Running

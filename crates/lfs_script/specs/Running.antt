@@ -7,7 +7,7 @@ use Rattle.lfs_model.specs.Device.{DeviceState}
 use Rattle.lfs_model.specs.Script.{Line, Spells, bad, reply}
 use Rattle.lfs_fs.specs.Scripts.{RunsLines, ServesLine, TellsLines}
 use Rattle.lfs_fs.specs.Volume.{Mounted}
-use Rattle.lfs_script.specs.Bytes.{AppendsSome}
+use Rattle.lfs_words.specs.Bytes.{AppendsSome}
 use Rattle.lfs_script.specs.Ending.{AreSpelled, EndOf, IsBadText, IsText, ended_texts, replies}
 use Rattle.lfs_script.specs.Told.{Look, Looked, LooksAt}
 use Rattle.lfs_script.specs.Strict.{EndsBehind, GoesOn, GoesOnBehind, StrictEndOf}

@@ -1,20 +1,20 @@
 // A script from its first line to its end.
 ghost use Rattle.std.specs.Prelude.{◌≤◌, length, option_map, true};
 ghost use Rattle.lfs_fs.specs.Seen.{seen};
-ghost use Rattle.lfs_script.specs.Answers.{result_of};
+ghost use Rattle.lfs_replies.specs.Answers.{result_of};
 ghost use Rattle.lfs_script.specs.Running.{AnswersText, Ends, EndsBy, EndsTold, Finishes, LooksBeforeReply, RepliesBadLine, Turns};
 ghost use Rattle.lfs_script.specs.Strict.{Follows};
 
-use crate::answer::{Answer, make};
-use crate::call::parse;
+use crate::answer::make;
 use crate::line::{LineEnd, next_line};
-use crate::reply::{put_bad, put_reply};
 use crate::source::Source;
 use crate::witness::{Looks, Witness};
-use crate::word::WordFault;
 use lfs_device::SectorDevice;
 use lfs_fs::{Fs, FsError};
+use lfs_lines::parse;
 use lfs_model::limits::LONGEST_LINE;
+use lfs_replies::{Answer, put_bad, put_reply};
+use lfs_words::WordFault;
 use std::alloc::Global;
 use std::io::{Read, Write};
 

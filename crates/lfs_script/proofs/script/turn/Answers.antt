@@ -1,6 +1,6 @@
 use Rattle.std.proofs.Common.{inl, inr, refl}
-use Rattle.lfs_script.specs.Answers.{result_of}
-use Rattle.lfs_script.specs.Bytes.{AppendsSome}
+use Rattle.lfs_replies.specs.Answers.{result_of}
+use Rattle.lfs_words.specs.Bytes.{AppendsSome}
 use Rattle.lfs_script.proofs.ScriptTurns.{called, looks_called, looks_never, turned}
 use Rattle.lfs_script.proofs.script.turn.Goals as goal
 
