@@ -3,18 +3,19 @@ ghost use Rattle.std.specs.Prelude.{◌≡◌, ◌≢◌, ◌≤◌, Ok, IfOk, O
 ghost use Rattle.std.specs.Io.KnownBytes.{Keeps};
 ghost use Rattle.lfs_model.specs.Device.{Carries};
 ghost use Rattle.lfs_device.specs.MemoryDevice.{device_state};
-ghost use Rattle.lfs_command.specs.Asking.{HasWord, IsStrict};
+ghost use Rattle.lfs_grammar.specs.Asking.{HasWord, IsStrict};
 ghost use Rattle.lfs_command.specs.Playing.{PlaysToRefusal, Plays, PlaysStrictly, TellsSaved};
 
+use crate::asked::{fault_of, left_of, look_of, patience_of};
 use crate::bad_line::{put_bad_line, reason_of};
 use crate::changing::change_volume;
 use crate::putting::put_into;
 use crate::remembering::LineKeeper;
-use crate::request::{Action, Request, read_request};
 use crate::simulation;
 use crate::simulation::{Plan, read_plan};
 use crate::terminals::Terminals;
 use lfs_device::{FileDeviceIn, Left, MemDevice, SectorDevice, ThisWorld, World};
+use lfs_grammar::{Action, Request, read_request};
 use lfs_recover::image::fault::{Ending, Fault, Outcome, Refusal, Told};
 use lfs_recover::image::image;
 use lfs_recover::image::image::{Making, unmounted};
@@ -25,7 +26,7 @@ use lfs_recover::image::viewing::look;
 use lfs_recover::script::{
     Looks, ScriptEnd, StrictEnd, Witness, read_u32, use_and_stop_told, use_volume_told,
 };
-use lfs_recover::{explain, recover};
+use lfs_recover::{Recovery, explain, recover};
 use std::alloc::{AllocError, Global};
 use std::fs::File;
 use std::io::{BufWriter, Read, Write};
@@ -362,11 +363,16 @@ fn act<Here: World, R: Files<File = File> + Clock, I: Read, W: Write, E: Write>(
             let making = making_of(terminals, segments, version, force, reserve)?;
             mkfs::<Here, R, I, W, E>(rt, alloc, image, making, input, output, errors)
         }
-        Action::Look(asked, patience) => {
-            look::<Here, R, W>(rt, alloc, image, asked, patience, output)
+        Action::Query { query, wait } => {
+            look::<Here, R, W>(rt, alloc, image, look_of(query), patience_of(wait), output)
         }
-        Action::Explain(patience) => explain::<Here, R, W>(rt, alloc, image, patience, output),
-        Action::Recover(asked) => recover::<Here, R, W>(rt, alloc, image, asked, output),
+        Action::Explain { wait } => {
+            explain::<Here, R, W>(rt, alloc, image, patience_of(wait), output)
+        }
+        Action::Recover { folder, older } => {
+            let asked = Recovery { folder, older };
+            recover::<Here, R, W>(rt, alloc, image, asked, output)
+        }
         Action::Change(asked) => change_volume::<Here, R, W>(rt, alloc, image, asked, output),
         Action::Put(source) => {
             put_into::<Here, R, I, W>(rt, alloc, terminals, image, source, input, output)
@@ -461,7 +467,7 @@ fn answer_request<'a, R: Files<File = File> + Clock, I: Read, W: Write, E: Write
             stop,
             left,
         } => {
-            let plan = read_plan(segments, version, stop, left);
+            let plan = read_plan(segments, version, stop, left_of(left));
             let told = told(IN_MEMORY, None, sim(alloc, plan, input, output));
             let unsaved = None;
             Answered { told, unsaved }
@@ -485,7 +491,7 @@ fn answer<'a, R: Files<File = File> + Clock, I: Read, W: Write, E: Write>(
     match read_request(alloc, words) {
         Ok(request) => answer_request(rt, alloc, terminals, request, input, output, errors),
         Err(fault) => {
-            let told = Err(fault);
+            let told = Err(fault_of(fault));
             let unsaved = None;
             Answered { told, unsaved }
         }
