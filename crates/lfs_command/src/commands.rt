@@ -3,24 +3,25 @@ ghost use Rattle.std.specs.Prelude.{◌≡◌, ◌≢◌, ◌≤◌, Ok, IfOk, O
 ghost use Rattle.std.specs.Io.KnownBytes.{Keeps};
 ghost use Rattle.lfs_model.specs.Device.{Carries};
 ghost use Rattle.lfs_device.specs.MemoryDevice.{device_state};
-ghost use Rattle.lfs_command.specs.Asking.{HasWord, IsStrict};
+ghost use Rattle.lfs_grammar.specs.Asking.{HasWord, IsStrict};
 ghost use Rattle.lfs_command.specs.Playing.{PlaysToRefusal, Plays, PlaysStrictly, TellsSaved};
 
+use crate::asked::{fault_of, left_of, look_of, patience_of};
 use crate::bad_line::{put_bad_line, reason_of};
 use crate::changing::change_volume;
 use crate::putting::put_into;
 use crate::remembering::LineKeeper;
-use crate::request::{Action, Request, read_request};
 use crate::simulation;
 use crate::simulation::{Plan, read_plan};
 use crate::terminals::Terminals;
 use lfs_device::{FileDeviceIn, Left, MemDevice, SectorDevice, ThisWorld, World};
+use lfs_grammar::{Action, Request, read_request};
 use lfs_host::fault::{Ending, Fault, Outcome, Refusal, Told};
 use lfs_host::image;
 use lfs_host::image::{Making, Patience, unmounted};
 use lfs_host::making::mkfs;
 use lfs_host::printing::{flush, print, put, put_count, refuse};
-use lfs_recover::{explain, recover};
+use lfs_recover::{Recovery, explain, recover};
 use lfs_script::{Looks, ScriptEnd, StrictEnd, Witness, use_and_stop_told, use_volume_told};
 use lfs_show::looking::{Look, end_look, show};
 use lfs_show::viewing::look;
@@ -373,13 +374,16 @@ fn act<Here: World, R: Files<File = File> + Clock, I: Read, W: Write, E: Write>(
             let making = making_of(terminals, segments, version, force, reserve)?;
             mkfs::<Here, R, I, W, E>(rt, alloc, image, making, input, output, errors)
         }
-        Action::Look(asked, patience) => {
-            look::<Here, R, W>(rt, alloc, image, asked, patience, output)
+        Action::Query { query, wait } => {
+            look::<Here, R, W>(rt, alloc, image, look_of(query), patience_of(wait), output)
         }
-        Action::Explain(patience) => {
-            check_and_explain::<Here, R, W>(rt, alloc, image, patience, output)
+        Action::Explain { wait } => {
+            check_and_explain::<Here, R, W>(rt, alloc, image, patience_of(wait), output)
         }
-        Action::Recover(asked) => recover::<Here, R, W>(rt, alloc, image, asked, output),
+        Action::Recover { folder, older } => {
+            let asked = Recovery { folder, older };
+            recover::<Here, R, W>(rt, alloc, image, asked, output)
+        }
         Action::Change(asked) => change_volume::<Here, R, W>(rt, alloc, image, asked, output),
         Action::Put(source) => {
             put_into::<Here, R, I, W>(rt, alloc, terminals, image, source, input, output)
@@ -474,7 +478,7 @@ fn answer_request<'a, R: Files<File = File> + Clock, I: Read, W: Write, E: Write
             stop,
             left,
         } => {
-            let plan = read_plan(segments, version, stop, left);
+            let plan = read_plan(segments, version, stop, left_of(left));
             let told = told(IN_MEMORY, None, sim(alloc, plan, input, output));
             let unsaved = None;
             Answered { told, unsaved }
@@ -498,7 +502,7 @@ fn answer<'a, R: Files<File = File> + Clock, I: Read, W: Write, E: Write>(
     match read_request(alloc, words) {
         Ok(request) => answer_request(rt, alloc, terminals, request, input, output, errors),
         Err(fault) => {
-            let told = Err(fault);
+            let told = Err(fault_of(fault));
             let unsaved = None;
             Answered { told, unsaved }
         }

@@ -1,13 +1,12 @@
 //! The commands of the program `lfs`.
 #![tactic(auto)]
 
+mod asked;
 mod bad_line;
 mod changing;
 mod commands;
-mod grammar;
 mod putting;
 mod remembering;
-mod request;
 mod simulation;
 mod terminals;
 

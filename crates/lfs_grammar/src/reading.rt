@@ -1,90 +1,40 @@
-//! What a command line asks for.
+//! The reading of a command line.
 ghost use Rattle.std.specs.Prelude.{◌≡◌, IfOk, codes};
 ghost use Rattle.std.specs.Bool.{OnTrue};
-ghost use Rattle.lfs_command.specs.Asking.{HasWord, IsStrict};
+ghost use Rattle.lfs_grammar.specs.Asking.{HasWord, IsStrict};
 
-use crate::changing::Change;
 use crate::grammar::{
     CHECKPOINT, FILE, FIRST_FORMAT, FOLDER, FORCE, FORMAT, FROM, IMAGE, LEFT, LONG, NULL, OLDER,
     PASSES, PATH, RESERVE, SECOND_FORMAT, SEGMENTS, STOP, STRICT, TO, VERBOSE, Verb, WAIT, program,
     verb_of,
 };
-use crate::putting::Source;
+use crate::request::{Action, Change, LeftWord, Query, Request, Source};
 use clap::error::ErrorKind;
 use clap::{ArgMatches, Error};
-use lfs_device::Left;
-use lfs_host::fault::Fault;
-use lfs_host::image::Patience;
-use lfs_recover::Recovery;
-use lfs_show::listing::Style;
-use lfs_show::looking::Look;
 use std::alloc::{AllocError, Global};
+
+/// Why a command line asks for nothing.
+#[derive(Debug, Drop)]
+pub enum RequestFault {
+    /// It is bad, as this text says.
+    Line(String),
+    Memory(AllocError),
+}
+
+impl From<AllocError> for RequestFault {
+    fn from(error: AllocError) -> RequestFault {
+        RequestFault::Memory(error)
+    }
+}
 
 /// The path that is listed where none is given.
 const ROOT: &str = "/";
 
-/// What is done with an image. Numbers and paths are words still.
-#[derive(Clone, Copy)]
-pub enum Action<'a> {
-    Mkfs {
-        segments: &'a str,
-        /// Of the layout.
-        version: u32,
-        force: bool,
-        reserve: bool,
-    },
-    Look(Look<'a>, Patience),
-    /// The volume is checked, and where it is damaged is told in words.
-    Explain(Patience),
-    Recover(Recovery<'a>),
-    Change(Change<'a>),
-    Put(Source<'a>),
-}
-
-impl<'a> Action<'a> {
-    /// The path that it has, as a word of scripts.
-    pub fn path(self) -> Option<&'a str> {
-        match self {
-            Action::Look(look, _) => look.path(),
-            Action::Put(source) => Some(source.path),
-            Action::Change(change) => change.path(),
-            Action::Explain(_) | Action::Recover(_) => None,
-            Action::Mkfs { .. } => None,
-        }
-    }
-}
-
-/// What a command line asks for. Numbers are words still.
-#[derive(Drop)]
-pub enum Request<'a> {
-    /// A text that is to be printed.
-    Help(String),
-    Image {
-        image: &'a str,
-        action: Action<'a>,
-    },
-    /// A script is run on an image.
-    Run {
-        image: &'a str,
-    },
-    /// A script is run on an image, to the first call that is refused.
-    Strict {
-        image: &'a str,
-    },
-    Sim {
-        segments: &'a str,
-        /// Of the layout.
-        version: u32,
-        stop: &'a str,
-        left: Left,
-    },
-}
-
-fn left_of(word: &str) -> Option<Left> {
+fn left_of(word: &str) -> Option<LeftWord> {
     match word {
-        "old" => Some(Left::Old),
-        "new" => Some(Left::New),
-        "bad" => Some(Left::Bad),
+        "old" => Some(LeftWord::Old),
+        "new" => Some(LeftWord::New),
+        "bad" => Some(LeftWord::Bad),
         _ => None,
     }
 }
@@ -123,17 +73,9 @@ fn on_image<'a>(action: Option<Action<'a>>, found: &ArgMatches<'a>) -> Option<Re
     })
 }
 
-// How long a look waits for a writer's end.
-fn patience_of(found: &ArgMatches<'_>) -> Patience {
-    if found.get_flag(WAIT) {
-        Patience::Endless
-    } else {
-        Patience::Impatient
-    }
-}
-
-fn looks<'a>(look: Look<'a>, found: &ArgMatches<'a>) -> Option<Request<'a>> {
-    on_image(Some(Action::Look(look, patience_of(found))), found)
+fn asks<'a>(query: Query<'a>, found: &ArgMatches<'a>) -> Option<Request<'a>> {
+    let wait = found.get_flag(WAIT);
+    on_image(Some(Action::Query { query, wait }), found)
 }
 
 fn changes<'a>(change: Option<Change<'a>>, found: &ArgMatches<'a>) -> Option<Request<'a>> {
@@ -144,26 +86,24 @@ fn read_rename<'a>(found: &ArgMatches<'a>) -> Option<Change<'a>> {
     Some(Change::Rename(found.get_str(FROM)?, found.get_str(TO)?))
 }
 
-fn style_of(found: &ArgMatches<'_>) -> Style {
-    if found.get_flag(LONG) {
-        Style::Long
-    } else if found.get_flag(NULL) {
-        Style::Raw
-    } else {
-        Style::Words
-    }
-}
-
 // The path that is looked at, or the root.
 fn path_or_root<'a>(found: &ArgMatches<'a>) -> &'a str {
     found.get_str(PATH).unwrap_or(ROOT)
 }
 
-fn read_get<'a>(found: &ArgMatches<'a>) -> Option<Look<'a>> {
+fn read_list<'a>(found: &ArgMatches<'a>) -> Query<'a> {
+    Query::List {
+        path: path_or_root(found),
+        long: found.get_flag(LONG),
+        null: found.get_flag(NULL),
+    }
+}
+
+fn read_get<'a>(found: &ArgMatches<'a>) -> Option<Query<'a>> {
     let path = found.get_str(PATH)?;
     match found.get_str(FILE) {
-        Some(file) => Some(Look::Get(path, file)),
-        None => Some(Look::Cat(path)),
+        Some(file) => Some(Query::Get(path, file)),
+        None => Some(Query::Cat(path)),
     }
 }
 
@@ -175,34 +115,36 @@ fn read_put<'a>(found: &ArgMatches<'a>) -> Option<Action<'a>> {
 }
 
 fn read_check<'a>(found: &ArgMatches<'a>) -> Action<'a> {
+    let wait = found.get_flag(WAIT);
     if found.get_flag(VERBOSE) {
-        Action::Explain(patience_of(found))
+        Action::Explain { wait }
     } else {
-        Action::Look(Look::Check, patience_of(found))
+        let query = Query::Check;
+        Action::Query { query, wait }
     }
 }
 
 fn read_recover<'a>(found: &ArgMatches<'a>) -> Option<Action<'a>> {
-    Some(Action::Recover(Recovery {
+    Some(Action::Recover {
         folder: found.get_str(FOLDER)?,
         older: found.get_str(CHECKPOINT) == Some(OLDER),
-    }))
+    })
 }
 
 fn asked<'a>(verb: Verb, found: &ArgMatches<'a>) -> Option<Request<'a>> {
     match verb {
         Verb::Mkfs => on_image(read_mkfs(found), found),
-        Verb::Mount => looks(Look::Mount, found),
+        Verb::Mount => asks(Query::Mount, found),
         Verb::Check => on_image(Some(read_check(found)), found),
-        Verb::Tree => looks(Look::Tree(path_or_root(found)), found),
-        Verb::Ls => looks(Look::List(path_or_root(found), style_of(found)), found),
-        Verb::Cat => looks(Look::Cat(found.get_str(PATH)?), found),
-        Verb::Get => looks(read_get(found)?, found),
-        Verb::Export => looks(Look::Export(found.get_str(FOLDER)?), found),
+        Verb::Tree => asks(Query::Tree(path_or_root(found)), found),
+        Verb::Ls => asks(read_list(found), found),
+        Verb::Cat => asks(Query::Cat(found.get_str(PATH)?), found),
+        Verb::Get => asks(read_get(found)?, found),
+        Verb::Export => asks(Query::Export(found.get_str(FOLDER)?), found),
         Verb::Recover => on_image(read_recover(found), found),
         Verb::Put => on_image(read_put(found), found),
-        Verb::Info => looks(Look::Info, found),
-        Verb::Df => looks(Look::Free, found),
+        Verb::Info => asks(Query::Info, found),
+        Verb::Df => asks(Query::Free, found),
         Verb::Rm => changes(Some(Change::Remove(found.get_str(PATH)?)), found),
         Verb::Mv => changes(read_rename(found), found),
         Verb::Mkdir => changes(Some(Change::MakeDirectory(found.get_str(PATH)?)), found),
@@ -223,15 +165,15 @@ fn request_of<'a>(matches: &ArgMatches<'a>) -> Option<Request<'a>> {
     asked(verb_of(name)?, found)
 }
 
-fn refused<'a>(alloc: Global, error: &Error) -> Result<Request<'a>, Fault>
+fn refused<'a>(alloc: Global, error: &Error) -> Result<Request<'a>, RequestFault>
     ensures { IfOk result (λ request. IsStrict request → ⊥) }
 {
     if error.kind() == ErrorKind::OutOfMemory {
-        return Err(Fault::Memory(AllocError));
+        return Err(RequestFault::Memory(AllocError));
     }
     let text = format!(in alloc; "{error}")?;
     if error.use_stderr() {
-        Err(Fault::Line(text))
+        Err(RequestFault::Line(text))
     } else {
         Ok(Request::Help(text))
     }
@@ -259,13 +201,13 @@ fn as_asked<'a>(words: &[String], request: Request<'a>) -> Request<'a>
 }
 
 /// Reads a command line, whose first word is the program's name.
-pub fn read_request<'a>(alloc: Global, words: &'a [String]) -> Result<Request<'a>, Fault>
+pub fn read_request<'a>(alloc: Global, words: &'a [String]) -> Result<Request<'a>, RequestFault>
     ensures { IfOk result (λ request. IsStrict request → HasWord words.now (codes "--strict")) }
 {
     match program(alloc)?.try_get_matches_from(words) {
         Ok(matches) => match request_of(&matches) {
             Some(request) => Ok(as_asked(words, request)),
-            None => Err(Fault::Memory(AllocError)),
+            None => Err(RequestFault::Memory(AllocError)),
         },
         Err(error) => refused(alloc, &error),
     }
