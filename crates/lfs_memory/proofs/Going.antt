@@ -60,7 +60,8 @@ pub err_ok : {T E : Type 0} (r : Result T E) (e : E) (P : Type 0) → IsErr r ×
 err_ok (Ok x) e P gives = absurd gives.1
 err_ok (Err e') e P gives = tt
 
-pub holds_volume_still : {p : ℕ} {d d' : DeviceState} {v v' : LogMemory} {n : ℕ} → GoesUpTo p d d' v v' n → HoldsVolume d v → HoldsVolume d' v'
+pub holds_volume_still : {p : ℕ} {d d' : DeviceState} {v v' : LogMemory} {n : ℕ} → GoesUpTo p d d' v v' n
+    → HoldsVolume d v → HoldsVolume d' v'
 holds_volume_still goes room = omega arith
 
 pub ok_then : {T E : Type 0} (r : Result T E) (P Q : Type 0) → (P → Q) → OnOk r P → OnOk r Q

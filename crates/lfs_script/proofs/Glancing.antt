@@ -39,10 +39,12 @@ glanced_more {w} w1 {answers} answer t {s} was appended is = record {
   one_each =
       (let one = was.one_each in omega (arith, length-append was.glances (glance_at t w1 ∷ []), length-append answers (answer ∷ []), one));
   before = λ i glance at. ⊎_elim (λ old. earlier i glance old)
-      (λ (last : (i ≡ length was.glances) × (glance ≡ glance_at t w1)). now i glance last.0 last.1) (get_snoc was.glances (glance_at t w1) i at);
+      (λ (last : (i ≡ length was.glances) × (glance ≡ glance_at t w1)). now i glance last.0 last.1)
+      (get_snoc was.glances (glance_at t w1) i at);
 }
   where
-    earlier : (i : ℕ) (glance : Glance) → slice_get was.glances i ≡ Some glance → Appends w glance.written (replies (take i (answers ++ answer ∷ [])))
+    earlier : (i : ℕ) (glance : Glance) → slice_get was.glances i ≡ Some glance
+        → Appends w glance.written (replies (take i (answers ++ answer ∷ [])))
     earlier i glance at =
         let within = slice_get_within was.glances i glance at in
         let one = was.one_each in

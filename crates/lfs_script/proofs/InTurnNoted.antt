@@ -18,7 +18,8 @@ use Rattle.lfs_script.specs.declared.session.StoppedScript.{StoppedScript}
 use Rattle.lfs_script.proofs.InTurn.{texts_more}
 
 module _ {D : Type 0} (state : D → DeviceState) (strict : Bool) where
-  each_more : (texts : List (List ℕ)) (text : List ℕ) (old mid new : Between D) (s s1 s2 : List Glance) → UsesEachNoted state strict texts old
+  each_more : (texts : List (List ℕ)) (text : List ℕ) (old mid new : Between D) (s s1 s2 : List Glance)
+      → UsesEachNoted state strict texts old
       mid s s1 → UsesOneNoted state strict text mid new s1 s2 → UsesEachNoted state strict (texts ++ text ∷ []) old new s s2
   each_more [] text old mid new s s1 s2 (same, seen) one = (
     new,
@@ -95,7 +96,8 @@ module _ {D : Type 0} (state : D → DeviceState) (strict : Bool) where
 
     -- there is none
     pub all_told : (old : Between D) (w : Option (List ℕ)) (d : D) (s s1 : List Glance) → length scripts ≤ i
-        → UsesInTurnNoted state strict (texts_of (take i scripts)) old w d s s1 → UsesInTurnNoted state strict (texts_of scripts) old w d s s1
+        → UsesInTurnNoted state strict (texts_of (take i scripts)) old w d s s1
+        → UsesInTurnNoted state strict (texts_of scripts) old w d s s1
     all_told old w d s s1 past was =
         subst (λ (ss : List StoppedScript). UsesInTurnNoted state strict (texts_of ss) old w d s s1) (take_all i scripts past) was
 

@@ -20,7 +20,8 @@ use Rattle.lfs_script.specs.declared.line.LineEnd.TheVariants.{TooLong}
 use Rattle.lfs_script.specs.declared.source.ReadError.{ReadError}
 use Rattle.lfs_lines.specs.Lines.{IsUnknown}
 use Rattle.lfs_script.specs.Ending.{EndOf, IsBadLine, IsBadText, IsText, EndsWithLine, ended_texts, replies}
-use Rattle.lfs_script.specs.Running.{AnswersText, Called, Ends, EndsBy, EndsNoted, Finishes, GlancesBeforeReply, RepliesBadLine, SoFar, Turns}
+use Rattle.lfs_script.specs.Running.{AnswersText, Called, Ends, EndsBy, EndsNoted}
+use Rattle.lfs_script.specs.Running.{Finishes, GlancesBeforeReply, RepliesBadLine, SoFar, Turns}
 use Rattle.lfs_script.specs.Noted.{Glance, Glanced, GlancesAt}
 use Rattle.lfs_script.proofs.Glancing.{glanced_more, glanced_none}
 use Rattle.lfs_script.specs.Strict.{Follows, EndsBehind, GoesOnBehind, StrictEndOf}
@@ -77,7 +78,8 @@ module _ {D : Type 0} (state : D → DeviceState) where
   turned (Some (Script end)) strict w w1 old new text n answer answers replied decides = absurd decides
 
   -- device and writer were glanced at behind the call
-  pub glances_called : {v : Mounted D} {d : D} (w : Option (List ℕ)) (answer : Answer) (old : Mounted D) {text : List ℕ} (s s1 : List Glance)
+  pub glances_called : {v : Mounted D} {d : D} (w : Option (List ℕ)) (answer : Answer) (old : Mounted D) {text : List ℕ}
+      (s s1 : List Glance)
       → AnswersText state (Some answer) old v text → d ≡ v.log.device
       → GlancesAt (state d).moment w s s1 → GlancesBeforeReply state v w text s s1
   glances_called w answer old s s1 answers same glances = record {
@@ -101,7 +103,8 @@ module _ {D : Type 0} (state : D → DeviceState) (strict : Bool) where
       → Finishes state strict (Script Done) w w v v text n s s
   finish_none w v text n s e = inl (nothing text (zero_length (length text) e), refl, refl, refl, refl)
 
-  pub finish_done : (w w1 : Option (List ℕ)) (old : Mounted D) {new : Mounted D} {text : List ℕ} (n : ℕ) (s : List Glance) {s1 : List Glance}
+  pub finish_done : (w w1 : Option (List ℕ)) (old : Mounted D) {new : Mounted D} {text : List ℕ}
+      (n : ℕ) (s : List Glance) {s1 : List Glance}
       → false ≡ (length text == 0)
       → Turns state strict None w w1 old new text n → GlancesBeforeReply state new w text s s1
       → Finishes state strict (Script Done) w w1 old new text n s s1
@@ -124,7 +127,8 @@ module _ {D : Type 0} (state : D → DeviceState) (strict : Bool) where
       subst (λ (t : List ℕ). Finishes state strict end w w1 old new t n s s1) is finishes
 
   -- the replies so far are flushed
-  pub so_far_flushed : {n : ℕ} {r left w w1 : Option (List ℕ)} (w2 : Option (List ℕ)) {old now : Mounted D} {s s1 : List Glance} → Keeps w1 w2
+  pub so_far_flushed : {n : ℕ} {r left w w1 : Option (List ℕ)} (w2 : Option (List ℕ)) {old now : Mounted D} {s s1 : List Glance}
+      → Keeps w1 w2
       → SoFar state strict n r left w w1 old now s s1 → SoFar state strict n r left w w2 old now s s1
   so_far_flushed {w} {w1} w2 keeps so = record {
     texts = so.texts;

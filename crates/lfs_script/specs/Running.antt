@@ -78,8 +78,8 @@ module _ {D : Type 0} (state : D → DeviceState) where
     pub never : IsBadText text → s' ≡ s
 
   -- Both of the last line, which may be none.
-  abbrev pub Finishes : Bool → StrictEnd → Option (List ℕ) → Option (List ℕ) → Mounted D → Mounted D → List ℕ → ℕ → List Glance → List Glance
-      → Type 0
+  abbrev pub Finishes : Bool → StrictEnd → Option (List ℕ) → Option (List ℕ) → Mounted D → Mounted D → List ℕ → ℕ → List Glance
+      → List Glance → Type 0
   Finishes strict end w w' old new text n s s' = ((text ≡ []) × (end ≡ Script Done) × (w' ≡ w) × (new ≡ old) × (s' ≡ s))
       ⊎ ((0 < length text) × GlancesBeforeReply new w text s s'
       × (((end ≡ Script Done) × Turns strict None w w' old new text n) ⊎ Turns strict (Some end) w w' old new text n))

@@ -13,7 +13,8 @@ use Rattle.lfs_model.proofs.Moments.{carries_none, carries_then, joined, weaker}
 use Rattle.lfs_cleaner.proofs.of_log.LogReads.{acknowledged, looks_leave, segment_count}
 use Rattle.lfs_cleaner.specs.log.LogState.{LogState, Holds, IsSaved, LeavesSaved, Saves, Alters, IsStaged, IsRefused, IsStageFault}
 use Rattle.lfs_cleaner.specs.log.LogState.{commits_due}
-use Rattle.lfs_cleaner.specs.Making.{Acknowledges, FailsClean, HaltsLater, HasQuarter, IsAtRest, IsCleanFault, KeepsMap, LacksClean, MakesClean}
+use Rattle.lfs_cleaner.specs.Making.{Acknowledges, FailsClean, HaltsLater, HasQuarter}
+use Rattle.lfs_cleaner.specs.Making.{IsAtRest, IsCleanFault, KeepsMap, LacksClean, MakesClean}
 use Rattle.lfs_cleaner.specs.Making.{MayNotMakeClean, StaysUnsaved, most_checkpoints}
 use Rattle.lfs_cleaner.proofs.CleanBounds.{makes_none, readied_saves}
 use Rattle.lfs_cleaner.proofs.CleanEnds.{acknowledges_still, fault_then, halts_then, keeps_none, keeps_then, keeps_weaker, rest_saves}

@@ -8,7 +8,8 @@ use Rattle.lfs_files.specs.declared.fault.StoreFault.TheVariants.{NoMemory, Log}
 use Rattle.lfs_files.specs.declared.fault.LogFault.TheVariants.{Full, Device, Halted}
 use Rattle.lfs_cleaner.specs.log.LogState.{LogState, Halts, IsFull, Saves}
 use Rattle.lfs_cleaner.specs.log.Saving.{commit_orders, orders_for}
-use Rattle.lfs_cleaner.specs.Making.{FailsClean, HaltsLater, HasQuarter, IsAtRest, LacksClean, MakesClean, MayNotMakeClean, most_checkpoints}
+use Rattle.lfs_cleaner.specs.Making.{FailsClean, HaltsLater, HasQuarter, IsAtRest}
+use Rattle.lfs_cleaner.specs.Making.{LacksClean, MakesClean, MayNotMakeClean, most_checkpoints}
 use Rattle.lfs_cleaner.specs.Making.{clean_orders}
 use Rattle.lfs_store.specs.declared.store.Store.{Store}
 use Rattle.lfs_store.specs.Keeping.{KeepsDraft}

@@ -2,7 +2,8 @@
 use Rattle.lfs_fs.proofs.Prelude.{◌<◌, ◌≡◌, ◌≢◌, ◌||◌, ◌&&◌, not, ℕ, Bool, true, false, List, length, Option, Some, None, eqb, refl, sym}
 use Rattle.lfs_fs.proofs.Prelude.{◌∙◌, ap, subst, inl, inr, arith, ◌==◌, eq-eqb, nat_tests, Answer, Done, Refuse, Rename, IsName, LogMap}
 use Rattle.lfs_fs.proofs.Prelude.{Step, name, State, is_dir, links, names, node, FilesState, Last, is_dots, IsChain, here, Object}
-use Rattle.lfs_fs.proofs.Prelude.{EntryFault, Source, Target, is_directory, GivesObject, GivesNumber, ChecksRename, HasBothNames, RefusesRename}
+use Rattle.lfs_fs.proofs.Prelude.{EntryFault, Source, Target, is_directory}
+use Rattle.lfs_fs.proofs.Prelude.{GivesObject, GivesNumber, ChecksRename, HasBothNames, RefusesRename}
 use Rattle.lfs_fs.proofs.Prelude.{at_most, not_at_most, IsReached, dots_is, entry_is, free_is, full_is, gives_is, has_piece, holder}
 use Rattle.lfs_fs.proofs.Prelude.{kind_is, last_dots_is, links_are, long_is, piece_is, short_is, slash_is, target_is, there_is, IsRename}
 use Rattle.lfs_fs.proofs.Prelude.{StopsAt, conditions, rename_stops, shape_of}

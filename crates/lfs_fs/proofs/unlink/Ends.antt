@@ -1,7 +1,8 @@
 -- The call unlink as a step of the model: what the rule of an old entry takes, and the name that goes.
 use Rattle.lfs_fs.proofs.Prelude.{◌≡◌, ◌≢◌, ℕ, Bool, true, false, List, Some, Result, refl, sym, ◌∙◌, IfErr, IsErrOf, OnOk, Done, Unlink}
 use Rattle.lfs_fs.proofs.Prelude.{DeviceState, IsLawful, LogMap, Step, State, is_dir, node, opened, FilesState, Store, files_of, Last}
-use Rattle.lfs_fs.proofs.Prelude.{Entry, EntryFault, GivesObject, CountsDrop, DraftsDrop, HasOld, FailsWhere, FsError, Fs, Finishes, Reaches}
+use Rattle.lfs_fs.proofs.Prelude.{Entry, EntryFault, GivesObject, CountsDrop, DraftsDrop}
+use Rattle.lfs_fs.proofs.Prelude.{HasOld, FailsWhere, FsError, Fs, Finishes, Reaches}
 use Rattle.lfs_fs.proofs.Prelude.{IsReady, answer_by, seen, Mounted, Serves, segments_of, MayGo, gone, IsReached, dots_is, gives_is}
 use Rattle.lfs_fs.proofs.Prelude.{kind_is, short_is, slash_is, there_is, IsShaped}
 use Rattle.lfs_model.proofs.Keeps.{unlink_keeps}

@@ -3,7 +3,8 @@ use Rattle.lfs_steps.proofs.Prelude.{◌≡◌, ◌≤◌, ◌<◌, ◌+◌, ◌
 use Rattle.lfs_steps.proofs.Prelude.{nat_lt, arith, refl, is_some, unwrap_or, T, find, is_sorted, Kind, LAST_NUMBER, AreBytes, IsHeaderOf}
 use Rattle.lfs_steps.proofs.Prelude.{slash, LogMap, gives_dir, is_full, is_long, is_there, last_dots, name, no_last, target, Dir, State}
 use Rattle.lfs_steps.proofs.Prelude.{Tree, byte_cmp, entry, form_of, is_dir, links, name_len, names_in, node, slot_len, without_name}
-use Rattle.lfs_steps.proofs.Prelude.{node_by, At, Parent, parent_dir, dir_at, as_header, names_at, Last, is_directory, GivesNumber, TakesOneMore}
+use Rattle.lfs_steps.proofs.Prelude.{node_by, At, Parent, parent_dir, dir_at}
+use Rattle.lfs_steps.proofs.Prelude.{as_header, names_at, Last, is_directory, GivesNumber, TakesOneMore}
 use Rattle.lfs_model.specs.declared.Kind.TheVariants as kinds
 use Rattle.lfs_model.specs.declared.limits.TheConstants.{MOST_ENTRIES}
 use Rattle.lfs_model.specs.Entry as entries

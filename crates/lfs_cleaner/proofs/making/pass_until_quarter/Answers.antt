@@ -1,5 +1,6 @@
 use Rattle.std.proofs.Common.{rules, ◌≡◌, ◌<◌, ◌≤◌, ◌+◌, ◌/◌, true, false, ◌∙◌, arith}
-use Rattle.lfs_cleaner.proofs.CleanEnds.{fault_then, halts_at_once, halts_then, halts_weaker, keeps_reads, keeps_then, keeps_weaker, read_fault}
+use Rattle.lfs_cleaner.proofs.CleanEnds.{fault_then, halts_at_once, halts_then, halts_weaker}
+use Rattle.lfs_cleaner.proofs.CleanEnds.{keeps_reads, keeps_then, keeps_weaker, read_fault}
 use Rattle.lfs_cleaner.proofs.CleanBounds.{may_pass, nothing_between, passes_more, told_within, told_more, passes_none, passes_suffice}
 use Rattle.lfs_cleaner.proofs.making.pass_until_quarter.Goals as goal
 

@@ -37,4 +37,5 @@ pub returns-clause-told : goal.returns-clause-told
 returns-clause-told g c =
     told_cleaned g.D.SectorDevice.state c.make_clean.new.self.log
     c.in_ok-prepare_commit.ensures.once (c.if-may_commit.ensures.no (search rules))
-    c.prepare_commit.ensures.told c.make_clean.ensures.told c.make_clean.ensures.passes c.in_ok-prepare_commit.ensures.ready.room.keeps.segments
+    c.prepare_commit.ensures.told c.make_clean.ensures.told c.make_clean.ensures.passes
+    c.in_ok-prepare_commit.ensures.ready.room.keeps.segments
