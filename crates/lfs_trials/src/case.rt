@@ -46,7 +46,10 @@ fn is_well(rt: &impl Print, case: &Case<'_>) -> Result<bool> {
     let Some((number, line, other)) = first_difference(case.wanted, found) else {
         return Ok(true);
     };
-    println!(rt; "{}: line {number}: {line:?} is wanted, and not {other:?}", case.name)?;
+    println!(rt;
+        "{}: line {number}: {line:?} is wanted, and not {other:?}",
+        case.name
+    )?;
     Ok(false)
 }
 

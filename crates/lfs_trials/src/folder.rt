@@ -140,11 +140,7 @@ fn check_bad_lines<R: Files + Print + AllocGlobal>(
     Ok(())
 }
 
-fn check_talk<R: Files + Print + AllocGlobal>(
-    rt: &R,
-    name: &str,
-    tally: &mut Tally,
-) -> Result<()> {
+fn check_talk<R: Files + Print + AllocGlobal>(rt: &R, name: &str, tally: &mut Tally) -> Result<()> {
     let text = needed(rt, name, "talk")?;
     let wanted = needed(rt, name, "said")?;
     let mut talk = Talk::new(rt.alloc())?;
@@ -159,11 +155,7 @@ fn check_talk<R: Files + Print + AllocGlobal>(
 }
 
 /// Checks what a file holds, if its name has an ending. What is to be said never stands alone.
-fn check_file<R: Files + Print + AllocGlobal>(
-    rt: &R,
-    file: &str,
-    tally: &mut Tally,
-) -> Result<()> {
+fn check_file<R: Files + Print + AllocGlobal>(rt: &R, file: &str, tally: &mut Tally) -> Result<()> {
     match file.rsplit_once('.') {
         Some((name, "script")) => check_script(rt, name, tally),
         Some((name, "bad")) => check_bad_lines(rt, name, tally),
