@@ -22,7 +22,7 @@ import stopping
 import test_pansuyog
 from test_pansuyog import HERE, BesideTheProgram, Calls, Files, OnAVolume, OnlyRead, Page, Refusals, changes_of, put  # noqa: F401, whose tests run here too
 
-CASES = f"{HERE}/../../crates/lfs_cases/data"
+CASES = f"{HERE}/../../crates/lfs_trials/data"
 RECORDS = int(os.environ.get("PANSUYOG_RECORDS", "3600"))
 
 
@@ -102,7 +102,7 @@ class Scripts(unittest.TestCase):
         paths = [os.path.splitext(it)[0] for it in glob.glob(f"{CASES}/*.script")]
         # A bad line is a matter of the language alone.
         paths = [it for it in paths if "bad " not in text_of(f"{it}.replies")]
-        self.assertGreaterEqual(len(paths), 59)
+        self.assertGreaterEqual(len(paths), 67)
         for path in sorted(paths):
             with self.subTest(os.path.basename(path)), tempfile.TemporaryDirectory() as folder:
                 self.carry_out(path, f"{folder}/disk.img")

@@ -1,13 +1,10 @@
 //! The commands of the program `lfs`.
 #![tactic(auto)]
 
-mod bad_line;
+mod asked;
 mod changing;
 mod commands;
-mod grammar;
 mod putting;
-mod remembering;
-mod request;
 mod simulation;
 mod terminals;
 

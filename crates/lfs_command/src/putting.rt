@@ -2,6 +2,7 @@
 use crate::terminals::Terminals;
 use lfs_device::{SectorDevice, World};
 use lfs_fs::Fs;
+use lfs_grammar::Source;
 use lfs_host::fault::{Ending, Fault, Refusal};
 use lfs_host::host::HostFault;
 use lfs_host::image::end_caused;
@@ -16,15 +17,6 @@ use std::fs::File;
 use std::io::{Read, Write};
 use std::rt::Files;
 use std::time::Clock;
-
-/// Where a put takes the bytes from, and the path that gets them, as a word still.
-#[derive(Clone, Copy)]
-pub struct Source<'a> {
-    pub path: &'a str,
-    /// A file of the host, or `-` for standard input. Without one it is standard input too, if that
-    /// is no terminal and has a byte.
-    pub file: Option<&'a str>,
-}
 
 /// The word for standard input in the place of a file of the host.
 const STANDARD_INPUT: &str = "-";

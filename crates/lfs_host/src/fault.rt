@@ -265,7 +265,7 @@ impl Outcome {
 
 /// What people are told of an outcome.
 #[derive(Clone, Copy)]
-pub struct Told<'a> {
+pub struct Said<'a> {
     /// What the command was about.
     pub subject: &'a str,
     /// The path that the command has, as a word of scripts.
@@ -273,7 +273,7 @@ pub struct Told<'a> {
     pub outcome: Outcome,
 }
 
-impl Told<'_> {
+impl Said<'_> {
     /// Whether people are told of it.
     pub fn has_text(&self) -> bool {
         !matches!(self.outcome, Outcome::Ended(Ending::Done))
@@ -344,7 +344,7 @@ impl Display for Outcome {
     }
 }
 
-impl Display for Told<'_> {
+impl Display for Said<'_> {
     fn fmt<W: fmt::Write>(&self, f: &mut Formatter<W>) -> fmt::Result {
         write!(f, "lfs: {}: ", self.subject)?;
         if let Some(path) = self.shown_path() {

@@ -1,5 +1,5 @@
 // The call that a line is.
-ghost use Rattle.std.specs.Prelude.{◌≡◌, ◌≢◌, ◌<◌, ◌^◌, ℕ, List, [], ◌∷◌, Err, IfOk, IfErr, OnErr, IsErrOf, IsTrue, codes, decimal, option_copied};
+ghost use Rattle.std.specs.Prelude.{◌≡◌, ◌≢◌, ◌<◌, ◌^◌, ℕ, List, [], ◌∷◌, Err, IfOk, OnErr, IsErrOf, IsTrue, decimal, option_copied};
 ghost use Rattle.lfs_model.specs.Bytes.{AreBytes};
 ghost use Rattle.lfs_model.specs.Run.{has_word};
 ghost use Rattle.lfs_model.specs.Script.{Line, InRange, hex, text_of, word};

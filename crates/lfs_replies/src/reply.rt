@@ -1,5 +1,5 @@
 // The reply to a line.
-ghost use Rattle.std.specs.Prelude.{◌≡◌, [], ◌∷◌, ◌++◌, length, IfOk, codes, decimal, flat_map};
+ghost use Rattle.std.specs.Prelude.{◌≡◌, [], ◌∷◌, ◌++◌, length, decimal, flat_map};
 ghost use Rattle.lfs_words.specs.Bytes.{Puts};
 ghost use Rattle.lfs_replies.specs.Pieces.{piece_text};
 ghost use Rattle.lfs_model.specs.Script.{bad, entry_line, head_text, kind_name, ok, reply, row_line};

@@ -1,7 +1,7 @@
 pub mod ScriptBytes
 pub mod ScriptTurns
-pub mod Looking
+pub mod Glancing
 pub mod Filling
 pub mod Used
 pub mod InTurn
-pub mod InTurnTold
+pub mod InTurnNoted

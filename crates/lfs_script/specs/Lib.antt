@@ -6,8 +6,8 @@ pub mod Running
 pub mod Session
 pub mod Unused
 pub mod Seen
-pub mod Told
+pub mod Noted
 pub mod Saved
 pub mod Series
-pub mod SeriesTold
+pub mod SeriesNoted
 pub use Rattle.lfs_fs.specs as fs

@@ -4,11 +4,11 @@
 mod answer;
 pub mod laws;
 mod line;
+mod noted;
 mod script;
 mod session;
 mod source;
 mod strict;
-mod told;
 mod witness;
 
 pub use lfs_fs as fs;
@@ -18,8 +18,8 @@ pub use lfs_words::{
     Stopped, WordFault, put_escaped, put_hex, put_number, read_escaped, read_hex, read_u8,
     read_u32, read_u64,
 };
-pub use script::{ScriptEnd, StrictEnd, run, run_strict, run_told};
+pub use noted::{UseEnd, use_and_stop_noted, use_each_noted, use_volume_noted};
+pub use script::{ScriptEnd, StrictEnd, run, run_noted, run_strict};
 pub use session::{StoppedScript, use_and_stop, use_each, use_volume};
 pub use strict::use_volume_strict;
-pub use told::{UseEnd, use_and_stop_told, use_each_told, use_volume_told};
-pub use witness::{Looks, Witness};
+pub use witness::{Glances, Witness};

@@ -5,7 +5,7 @@ use Rattle.lfs_fs.specs.Volume.{segments_of}
 use Rattle.lfs_fs.specs.declared.fs.Fs.{Fs}
 use Rattle.lfs_queue.specs.Queue.{queue_state, told_of}
 use Rattle.lfs_queue.specs.declared.queue.QueueDevice.{QueueDevice}
-use Rattle.lfs_store.specs.cleaner.Room.{CleansOnce, HasQuarter, once_orders}
+use Rattle.lfs_store.specs.cleaner.Making.{CleansOnce, HasQuarter, once_orders}
 use Rattle.pansuyog.specs.Codes.{not_mounted}
 
 -- C is told whether fewer than a quarter of the segments is clean
