@@ -2,8 +2,6 @@
 //! gives them, and carries out the writes and syncs that wait.
 #![tactic(auto)]
 
-mod bytes;
-mod codes;
 mod files;
 mod handle;
 mod listing;
