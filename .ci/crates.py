@@ -12,6 +12,14 @@ def read(path):
         return file.read()
 
 
+def state(part):
+    """The folder outside of all clones that keeps what runs came to, for one of the scripts."""
+    base = os.environ.get("XDG_STATE_HOME") or os.path.expanduser("~/.local/state")
+    folder = f"{base}/pansuyog-{part}"
+    os.makedirs(folder, exist_ok=True)
+    return folder
+
+
 def lines(root=ROOT):
     """Each crate's line of crates.txt, by its name, in the order of that file."""
     found = (line.split("#")[0].strip() for line in read(f"{root}/crates.txt").splitlines())

@@ -7,14 +7,27 @@ ROOT = os.path.dirname(os.path.dirname(os.path.realpath(__file__)))
 BUILT = f"{ROOT}/crates/lfs/out/lfs"
 
 
+class Parser(argparse.ArgumentParser):
+    """A parser of a command line, which looks for the program that is tried once all words are read."""
+
+    has_program = False
+
+    def parse_args(self, args=None, namespace=None):
+        given = super().parse_args(args, namespace)
+        if self.has_program:
+            given.program = existing(given.program)
+        return given
+
+
 def parser(description):
     """A parser of a command line, with the text of a script as its help."""
-    return argparse.ArgumentParser(description=description, formatter_class=argparse.RawDescriptionHelpFormatter)
+    return Parser(description=description, formatter_class=argparse.RawDescriptionHelpFormatter)
 
 
 def add_program(to, default=BUILT, what="what ./install builds"):
     """Adds the program that is tried, by its path."""
-    to.add_argument("program", nargs="?", default=default, type=existing, metavar="PROGRAM", help=f"the program; without one, {what}")
+    to.has_program = True
+    to.add_argument("program", nargs="?", default=default, metavar="PROGRAM", help=f"the program; without one, {what}")
 
 
 def existing(path):

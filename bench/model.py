@@ -1,7 +1,7 @@
 #!/usr/bin/env python3
 """A plain model of a volume: what each line of a script answers, and the state behind it.
 
-    bench/model.py   compares its answers with the replies of crates/lfs_cases, but for the scripts with a bad line
+    bench/model.py   compares its answers with the replies of crates/lfs_trials, but for the scripts with a bad line
 
 Else it is imported. It is written from what docs/CALLS.md and docs/SCRIPT.md say, and shares nothing with the product: no segment, no
 block, no commit. A state is never changed. `step` answers the reply to a line as a list of lines, and the state behind it; `dropped`
@@ -14,7 +14,7 @@ import re
 import sys
 from typing import NamedTuple, Optional, Union
 
-CASES = os.path.join(os.path.dirname(os.path.dirname(os.path.realpath(__file__))), "crates/lfs_cases/data")
+CASES = os.path.join(os.path.dirname(os.path.dirname(os.path.realpath(__file__))), "crates/lfs_trials/data")
 MOST_BYTES = 8_511_488
 MOST_MOVED = 65_536
 MOST_ENTRIES = 1_024

@@ -47,7 +47,7 @@ from typing import List, NamedTuple
 __all__ = ["Calls", "Files", "Volume", "ProcessVolume", "Refused", "ReadOnly", "ChildDied", "BadLine", "Omitted"]
 __all__ += ["Entry", "Space", "Stat", "TreeRow", "Written", "make"]
 
-# What people are told of a call that is refused, as in crates/lfs_image/src/reason.rt: the reply to a line has the name alone.
+# What people are told of a call that is refused, as in crates/lfs_host/src/reason.rt: the reply to a line has the name alone.
 _NO_MEMORY = "there isn't enough memory"
 _DEVICE = "a read, a write or a sync of it failed"
 _UNWRITABLE = "it can't be written"

@@ -22,7 +22,7 @@ import stopping
 import test_pansuyog
 from test_pansuyog import HERE, BesideTheProgram, Calls, Files, OnAVolume, OnlyRead, Page, Refusals, changes_of, put  # noqa: F401, whose tests run here too
 
-CASES = f"{HERE}/../../crates/lfs_cases/data"
+CASES = f"{HERE}/../../crates/lfs_trials/data"
 RECORDS = int(os.environ.get("PANSUYOG_RECORDS", "3600"))
 
 

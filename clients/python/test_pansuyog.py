@@ -518,7 +518,7 @@ class Refusals(OnAVolume):
         self.assertIn("NoEntry", pansuyog.__all__)
 
     def test_texts_are_those_of_the_program(self):
-        with open(f"{HERE}/../../crates/lfs_image/src/reason.rt", encoding="utf-8") as file:
+        with open(f"{HERE}/../../crates/lfs_host/src/reason.rt", encoding="utf-8") as file:
             source = file.read()
         constants = dict(re.findall(r'const (\w+): &str =\s*"(.*)";', source))
 

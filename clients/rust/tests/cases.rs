@@ -1,4 +1,4 @@
-//! The scripts of `crates/lfs_cases/data`, line by line as calls of this crate. What they are to answer stands beside them.
+//! The scripts of `crates/lfs_trials/data`, line by line as calls of this crate. What they are to answer stands beside them.
 mod common;
 
 use common::MemoryDevice;
@@ -209,7 +209,7 @@ fn difference(path: &Path) -> Option<String> {
 
 /// The scripts that have no bad line, which is a matter of the language alone.
 fn scripts() -> Vec<PathBuf> {
-    let folder = Path::new(env!("CARGO_MANIFEST_DIR")).join("../../crates/lfs_cases/data");
+    let folder = Path::new(env!("CARGO_MANIFEST_DIR")).join("../../crates/lfs_trials/data");
     let files = fs::read_dir(folder).unwrap().map(|it| it.unwrap().path());
     let has_bad_line = |it: &PathBuf| text_of(it, "replies").unwrap().contains("bad ");
     files

@@ -1,5 +1,5 @@
 pub mod Pressing
 pub use Rattle.lfs_log.proofs as of_log
-pub mod Rooms
-pub mod RoomBounds
+pub mod CleanEnds
+pub mod CleanBounds
 pub mod Onces

@@ -6,11 +6,11 @@ use Rattle.lfs_model.specs.Device.{DeviceState, IsLawful}
 use Rattle.lfs_log.specs.LogState.{AreAllSaved, LogState, Reads}
 use Rattle.lfs_log.specs.Saving.{commit_orders, pass_orders}
 use Rattle.lfs_cleaner.specs.Passing.{FailsPass, IsUnfit, RefusesPass}
-use Rattle.lfs_cleaner.specs.Room.{CleansOnce, CommitsUnsaved, FailsPasses, KeepsMap, LacksPasses, MayNotMakeRoom}
-use Rattle.lfs_cleaner.specs.Room.{PassesWhereDue, once_orders, room_orders}
-use Rattle.lfs_cleaner.proofs.Rooms.{keeps_none, keeps_reads, keeps_weaker, read_fault, repeats_passes}
+use Rattle.lfs_cleaner.specs.Making.{CleansOnce, CommitsUnsaved, FailsPasses, KeepsMap, LacksPasses, MayNotMakeClean}
+use Rattle.lfs_cleaner.specs.Making.{PassesWhereDue, once_orders, clean_orders}
+use Rattle.lfs_cleaner.proofs.CleanEnds.{keeps_none, keeps_reads, keeps_weaker, read_fault, repeats_passes}
 use Rattle.lfs_log.proofs.LogReads.{segment_count}
-use Rattle.lfs_cleaner.proofs.RoomBounds.{may_pass, passes_none}
+use Rattle.lfs_cleaner.proofs.CleanBounds.{may_pass, passes_none}
 
 -- ---- orders
 -- a commit, and a pass behind it
@@ -18,7 +18,7 @@ pub once_told : (t0 t1 t2 : ℕ) {n n' : ℕ} → n' ≡ n → t1 ≤ t0 + commi
 once_told t0 t1 t2 same first second = omega (arith, same, first, second)
 
 -- no more than where room is made
-pub once_within : {n : ℕ} → IsSegmentCount n → once_orders n ≤ room_orders n
+pub once_within : {n : ℕ} → IsSegmentCount n → once_orders n ≤ clean_orders n
 once_within {n} count = let least = count.least in more (n / 8) (8 * n + 4) (omega (arith, least))
   where
     more : (eighth p : ℕ) → 1 ≤ eighth → commit_orders + p ≤ commit_orders + eighth * p
@@ -27,7 +27,7 @@ once_within {n} count = let least = count.least in more (n / 8) (8 * n + 4) (ome
 module _ {D : Type 0} {state : D → DeviceState} where
   -- a pass may be made where room can be
   unfit_lacks : {h now : LogState D} → IsLawful (state h.device) → h.halted ≡ false → AreAllSaved h → 4 * h.clean < h.segments
-      → Reads state h now → IsUnfit state h now → MayNotMakeRoom state h now
+      → Reads state h now → IsUnfit state h now → MayNotMakeClean state h now
   unfit_lacks lawful running nothing few reads unfit k m0 m keeps may =
       let least = (segment_count _ lawful may.holds).least in
       let next =

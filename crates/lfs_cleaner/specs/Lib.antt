@@ -1,3 +1,3 @@
 pub mod Passing
-pub mod Room
+pub mod Making
 pub use Rattle.lfs_log.specs as log

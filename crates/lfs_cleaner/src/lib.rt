@@ -2,12 +2,12 @@
 //! After the Sprite LFS paper (1992, section 3.3).
 #![tactic(auto)]
 
+pub mod making;
 pub mod once;
 pub mod passing;
-pub mod room;
 
 pub use lfs_log as volume_log;
 pub use lfs_log::{Log, LogFault};
 pub use once::clean_once;
 pub use passing::pass;
-pub use room::{has_quarter, make_room};
+pub use room::{has_quarter, make_clean};

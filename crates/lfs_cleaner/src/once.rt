@@ -3,10 +3,10 @@ ghost use Rattle.std.specs.Prelude.{◌≡◌, ◌≢◌, ◌<◌, ◌≤◌, �
 ghost use Rattle.lfs_log.specs.LogState.{AreAllSaved, Halts};
 ghost use Rattle.lfs_log.specs.Saving.{pass_orders};
 ghost use Rattle.lfs_cleaner.specs.Passing.{FailsPass, RefusesPass};
-ghost use Rattle.lfs_cleaner.specs.Room.{FailsRoom, HaltsLater, HasQuarter, LacksRoom, MakesOnce, PassesWhereDue, most_checkpoints, once_orders};
+ghost use Rattle.lfs_cleaner.specs.Making.{FailsClean, HaltsLater, HasQuarter, LacksClean, MakesOnce, PassesWhereDue, most_checkpoints, once_orders};
 
+use crate::making::{commit_unsaved, has_quarter};
 use crate::passing::pass;
-use crate::room::{commit_unsaved, has_quarter};
 use lfs_device::SectorDevice;
 use lfs_log::{Log, LogFault};
 
@@ -52,9 +52,9 @@ pub fn clean_once<D: SectorDevice>(log: &mut Log<D>) -> Result<(), LogFault>
         → OnOk result (PassesWhereDue D.SectorDevice.state log.old log.new) }
     ensures totals { log.new.totals ≡ log.old.totals }
     ensures full { IsErrOf result LogFault.Full
-        → LacksRoom D.SectorDevice.state log.old log.new }
+        → LacksClean D.SectorDevice.state log.old log.new }
     ensures device { IsErrOf result LogFault.Device
-        → FailsRoom D.SectorDevice.state log.old log.new }
+        → FailsClean D.SectorDevice.state log.old log.new }
     ensures told { length (D.state log.new.device).told ≤ length (D.state log.old.device).told
         + once_orders log.old.segments }
     ensures halted { IsErrOf result LogFault.Halted → log.old.halted ≢ true

@@ -2,19 +2,19 @@
 use Rattle.std.specs.Prelude.{◌≡◌, ◌⊎◌, ℕ, Bool, true, false, Option, List}
 use Rattle.std.specs.Io.KnownBytes.{Keeps}
 use Rattle.lfs_model.specs.Device.{AllLeft, DeviceState}
-use Rattle.lfs_recover.specs.script.fs.Mounting.{IsRefused}
-use Rattle.lfs_recover.specs.script.fs.log.verify.declared.fault.MountFault.{MountFault}
-use Rattle.lfs_recover.specs.script.Saved.{SessionSaved}
-use Rattle.lfs_recover.specs.script.Session.{SessionTold}
-use Rattle.lfs_recover.specs.script.Told.{Look}
-use Rattle.lfs_recover.specs.script.declared.script.StrictEnd.{StrictEnd}
-use Rattle.lfs_recover.specs.script.declared.script.StrictEnd.TheVariants.{Refused}
+use Rattle.lfs_fs.specs.Mounting.{IsRefused}
+use Rattle.lfs_fs.specs.log.verify.declared.fault.MountFault.{MountFault}
+use Rattle.lfs_script.specs.Saved.{SessionSaved}
+use Rattle.lfs_script.specs.Session.{SessionNoted}
+use Rattle.lfs_script.specs.Noted.{Look}
+use Rattle.lfs_script.specs.declared.script.StrictEnd.{StrictEnd}
+use Rattle.lfs_script.specs.declared.script.StrictEnd.TheVariants.{Refused}
 
 -- A use of the device's volume before a witness, whose replies were printed.
 pub record IsPlayed (r r' w w' : Option (List ℕ)) (d d' : DeviceState) (s s' : List Look) : Type 0 where
   pub end : StrictEnd
   pub printed : Option (List ℕ)
-  pub session : SessionTold false end r r' w printed d d' s s'
+  pub session : SessionNoted false end r r' w printed d d' s s'
   pub kept : Keeps printed w'
 
 -- The volume wasn't mounted, with a reason: nothing was read, and a stop leaves what it might have left before.
@@ -31,7 +31,7 @@ Plays r r' w w' d d' s s' = IsPlayed r r' w w' d d' s s' ⊎ IsUnmounted r r' d 
 -- A use of the device's volume by a strict script, whose replies were printed.
 pub record IsPlayedStrictly (end : StrictEnd) (r r' w w' : Option (List ℕ)) (d d' : DeviceState) (s s' : List Look) : Type 0 where
   pub printed : Option (List ℕ)
-  pub session : SessionTold true end r r' w printed d d' s s'
+  pub session : SessionNoted true end r r' w printed d d' s s'
   pub kept : Keeps printed w'
 
 -- and it ended at a refusal

@@ -1,10 +1,9 @@
 //! Why a line of a script is bad, for people.
+use lfs_host::fault::Fault;
+use lfs_host::printing::{put, put_count, put_word};
 use lfs_model::limits::LONGEST_LINE;
-use lfs_recover::image::fault::Fault;
-use lfs_recover::image::printing::{put, put_count, put_word};
-use lfs_recover::script::{
-    Command, WordFault, read_escaped, read_hex, read_u8, read_u32, read_u64,
-};
+use lfs_script::Command;
+use lfs_words::{WordFault, read_escaped, read_hex, read_u8, read_u32, read_u64};
 use std::alloc::Global;
 use std::io::Write;
 

@@ -1,45 +1,20 @@
 //! Commands that change a volume by one call, which is saved.
 use lfs_device::{SectorDevice, World};
-use lfs_recover::image::fault::{Ending, Fault};
-use lfs_recover::image::image;
-use lfs_recover::image::image::end_caused;
-use lfs_recover::image::looking::read_path;
-use lfs_recover::image::printing::{print, refuse};
-use lfs_recover::image::room::refusal_of;
-use lfs_recover::put::{clean, clean_some, make_directory, remove, rename, upgrade};
-use lfs_recover::script::fs::{Fs, FsError};
-use lfs_recover::script::read_u32;
+use lfs_fs::{Fs, FsError};
+use lfs_grammar::Change;
+use lfs_host::fault::{Ending, Fault};
+use lfs_host::image;
+use lfs_host::image::end_caused;
+use lfs_host::printing::{print, refuse};
+use lfs_put::{clean, clean_some, make_directory, remove, rename, upgrade};
+use lfs_show::free::refusal_of;
+use lfs_show::looking::read_path;
+use lfs_words::read_u32;
 use std::alloc::Global;
 use std::fs::File;
 use std::io::Write;
 use std::rt::Files;
 use std::time::Clock;
-
-/// A change of a volume. Its paths and its number are words still.
-#[derive(Clone, Copy)]
-pub enum Change<'a> {
-    /// What stands at a path is removed.
-    Remove(&'a str),
-    /// What stands at the first path gets the second.
-    Rename(&'a str, &'a str),
-    MakeDirectory(&'a str),
-    /// Segments are cleaned, by so many passes at most where a number is given.
-    Clean(Option<&'a str>),
-    /// The version of the layout becomes 2.
-    Upgrade,
-}
-
-impl<'a> Change<'a> {
-    /// The path that it has, the first of two.
-    pub fn path(self) -> Option<&'a str> {
-        match self {
-            Change::Remove(path) | Change::Rename(path, _) | Change::MakeDirectory(path) => {
-                Some(path)
-            }
-            Change::Clean(_) | Change::Upgrade => None,
-        }
-    }
-}
 
 // The bytes of a change's paths, none for a path that it hasn't.
 fn paths_of(alloc: Global, change: Change<'_>) -> Result<(Vec<u8>, Vec<u8>), Fault> {

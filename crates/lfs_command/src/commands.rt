@@ -3,29 +3,29 @@ ghost use Rattle.std.specs.Prelude.{◌≡◌, ◌≢◌, ◌≤◌, Ok, IfOk, O
 ghost use Rattle.std.specs.Io.KnownBytes.{Keeps};
 ghost use Rattle.lfs_model.specs.Device.{Carries};
 ghost use Rattle.lfs_device.specs.MemoryDevice.{device_state};
-ghost use Rattle.lfs_command.specs.Asking.{HasWord, IsStrict};
+ghost use Rattle.lfs_grammar.specs.Asking.{HasWord, IsStrict};
 ghost use Rattle.lfs_command.specs.Playing.{PlaysToRefusal, Plays, PlaysStrictly, TellsSaved};
 
+use crate::asked::{fault_of, left_of, look_of, patience_of};
 use crate::bad_line::{put_bad_line, reason_of};
 use crate::changing::change_volume;
 use crate::putting::put_into;
 use crate::remembering::LineKeeper;
-use crate::request::{Action, Request, read_request};
 use crate::simulation;
 use crate::simulation::{Plan, read_plan};
 use crate::terminals::Terminals;
 use lfs_device::{FileDeviceIn, Left, MemDevice, SectorDevice, ThisWorld, World};
-use lfs_recover::image::fault::{Ending, Fault, Outcome, Refusal, Told};
-use lfs_recover::image::image;
-use lfs_recover::image::image::{Making, unmounted};
-use lfs_recover::image::looking::{end_look, show};
-use lfs_recover::image::making::mkfs;
-use lfs_recover::image::printing::{flush, print, put, put_count, refuse};
-use lfs_recover::image::viewing::look;
-use lfs_recover::script::{
-    Looks, ScriptEnd, StrictEnd, Witness, read_u32, use_and_stop_told, use_volume_told,
-};
-use lfs_recover::{explain, recover};
+use lfs_grammar::{Action, Request, read_request};
+use lfs_host::fault::{Ending, Fault, Outcome, Refusal, Said};
+use lfs_host::image;
+use lfs_host::image::{Making, Patience, unmounted};
+use lfs_host::making::mkfs;
+use lfs_host::printing::{flush, print, put, put_count, refuse};
+use lfs_recover::{Recovery, explain, recover};
+use lfs_script::{Glances, ScriptEnd, StrictEnd, Witness, use_and_stop_noted, use_volume_noted};
+use lfs_show::looking::{Look, end_look, show};
+use lfs_show::viewing::look;
+use lfs_words::read_u32;
 use std::alloc::{AllocError, Global};
 use std::fs::File;
 use std::io::{BufWriter, Read, Write};
@@ -35,7 +35,7 @@ use std::time::Clock;
 /// What a command is about that has no image.
 const IN_MEMORY: &str = "a volume in memory";
 
-/// What people are told of a script at whose end something isn't saved.
+/// What is said to people of a script at whose end something isn't saved.
 const UNSAVED: &[u8] =
     b": what was done since the last `sync` isn't saved; end the script with the line sync\n";
 
@@ -50,7 +50,7 @@ struct Played<E> {
 /// How a command line is answered.
 #[derive(Drop)]
 struct Answered<'a> {
-    told: Result<Told<'a>, Fault>,
+    said: Result<Said<'a>, Fault>,
     /// The image of a script at whose end something isn't saved.
     unsaved: Option<&'a str>,
 }
@@ -119,13 +119,13 @@ fn play<D: SectorDevice, I: Read, W: Write, S: Witness<D, W>>(
 ) -> (Played<Ending>, D)
     ensures plays { Plays (I.remaining input.old) (I.remaining input.new)
         (W.contents output.old) (W.contents output.new) (D.state device) (D.state result.1)
-        (S.looks witness.old) (S.looks witness.new) }
+        (S.glances witness.old) (S.glances witness.new) }
     ensures saved { TellsSaved result.0.is_saved false (I.remaining input.old)
         (I.remaining input.new) (W.contents output.old) (D.state device) (D.state result.1)
-        (S.looks witness.old) (S.looks witness.new) }
+        (S.glances witness.old) (S.glances witness.new) }
     ensures carries { Carries (D.state device) (D.state result.1) }
 {
-    match use_volume_told(alloc, false, input, output, witness, device) {
+    match use_volume_noted(alloc, false, input, output, witness, device) {
         (Ok(used), device) => {
             let end = end_plain(used.script, output);
             let is_saved = used.is_saved;
@@ -177,8 +177,8 @@ fn run<Here: World, R: Files<File = File> + Clock, I: Read, W: Write>(
 ) -> Played<Ending> {
     match image::open_to_write::<Here, R>(rt, image) {
         Ok(device) => {
-            let mut looks = Looks::new();
-            let (played, mut device) = play(alloc, device, input, output, &mut looks);
+            let mut glances = Glances::new();
+            let (played, mut device) = play(alloc, device, input, output, &mut glances);
             Played {
                 end: explain_ending(played.end, &mut device),
                 is_saved: played.is_saved,
@@ -225,17 +225,17 @@ fn play_strict<D: SectorDevice, I: Read, W: Write, S: Witness<D, W>>(
 ) -> (Played<Outcome>, D)
     ensures plays { PlaysStrictly (I.remaining input.old) (I.remaining input.new)
         (W.contents output.old) (W.contents output.new) (D.state device) (D.state result.1)
-        (S.looks witness.old) (S.looks witness.new) }
+        (S.glances witness.old) (S.glances witness.new) }
     ensures refused { result.0.end ≡ Ok Outcome.CallRefused
         → PlaysToRefusal (I.remaining input.old) (I.remaining input.new) (W.contents output.old)
-        (W.contents output.new) (D.state device) (D.state result.1) (S.looks witness.old)
-        (S.looks witness.new) }
+        (W.contents output.new) (D.state device) (D.state result.1) (S.glances witness.old)
+        (S.glances witness.new) }
     ensures saved { TellsSaved result.0.is_saved true (I.remaining input.old)
         (I.remaining input.new) (W.contents output.old) (D.state device) (D.state result.1)
-        (S.looks witness.old) (S.looks witness.new) }
+        (S.glances witness.old) (S.glances witness.new) }
     ensures carries { Carries (D.state device) (D.state result.1) }
 {
-    match use_volume_told(alloc, true, input, output, witness, device) {
+    match use_volume_noted(alloc, true, input, output, witness, device) {
         (Ok(used), device) => {
             let end = end_strict(used.script, output);
             let is_saved = used.is_saved;
@@ -258,8 +258,8 @@ fn run_strict<Here: World, R: Files<File = File> + Clock, I: Read, W: Write>(
 ) -> Played<Outcome> {
     match image::open_to_write::<Here, R>(rt, image) {
         Ok(device) => {
-            let mut looks = Looks::new();
-            let (played, mut device) = play_strict(alloc, device, input, output, &mut looks);
+            let mut glances = Glances::new();
+            let (played, mut device) = play_strict(alloc, device, input, output, &mut glances);
             Played {
                 end: explain_outcome(played.end, &mut device),
                 is_saved: played.is_saved,
@@ -283,10 +283,10 @@ fn play_and_stop<I: Read, W: Write, S: Witness<MemDevice, W>>(
 ) -> (Result<Ending, Fault>, MemDevice)
     ensures plays { Plays (I.remaining input.old) (I.remaining input.new) (W.contents output.old)
         (W.contents output.new) (device_state device) (device_state result.1)
-        (S.looks witness.old) (S.looks witness.new) }
+        (S.glances witness.old) (S.glances witness.new) }
     ensures carries { Carries (device_state device) (device_state result.1) }
 {
-    match use_and_stop_told(alloc, false, input, output, witness, device, left) {
+    match use_and_stop_noted(alloc, false, input, output, witness, device, left) {
         (Ok(end), device) => (end_plain(end, output), device),
         (Err(fault), device) => (refuse(output, Refusal::from(fault)), device),
     }
@@ -333,12 +333,24 @@ fn sim<I: Read, W: Write>(
         Ok(device) => device,
         Err(refusal) => return refuse(output, refusal),
     };
-    let mut looks = Looks::new();
-    let (played, device) = play_and_stop(alloc, device, plan.left, input, output, &mut looks);
+    let mut glances = Glances::new();
+    let (played, device) = play_and_stop(alloc, device, plan.left, input, output, &mut glances);
     match played? {
         Ending::Refused(refusal) => Ok(Ending::Refused(refusal)),
         played => finish_sim(alloc, played, device, output),
     }
+}
+
+// Checks the volume of an image, and says in words where it is damaged.
+fn check_and_explain<Here: World, R: Files<File = File> + Clock, W: Write>(
+    rt: &R,
+    alloc: Global,
+    image: &str,
+    patience: Patience,
+    output: &mut W,
+) -> Result<Ending, Fault> {
+    let checked = look::<Here, R, W>(rt, alloc, image, Look::Check, patience, output)?;
+    explain::<Here, R, W>(rt, alloc, image, checked, patience, output)
 }
 
 // Does what is asked for with an image, in any world, which only contracts see.
@@ -362,11 +374,16 @@ fn act<Here: World, R: Files<File = File> + Clock, I: Read, W: Write, E: Write>(
             let making = making_of(terminals, segments, version, force, reserve)?;
             mkfs::<Here, R, I, W, E>(rt, alloc, image, making, input, output, errors)
         }
-        Action::Look(asked, patience) => {
-            look::<Here, R, W>(rt, alloc, image, asked, patience, output)
+        Action::Query { query, wait } => {
+            look::<Here, R, W>(rt, alloc, image, look_of(query), patience_of(wait), output)
         }
-        Action::Explain(patience) => explain::<Here, R, W>(rt, alloc, image, patience, output),
-        Action::Recover(asked) => recover::<Here, R, W>(rt, alloc, image, asked, output),
+        Action::Explain { wait } => {
+            check_and_explain::<Here, R, W>(rt, alloc, image, patience_of(wait), output)
+        }
+        Action::Recover { folder, older } => {
+            let asked = Recovery { folder, older };
+            recover::<Here, R, W>(rt, alloc, image, asked, output)
+        }
         Action::Change(asked) => change_volume::<Here, R, W>(rt, alloc, image, asked, output),
         Action::Put(source) => {
             put_into::<Here, R, I, W>(rt, alloc, terminals, image, source, input, output)
@@ -375,15 +392,15 @@ fn act<Here: World, R: Files<File = File> + Clock, I: Read, W: Write, E: Write>(
 }
 
 // Tells what a command was about that ended so.
-fn told<'a>(
+fn said<'a>(
     subject: &'a str,
     path: Option<&'a str>,
     ending: Result<Ending, Fault>,
-) -> Result<Told<'a>, Fault>
-    ensures { IfOk result (λ told. told.outcome ≢ Outcome.CallRefused) }
+) -> Result<Said<'a>, Fault>
+    ensures { IfOk result (λ said. said.outcome ≢ Outcome.CallRefused) }
 {
     match ending {
-        Ok(ending) => Ok(Told {
+        Ok(ending) => Ok(Said {
             subject,
             path,
             outcome: Outcome::Ended(ending),
@@ -393,11 +410,11 @@ fn told<'a>(
 }
 
 // The same of a strict script on an image.
-fn told_strictly<'a>(image: &'a str, outcome: Result<Outcome, Fault>) -> Result<Told<'a>, Fault>
-    ensures { IfOk result (λ told. Ok told.outcome ≡ outcome) }
+fn said_strictly<'a>(image: &'a str, outcome: Result<Outcome, Fault>) -> Result<Said<'a>, Fault>
+    ensures { IfOk result (λ said. Ok said.outcome ≡ outcome) }
 {
     match outcome {
-        Ok(outcome) => Ok(Told {
+        Ok(outcome) => Ok(Said {
             subject: image,
             path: None,
             outcome,
@@ -426,34 +443,34 @@ fn answer_request<'a, R: Files<File = File> + Clock, I: Read, W: Write, E: Write
     output: &mut W,
     errors: &mut E,
 ) -> Answered<'a>
-    ensures strict { IfOk result.told (λ told. told.outcome ≡ Outcome.CallRefused
+    ensures strict { IfOk result.said (λ said. said.outcome ≡ Outcome.CallRefused
         → IsStrict request.entry) }
 {
     match request {
         Request::Run { image } => {
             let played = run::<ThisWorld, R, I, W>(rt, alloc, image, input, output);
             let unsaved = unsaved_of(image, played.is_saved);
-            let told = told(image, None, played.end);
-            Answered { told, unsaved }
+            let said = said(image, None, played.end);
+            Answered { said, unsaved }
         }
         Request::Strict { image } => {
             let played = run_strict::<ThisWorld, R, I, W>(rt, alloc, image, input, output);
             let unsaved = unsaved_of(image, played.is_saved);
-            let told = told_strictly(image, played.end);
-            Answered { told, unsaved }
+            let said = said_strictly(image, played.end);
+            Answered { said, unsaved }
         }
         Request::Help(text) => {
-            let told = told(IN_MEMORY, None, help(text.as_str(), output));
+            let said = said(IN_MEMORY, None, help(text.as_str(), output));
             let unsaved = None;
-            Answered { told, unsaved }
+            Answered { said, unsaved }
         }
         Request::Image { image, action } => {
             let ending = act::<ThisWorld, R, I, W, E>(
                 rt, alloc, terminals, image, action, input, output, errors,
             );
-            let told = told(image, action.path(), ending);
+            let said = said(image, action.path(), ending);
             let unsaved = None;
-            Answered { told, unsaved }
+            Answered { said, unsaved }
         }
         Request::Sim {
             segments,
@@ -461,10 +478,10 @@ fn answer_request<'a, R: Files<File = File> + Clock, I: Read, W: Write, E: Write
             stop,
             left,
         } => {
-            let plan = read_plan(segments, version, stop, left);
-            let told = told(IN_MEMORY, None, sim(alloc, plan, input, output));
+            let plan = read_plan(segments, version, stop, left_of(left));
+            let said = said(IN_MEMORY, None, sim(alloc, plan, input, output));
             let unsaved = None;
-            Answered { told, unsaved }
+            Answered { said, unsaved }
         }
     }
 }
@@ -479,29 +496,29 @@ fn answer<'a, R: Files<File = File> + Clock, I: Read, W: Write, E: Write>(
     output: &mut W,
     errors: &mut E,
 ) -> Answered<'a>
-    ensures strict { IfOk result.told (λ told. told.outcome ≡ Outcome.CallRefused
+    ensures strict { IfOk result.said (λ said. said.outcome ≡ Outcome.CallRefused
         → HasWord words.now (codes "--strict")) }
 {
     match read_request(alloc, words) {
         Ok(request) => answer_request(rt, alloc, terminals, request, input, output, errors),
         Err(fault) => {
-            let told = Err(fault);
+            let said = Err(fault_of(fault));
             let unsaved = None;
-            Answered { told, unsaved }
+            Answered { said, unsaved }
         }
     }
 }
 
-// An answer whose output can't be flushed. An earlier fault is told alone.
+// An answer whose output can't be flushed. An earlier fault is said alone.
 fn answer_unflushed<'a>(answered: Answered<'a>, fault: Fault) -> Answered<'a>
-    ensures { OnOk result.told ⊥ }
+    ensures { OnOk result.said ⊥ }
 {
     let unsaved = answered.unsaved;
-    let told = match answered.told {
+    let said = match answered.said {
         Ok(_) => Err(fault),
         Err(earlier) => Err(earlier),
     };
-    Answered { told, unsaved }
+    Answered { said, unsaved }
 }
 
 // What came before a fault goes out before its text.
@@ -514,7 +531,7 @@ fn answer_and_flush<'a, R: Files<File = File> + Clock, I: Read, W: Write, E: Wri
     output: &mut W,
     errors: &mut E,
 ) -> Answered<'a>
-    ensures strict { IfOk result.told (λ told. told.outcome ≡ Outcome.CallRefused
+    ensures strict { IfOk result.said (λ said. said.outcome ≡ Outcome.CallRefused
         → HasWord words.now (codes "--strict")) }
 {
     let answered = answer(rt, alloc, terminals, words, input, output, errors);
@@ -535,7 +552,7 @@ fn answer_buffered<'a, R: Files<File = File> + Clock, I: Read, O: Write, E: Writ
     output: &mut O,
     errors: &mut E,
 ) -> Answered<'a>
-    ensures strict { IfOk result.told (λ told. told.outcome ≡ Outcome.CallRefused
+    ensures strict { IfOk result.said (λ said. said.outcome ≡ Outcome.CallRefused
         → HasWord words.now (codes "--strict")) }
 {
     match BufWriter::new(alloc, output) {
@@ -543,17 +560,17 @@ fn answer_buffered<'a, R: Files<File = File> + Clock, I: Read, O: Write, E: Writ
             answer_and_flush(rt, alloc, terminals, words, input, &mut buffered, errors)
         }
         Err(_) => {
-            let told = Err(Fault::Memory(AllocError));
+            let said = Err(Fault::Memory(AllocError));
             let unsaved = None;
-            Answered { told, unsaved }
+            Answered { said, unsaved }
         }
     }
 }
 
 // Tells people how a command ended, and of a bad line also why it is bad.
-fn tell<I, E: Write>(alloc: Global, told: Told<'_>, input: &LineKeeper<I>, errors: &mut E) {
-    let Outcome::Ended(Ending::BadLine(number)) = told.outcome else {
-        let _ = errors.writeln(told);
+fn tell<I, E: Write>(alloc: Global, said: Said<'_>, input: &LineKeeper<I>, errors: &mut E) {
+    let Outcome::Ended(Ending::BadLine(number)) = said.outcome else {
+        let _ = errors.writeln(said);
         return;
     };
     let reason = reason_of(alloc, input.line(number));
@@ -594,11 +611,11 @@ pub fn command_at<R: Files<File = File> + Clock, I: Read, O: Write, E: Write>(
     let mut input = LineKeeper::new(alloc, input);
     let answered = answer_buffered(rt, alloc, terminals, words, &mut input, output, errors);
     let unsaved = answered.unsaved;
-    match answered.told {
-        Ok(told) => {
-            let status = told.outcome.status();
-            if told.has_text() {
-                tell(alloc, told, &input, errors);
+    match answered.said {
+        Ok(said) => {
+            let status = said.outcome.status();
+            if said.has_text() {
+                tell(alloc, said, &input, errors);
             }
             tell_unsaved(unsaved, errors);
             status

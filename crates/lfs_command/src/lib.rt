@@ -1,18 +1,17 @@
 //! The commands of the program `lfs`.
 #![tactic(auto)]
 
+mod asked;
 mod bad_line;
 mod changing;
 mod commands;
-mod grammar;
 mod putting;
 mod remembering;
-mod request;
 mod simulation;
 mod terminals;
 
 pub use commands::{command, command_at};
 pub use lfs_device as device;
-pub use lfs_recover::put::{PutFault, UNFINISHED, put};
-pub use lfs_recover::script;
+pub use lfs_put::{PutFault, UNFINISHED, put};
+pub use lfs_script as script;
 pub use terminals::Terminals;

@@ -1,30 +1,22 @@
 //! The command that puts a file into a volume, from standard input or from a file of the host.
 use crate::terminals::Terminals;
 use lfs_device::{SectorDevice, World};
+use lfs_fs::Fs;
+use lfs_grammar::Source;
+use lfs_host::fault::{Ending, Fault, Refusal};
+use lfs_host::host::HostFault;
+use lfs_host::image::end_caused;
+use lfs_host::printing::{print_copied, refuse};
+use lfs_host::{host, image};
 use lfs_model::limits::SECTOR_LEN;
-use lfs_recover::image::fault::{Ending, Fault, Refusal};
-use lfs_recover::image::host::HostFault;
-use lfs_recover::image::image::end_caused;
-use lfs_recover::image::looking::read_path;
-use lfs_recover::image::printing::{print_copied, refuse};
-use lfs_recover::image::room::refusal_of;
-use lfs_recover::image::{host, image};
-use lfs_recover::put::{PutFault, check_place, put};
-use lfs_recover::script::fs::Fs;
+use lfs_put::{PutFault, check_place, put};
+use lfs_show::free::refusal_of;
+use lfs_show::looking::read_path;
 use std::alloc::Global;
 use std::fs::File;
 use std::io::{Read, Write};
 use std::rt::Files;
 use std::time::Clock;
-
-/// Where a put takes the bytes from, and the path that gets them, as a word still.
-#[derive(Clone, Copy)]
-pub struct Source<'a> {
-    pub path: &'a str,
-    /// A file of the host, or `-` for standard input. Without one it is standard input too, if that
-    /// is no terminal and has a byte.
-    pub file: Option<&'a str>,
-}
 
 /// The word for standard input in the place of a file of the host.
 const STANDARD_INPUT: &str = "-";

@@ -5,10 +5,10 @@ ghost use Rattle.lfs_model.specs.Image.{IsNew};
 ghost use Rattle.lfs_device.specs.MemoryDevice.{device_state};
 
 use lfs_device::{Left, MemDevice};
-use lfs_recover::image::fault::{Fault, Refusal};
-use lfs_recover::layout::is_segment_count;
-use lfs_recover::script::fs::{Fs, FsError, format_version};
-use lfs_recover::script::{read_u32, read_u64};
+use lfs_fs::{Fs, FsError, format_version};
+use lfs_host::fault::{Fault, Refusal};
+use lfs_layout::is_segment_count;
+use lfs_words::{read_u32, read_u64};
 use std::alloc::Global;
 
 /// How a volume in memory comes to its end.

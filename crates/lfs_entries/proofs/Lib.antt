@@ -1,4 +1,4 @@
-pub mod Looks
+pub mod Findings
 pub mod ChainWalks
 pub mod Renames
 pub mod NewObjects

@@ -12,7 +12,7 @@ use Rattle.lfs_entries.specs.declared.fault.EntryFault.{EntryFault}
 use Rattle.lfs_entries.specs.declared.fault.EntryFault.TheVariants as fault
 use Rattle.lfs_entries.specs.declared.moving.Source.{Source}
 use Rattle.lfs_entries.specs.declared.moving.Target.{Target}
-use Rattle.lfs_entries.specs.Looking.{IsHolder}
+use Rattle.lfs_entries.specs.Finding.{IsHolder}
 use Rattle.lfs_entries.specs.Renaming.{FindsBoth, FindsSource, FindsTarget, RefusesNext}
 
 -- directories of two forms are two

@@ -3,7 +3,7 @@ pub mod Faults
 pub mod Sizes
 pub mod Entries
 pub mod Telling
-pub mod Looking
+pub mod Finding
 pub mod NewEntries
 pub mod OldEntries
 pub mod Replacing

@@ -9,8 +9,8 @@ use Rattle.lfs_path.specs.Pieces.{is_dots}
 use Rattle.lfs_path.specs.Telling.{TellsFault}
 use Rattle.lfs_entries.specs.declared.fault.EntryFault.{EntryFault}
 use Rattle.lfs_entries.specs.declared.fault.EntryFault.TheVariants as fault
-use Rattle.lfs_entries.specs.Looking.{FindsNumber, IsHolder, IsTooLong}
-use Rattle.lfs_entries.specs.Sizes.{HasRoom}
+use Rattle.lfs_entries.specs.Finding.{FindsNumber, IsHolder, IsTooLong}
+use Rattle.lfs_entries.specs.Sizes.{TakesOneMore}
 
 module _ {S D : Type 0} (s s' : FilesState S D) where
   -- What a name that isn't too long gives in directory d.
@@ -41,7 +41,7 @@ module _ {S D : Type 0} (s s' : FilesState S D) where
     pub named : is_dots name ≡ false
     pub is_name : IsName (name_len head.form) name
     pub plain : (slash && not is_mkdir) ≡ false
-    pub room : HasRoom head
+    pub room : TakesOneMore head
 
   -- why it doesn't
   abbrev pub RefusesEntry : ℕ → List ℕ → Bool → Bool → EntryFault → Type 0

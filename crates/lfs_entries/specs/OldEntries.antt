@@ -9,7 +9,7 @@ use Rattle.lfs_path.specs.Telling.{TellsFault}
 use Rattle.lfs_entries.specs.declared.entry.Entry.{Entry}
 use Rattle.lfs_entries.specs.declared.fault.EntryFault.{EntryFault}
 use Rattle.lfs_entries.specs.declared.fault.EntryFault.TheVariants as fault
-use Rattle.lfs_entries.specs.Looking.{FindsName, IsHolder, IsTooLong}
+use Rattle.lfs_entries.specs.Finding.{FindsName, IsHolder, IsTooLong}
 use Rattle.lfs_entries.specs.NewEntries.{Gives}
 use Rattle.lfs_entries.specs.Sizes.{IsSmall}
 

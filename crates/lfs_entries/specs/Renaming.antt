@@ -12,7 +12,7 @@ use Rattle.lfs_entries.specs.declared.fault.EntryFault.TheVariants as fault
 use Rattle.lfs_entries.specs.declared.moving.Source.{Source}
 use Rattle.lfs_entries.specs.declared.moving.Target.{Target}
 use Rattle.lfs_entries.specs.Entries.{is_directory}
-use Rattle.lfs_entries.specs.Looking.{FindsName, IsHolder, IsTooLong}
+use Rattle.lfs_entries.specs.Finding.{FindsName, IsHolder, IsTooLong}
 use Rattle.lfs_entries.specs.NewEntries.{Gives}
 use Rattle.lfs_entries.specs.OldEntries.{GivesSome}
 use Rattle.lfs_entries.specs.Replacing.{FitsTarget, RefusesTarget}

@@ -10,7 +10,7 @@ use Rattle.lfs_entries.specs.declared.fault.EntryFault.TheVariants as fault
 use Rattle.lfs_entries.specs.declared.moving.Source.{Source}
 use Rattle.lfs_entries.specs.declared.moving.Target.{Target}
 use Rattle.lfs_entries.specs.Entries.{is_directory}
-use Rattle.lfs_entries.specs.Sizes.{HasRoom}
+use Rattle.lfs_entries.specs.Sizes.{TakesOneMore}
 
 -- An object of this kind may replace one of this header: both are directories, and the other is empty, or neither is.
 pub record FitsReplaced (k : Kind) (replaced : Header) : Type 0 where
@@ -24,23 +24,23 @@ RefusesReplaced k replaced fault.NotEmpty = (is_directory replaced.kind ≡ true
 RefusesReplaced k replaced _ = ⊥
 
 -- A directory of this header may get an object of this kind.
-pub record FitsRoom (k : Kind) (holder : Header) : Type 0 where
-  pub size : HasRoom holder
+pub record TakesMoved (k : Kind) (holder : Header) : Type 0 where
+  pub size : TakesOneMore holder
   pub links : is_directory k ≡ true → holder.links < MOST_LINKS
 
-abbrev pub RefusesRoom : Kind → Header → EntryFault → Type 0
-RefusesRoom k holder fault.DirFull = (MOST_ENTRIES - 1) * slot_len holder.form < holder.size
-RefusesRoom k holder fault.TooManyLinks = (HasRoom holder) × (is_directory k ≡ true) × (MOST_LINKS ≤ holder.links)
-RefusesRoom k holder _ = ⊥
+abbrev pub RefusesFull : Kind → Header → EntryFault → Type 0
+RefusesFull k holder fault.DirFull = (MOST_ENTRIES - 1) * slot_len holder.form < holder.size
+RefusesFull k holder fault.TooManyLinks = (TakesOneMore holder) × (is_directory k ≡ true) × (MOST_LINKS ≤ holder.links)
+RefusesFull k holder _ = ⊥
 
 -- the same by what is replaced, if anything is
 abbrev pub FitsFound : Option Object → Source → Target → Type 0
-FitsFound None source target = source.directory.value ≢ target.directory.value → FitsRoom source.object.header.kind target.holder
+FitsFound None source target = source.directory.value ≢ target.directory.value → TakesMoved source.object.header.kind target.holder
 FitsFound (Some o) source target = FitsReplaced source.object.header.kind o.header
 
 abbrev pub RefusesFound : Option Object → Source → Target → EntryFault → Type 0
 RefusesFound None source target fault = (source.directory.value ≢ target.directory.value)
-    × RefusesRoom source.object.header.kind target.holder fault
+    × RefusesFull source.object.header.kind target.holder fault
 RefusesFound (Some o) source target fault = RefusesReplaced source.object.header.kind o.header fault
 
 abbrev pub FitsTarget : Source → Target → Type 0

@@ -9,5 +9,5 @@ abbrev pub IsSmall : Header → Type 0
 IsSmall head = head.size ≤ MOST_ENTRIES * slot_len head.form
 
 -- and it takes one more
-abbrev pub HasRoom : Header → Type 0
-HasRoom head = head.size ≤ (MOST_ENTRIES - 1) * slot_len head.form
+abbrev pub TakesOneMore : Header → Type 0
+TakesOneMore head = head.size ≤ (MOST_ENTRIES - 1) * slot_len head.form

@@ -8,7 +8,7 @@ ghost use Rattle.lfs_path.specs.dirs.Repointing.{Repoints};
 ghost use Rattle.lfs_path.specs.dirs.Taking.{shrunk};
 ghost use Rattle.lfs_entries.specs.Drafting.{HasNamed};
 ghost use Rattle.lfs_entries.specs.Moving.{CountsMove, DraftsMove, HasFoundName, HasNames, LosesFound, MayMove, NamesFound, RelinksBoth, first_holder, gains_directory as gains_of, loses_directory as loses_of, second_linked};
-ghost use Rattle.lfs_entries.specs.Sizes.{HasRoom, IsSmall};
+ghost use Rattle.lfs_entries.specs.Sizes.{TakesOneMore, IsSmall};
 ghost use Rattle.lfs_entries.specs.Telling.{DraftsOnly, FailsAt, FailsWhere};
 
 use crate::drafting::{relink_where, take_name};
@@ -129,7 +129,7 @@ fn draft_target<F: Files>(
     number: FileNumber,
 ) -> Result<(), EntryFault>
     requires size { IsSmall holder }
-    requires room { target.replaced ≡ None → HasRoom holder }
+    requires room { target.replaced ≡ None → TakesOneMore holder }
     requires name { IsName (name_len holder.form) target.name.now }
     ensures only { DraftsOnly (F.state files.old) (F.state files.new) result }
     ensures done { OnOk result (NamesFound (F.state files.old) (F.state files.new)

@@ -4,7 +4,7 @@ ghost use Rattle.lfs_entries.specs.NewEntries.{RefusesEntry, TakesEntry};
 ghost use Rattle.lfs_entries.specs.Telling.{AsksOnly};
 
 use crate::fault::EntryFault;
-use crate::looking::look_in;
+use crate::finding::find_entry;
 use crate::sizes::is_full;
 use lfs_files::{Files, Header};
 use lfs_layout::is_name;
@@ -35,7 +35,7 @@ pub fn check_new_entry<F: Files>(
     if is_dots(last.name) {
         return Err(EntryFault::Exist);
     }
-    let (header, found) = look_in(files, directory, last.name)?;
+    let (header, found) = find_entry(files, directory, last.name)?;
     // The pieces of a path without a zero byte are names.
     if !is_name(header.form, last.name) {
         return Err(EntryFault::Inval);

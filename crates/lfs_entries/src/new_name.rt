@@ -5,7 +5,7 @@ ghost use Rattle.lfs_model.specs.Tree.{name_len};
 ghost use Rattle.lfs_path.specs.dirs.Growing.{GrowsDirectory};
 ghost use Rattle.lfs_entries.specs.NewNames.{CountsEntry, CountsName, DraftsEntry, DraftsName};
 ghost use Rattle.lfs_entries.specs.NewObjects.{IsGood, makes_directory, new_kind};
-ghost use Rattle.lfs_entries.specs.Sizes.{HasRoom};
+ghost use Rattle.lfs_entries.specs.Sizes.{TakesOneMore};
 ghost use Rattle.lfs_entries.specs.Telling.{DraftsOnly, FailsAt};
 
 use crate::drafting::relink_where;
@@ -30,7 +30,7 @@ pub fn draft_entry<F: Files>(
     object: NewObject<'_>,
     name: &[u8],
 ) -> Result<(), EntryFault>
-    requires room { HasRoom holder }
+    requires room { TakesOneMore holder }
     requires linked { makes_directory (new_kind object) ≡ true → holder.links < MOST_LINKS }
     requires text { IsGood (new_kind object) }
     requires name { IsName (name_len holder.form) name.now }
@@ -63,7 +63,7 @@ pub fn draft_name<F: Files>(
     header: Header,
     name: &[u8],
 ) -> Result<(), EntryFault>
-    requires room { HasRoom holder }
+    requires room { TakesOneMore holder }
     requires linked { header.links < MOST_LINKS }
     requires name { IsName (name_len holder.form) name.now }
     ensures only { DraftsOnly (F.state files.old) (F.state files.new) result }

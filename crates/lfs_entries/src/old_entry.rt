@@ -5,7 +5,7 @@ ghost use Rattle.lfs_entries.specs.Telling.{AsksOnly};
 
 use crate::entry::{Entry, is_directory};
 use crate::fault::EntryFault;
-use crate::looking::look_at;
+use crate::finding::find_object;
 use lfs_files::{Files, LogFault};
 use lfs_model::FileNumber;
 use lfs_path::Last;
@@ -35,7 +35,7 @@ pub fn check_old_entry<F: Files>(
     if is_dots(last.name) {
         return Err(EntryFault::Perm);
     }
-    let (holder, found) = look_at(files, directory, last.name)?;
+    let (holder, found) = find_object(files, directory, last.name)?;
     let Some(object) = found else {
         return Err(EntryFault::NoEntry);
     };
@@ -69,7 +69,7 @@ pub fn check_empty<F: Files>(
     if is_dots(name) {
         return Err(EntryFault::Inval);
     }
-    let (holder, found) = look_at(files, directory, name)?;
+    let (holder, found) = find_object(files, directory, name)?;
     let Some(object) = found else {
         return Err(EntryFault::NoEntry);
     };

@@ -6,7 +6,7 @@ ghost use Rattle.lfs_entries.specs.Telling.{AsksOnly};
 
 use crate::entry::{Object, is_directory};
 use crate::fault::EntryFault;
-use crate::looking::look_at;
+use crate::finding::find_object;
 use crate::moving::{Source, Target};
 use crate::replacing::check_target;
 use lfs_files::{Files, LogFault};
@@ -68,7 +68,7 @@ fn find_source<'a, F: Files>(
     ensures refused { IfErr result (RefusesSource (F.state files.old) (F.state files.new)
         directory.value last.entry.name.now last.entry.slash) }
 {
-    let (holder, found) = look_at(files, directory, last.name)?;
+    let (holder, found) = find_object(files, directory, last.name)?;
     let Some(object) = found else {
         return Err(EntryFault::NoEntry);
     };
@@ -100,7 +100,7 @@ fn find_target<'a, F: Files>(
     ensures refused { IfErr result (RefusesNext (F.state files.old) (F.state files.new)
         directory.value last.entry.name.now last.entry.slash kind) }
 {
-    let (holder, replaced) = look_at(files, directory, last.name)?;
+    let (holder, replaced) = find_object(files, directory, last.name)?;
     // The pieces of a path without a zero byte are names.
     if !is_name(holder.form, last.name) {
         return Err(EntryFault::Log(LogFault::Device));

@@ -1,6 +1,6 @@
 //! The rules of what an object may replace, and of a directory that gets it.
 ghost use Rattle.std.specs.Prelude.{IfErr, OnOk};
-ghost use Rattle.lfs_entries.specs.Replacing.{FitsReplaced, FitsRoom, FitsTarget, RefusesReplaced, RefusesRoom, RefusesTarget};
+ghost use Rattle.lfs_entries.specs.Replacing.{FitsReplaced, TakesMoved, FitsTarget, RefusesReplaced, RefusesFull, RefusesTarget};
 
 use crate::entry::is_directory;
 use crate::fault::EntryFault;
@@ -21,7 +21,7 @@ pub fn check_target(source: Source<'_>, target: Target<'_>) -> Result<(), EntryF
             if source.directory.value == target.directory.value {
                 return Ok(());
             }
-            check_room(source.object.header.kind, target.holder)
+            check_full(source.object.header.kind, target.holder)
         }
     }
 }
@@ -47,9 +47,9 @@ fn check_replaced(kind: Kind, replaced: Header) -> Result<(), EntryFault>
 }
 
 /// The rule of a directory that gets an object of this kind.
-fn check_room(kind: Kind, holder: Header) -> Result<(), EntryFault>
-    ensures taken { OnOk result (FitsRoom kind holder) }
-    ensures refused { IfErr result (RefusesRoom kind holder) }
+fn check_full(kind: Kind, holder: Header) -> Result<(), EntryFault>
+    ensures taken { OnOk result (TakesMoved kind holder) }
+    ensures refused { IfErr result (RefusesFull kind holder) }
 {
     if is_full(holder) {
         return Err(EntryFault::DirFull);

@@ -1,7 +1,7 @@
 //! How large directories are.
 ghost use Rattle.std.specs.Prelude.{◌<◌, ◌-◌, ◌*◌, IsFalse, IsTrue};
 ghost use Rattle.lfs_model.specs.Tree.{slot_len};
-ghost use Rattle.lfs_entries.specs.Sizes.{HasRoom, IsSmall};
+ghost use Rattle.lfs_entries.specs.Sizes.{TakesOneMore, IsSmall};
 
 use lfs_files::Header;
 use lfs_layout::slot_len;
@@ -10,7 +10,7 @@ use lfs_model::limits::MOST_ENTRIES;
 /// Whether a directory of this header takes no further entry.
 pub fn is_full(header: Header) -> bool
     ensures full { IsTrue result → (MOST_ENTRIES - 1) * slot_len header.form < header.size }
-    ensures room { IsFalse result → HasRoom header }
+    ensures room { IsFalse result → TakesOneMore header }
 {
     header.size > (MOST_ENTRIES - 1) * slot_len(header.form)
 }

@@ -62,7 +62,7 @@ pub use Rattle.lfs_store.specs.Recounting.{AreTotals}
 pub use Rattle.lfs_store.specs.Seen.{StagedLog, files_of}
 pub use Rattle.lfs_store.specs.StoreState.{IsEmpty, asked_by, draft_of, drafted_of, volume_of, with_draft}
 pub use Rattle.lfs_store.specs.Writing.{resized}
-pub use Rattle.lfs_store.specs.cleaner.Room.{HaltsLater, MayNotMakeRoom, most_checkpoints, room_orders}
+pub use Rattle.lfs_store.specs.cleaner.Making.{HaltsLater, MayNotMakeClean, most_checkpoints, clean_orders}
 pub use Rattle.lfs_store.specs.declared.draft.Draft.{Draft}
 pub use Rattle.lfs_store.specs.declared.store.Store.{Store}
 pub use Rattle.lfs_store.specs.log.LogState.{Holds, IsFull, IsVacant, LogState, Mounts, Reads}
@@ -82,7 +82,7 @@ pub use Rattle.lfs_path.specs.dirs.Directory.{names_at}
 pub use Rattle.lfs_path.specs.dirs.Growing.{GrowsDirectory}
 pub use Rattle.lfs_path.specs.dirs.Widening.{WidensNames}
 pub use Rattle.lfs_entries.specs.Entries.{is_directory}
-pub use Rattle.lfs_entries.specs.Looking.{IsHolder, LooksAt, LooksUp}
+pub use Rattle.lfs_entries.specs.Finding.{IsHolder, GivesObject, GivesNumber}
 pub use Rattle.lfs_entries.specs.NewEntries.{RefusesEntry, TakesEntry}
 pub use Rattle.lfs_entries.specs.NewObjects.{makes_directory}
 pub use Rattle.lfs_entries.specs.OldEntries.{RefusesOld}

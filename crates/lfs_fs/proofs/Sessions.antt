@@ -5,7 +5,7 @@ use Rattle.lfs_fs.proofs.Prelude.{LeavesOne, Stands, StandsForSome, LeavesPrefix
 use Rattle.lfs_fs.proofs.Prelude.{FindsState, RanAt, RunsLines, TellsLines, seen, IsAt, Mounted, Runs, final, segments_of}
 use Rattle.lfs_model.specs.Content.{newest}
 use Rattle.lfs_model.specs.Device.{IsUntouched}
-use Rattle.lfs_model.specs.Since.{UsesTold}
+use Rattle.lfs_model.specs.Since.{UsesNoted}
 use Rattle.lfs_model.specs.Use.{Continues, IsNumbered, UsesVolume}
 use Rattle.lfs_model.specs.Volume.{StandsForPrefix}
 use Rattle.lfs_model.proofs.Committed.{nothing_dropped}
@@ -115,7 +115,7 @@ module _ {D : Type 0} {state : D → DeviceState} (d : D) (lawful : IsLawful (st
   uses_volume runs keeps = uses_by runs keeps (λ p is. runs.model p keeps is)
 
   pub uses_told : {clocks : List ℕ} → TellsLines state (seen v) new lines answers clocks → (state new.log.device).keeps_model
-      → UsesTold (state d) (state new.log.device) lines answers clocks
+      → UsesNoted (state d) (state new.log.device) lines answers clocks
   unfolding uses_by
   uses_told tells keeps =
       let rans : ((p : Point) → IsAt state (seen v) p → RanAt state (seen v) new lines answers p) = λ p is. (tells.told p keeps is).ran in

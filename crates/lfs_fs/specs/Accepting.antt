@@ -2,7 +2,7 @@
 use Rattle.std.specs.Prelude.{◌≡◌, ◌⊎◌, ◌<◌, ◌≤◌, ◌+◌, ◌*◌, ◌^◌, ℕ}
 use Rattle.lfs_model.specs.declared.limits.TheConstants.{LEAST_NEED, NEED_OF_META, NEED_OF_SEGMENT}
 use Rattle.lfs_model.specs.Device.{DeviceState}
-use Rattle.lfs_store.specs.cleaner.Room.{HaltsLater, MayNotMakeRoom, most_checkpoints, room_orders}
+use Rattle.lfs_store.specs.cleaner.Making.{HaltsLater, MayNotMakeClean, most_checkpoints, clean_orders}
 use Rattle.lfs_store.specs.log.LogState.{LogState}
 use Rattle.lfs_store.specs.log.Saving.{commit_orders}
 use Rattle.lfs_store.specs.Accepting.{Accepts, Declines, HasCleanForTwo, IsAcceptFault}
@@ -23,7 +23,7 @@ limit_of f = NEED_OF_SEGMENT * (seen f).log.segments
 module _ {D : Type 0} (state : D → DeviceState) where
   -- The device is given no more orders than where room is made, and no more than in a commit where enough segments are clean for two.
   pub record TellsFew (old new : LogState D) : Type 0 where
-    pub room : TellsAtMost state old new (room_orders old.segments)
+    pub room : TellsAtMost state old new (clean_orders old.segments)
     pub one_commit : HasCleanForTwo old → TellsAtMost state old new commit_orders
 
   -- The draft is staged, and the totals are those with it.
@@ -45,7 +45,7 @@ module _ {D : Type 0} (state : D → DeviceState) where
   abbrev pub IsFailed : Fs D → Fs D → Type 0
   IsFailed old new =
       IsAcceptFault state (seen old).log (seen new).log (draft_of old.store)
-      ⊎ MayNotMakeRoom state (seen old).log (seen new).log
+      ⊎ MayNotMakeClean state (seen old).log (seen new).log
 
   -- Why it isn't: no other fault comes.
   abbrev pub TurnsDown : Fs D → Fs D → FsError → Type 0

@@ -15,7 +15,7 @@ use Rattle.lfs_model.specs.TreeOf.{IsTree, LeavesOne, LeavesStates, Stands}
 use Rattle.lfs_model.specs.Volume.{IsLogOf}
 use Rattle.lfs_store.specs.log.LogState.{Holds, LogState, Reads}
 use Rattle.lfs_store.specs.log.Saving.{commit_orders}
-use Rattle.lfs_store.specs.cleaner.Room.{room_orders}
+use Rattle.lfs_store.specs.cleaner.Making.{clean_orders}
 use Rattle.lfs_store.specs.Accepting.{HasClean, HasCleanForTwo}
 use Rattle.lfs_model.specs.Totals.{IsCounted}
 
@@ -36,28 +36,28 @@ CommitsFew old new = new.log.number ≤ old.log.number + segments_of old / 8 + 1
 -- commit where it saves, and as many as where room is made where it changes the tree or cleans
 abbrev pub most_orders : Call → ℕ → ℕ
 most_orders (Open p) segments = 0
-most_orders (Create p) segments = room_orders segments
+most_orders (Create p) segments = clean_orders segments
 most_orders (Close h) segments = 0
 most_orders (Pread h off n) segments = 0
-most_orders (Pwrite h off w) segments = room_orders segments
-most_orders (Truncate h n) segments = room_orders segments
-most_orders (Mkdir p) segments = room_orders segments
-most_orders (LinkTo p q) segments = room_orders segments
-most_orders (Symlink text p) segments = room_orders segments
+most_orders (Pwrite h off w) segments = clean_orders segments
+most_orders (Truncate h n) segments = clean_orders segments
+most_orders (Mkdir p) segments = clean_orders segments
+most_orders (LinkTo p q) segments = clean_orders segments
+most_orders (Symlink text p) segments = clean_orders segments
 most_orders (Readlink p) segments = 0
-most_orders (Unlink p) segments = room_orders segments
-most_orders (Rmdir p) segments = room_orders segments
-most_orders (Rename p q) segments = room_orders segments
+most_orders (Unlink p) segments = clean_orders segments
+most_orders (Rmdir p) segments = clean_orders segments
+most_orders (Rename p q) segments = clean_orders segments
 most_orders (StatOf p) segments = 0
 most_orders (LstatOf p) segments = 0
 most_orders (Readdir p) segments = 0
 most_orders (Fsync h) segments = commit_orders
 most_orders Sync segments = commit_orders
-most_orders Clean segments = room_orders segments
+most_orders Clean segments = clean_orders segments
 most_orders Space segments = 0
 most_orders Version segments = 0
-most_orders Upgrade segments = room_orders segments
-most_orders (Widen p) segments = room_orders segments
+most_orders Upgrade segments = clean_orders segments
+most_orders (Widen p) segments = clean_orders segments
 most_orders ListTree segments = 0
 
 -- the calls that may change which files are open

@@ -1,7 +1,7 @@
 //! The calls that clean, and whether cleaning is due.
 ghost use Rattle.std.specs.Prelude.{◌≡◌, ◌≤◌, ◌+◌, length, OnOk, IsTrue, IsFalse};
 ghost use Rattle.lfs_model.specs.Call.{Clean, Done};
-ghost use Rattle.lfs_store.specs.cleaner.Room.{CleansOnce, HasQuarter, once_orders, room_orders};
+ghost use Rattle.lfs_store.specs.cleaner.Making.{CleansOnce, HasQuarter, once_orders, clean_orders};
 ghost use Rattle.lfs_fs.specs.Volume.{Serves, segments_of};
 ghost use Rattle.lfs_fs.specs.Seen.{seen, answer_by};
 
@@ -33,7 +33,7 @@ impl<D: SectorDevice> Fs<D> {
         ensures enough { OnOk result (HasQuarter (seen self.new).log) }
         ensures told { length (D.state (seen self.new).log.device).told
             ≤ length (D.state (seen self.old).log.device).told
-            + room_orders (segments_of (seen self.old)) }
+            + clean_orders (segments_of (seen self.old)) }
         ensures quiet { HasQuarter (seen self.old).log → (seen self.new).log ≡ (seen self.old).log }
     {
         self.begin()?;

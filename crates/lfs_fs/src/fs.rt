@@ -3,7 +3,7 @@ ghost use Rattle.std.specs.Prelude.{◌≡◌, ◌≤◌, ◌<◌, ◌^◌, ◌+
 ghost use Rattle.std.specs.FinMap.{find};
 ghost use Rattle.std.specs.Ordering.{nat_cmp};
 ghost use Rattle.lfs_model.specs.declared.limits.TheConstants.{MOST_HANDLES};
-ghost use Rattle.lfs_store.specs.cleaner.Room.{IsAtRest, room_orders};
+ghost use Rattle.lfs_store.specs.cleaner.Making.{IsAtRest, clean_orders};
 ghost use Rattle.lfs_store.specs.StoreState.{asked_by, draft_of};
 ghost use Rattle.lfs_fs.specs.Accepting.{StagesDraft, TurnsDown};
 ghost use Rattle.lfs_fs.specs.Seen.{Begins, GivesNone, seen};
@@ -96,7 +96,7 @@ impl<D: SectorDevice> Fs<D> {
         ensures rest { self.new.handles ≡ self.old.handles }
         ensures told { length (D.state (seen self.new).log.device).told
             ≤ length (D.state (seen self.old).log.device).told
-            + room_orders (seen self.old).log.segments }
+            + clean_orders (seen self.old).log.segments }
     {
         let space = self.space_of(self.store.space());
         if space.need > space.limit {

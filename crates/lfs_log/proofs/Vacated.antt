@@ -13,7 +13,7 @@ use Rattle.lfs_model.specs.Summary.{BlockNameValue, no_block, summary_in}
 use Rattle.lfs_model.proofs.Tables.{block_at}
 use Rattle.lfs_memory.specs.segments.Table.{used_of}
 use Rattle.lfs_memory.specs.declared.memory.LogMemory.{LogMemory}
-use Rattle.lfs_memory.specs.Memory.{HasRoom, IsLoose}
+use Rattle.lfs_memory.specs.Memory.{HoldsVolume, IsLoose}
 use Rattle.lfs_memory.specs.Present.{FailsFromDevice, Looks}
 use Rattle.lfs_memory.proofs.Gathered.{still_traced, traces_none, traces_then}
 use Rattle.lfs_memory.proofs.Opened.{closed_segment}
@@ -88,13 +88,13 @@ clears_start d v segment closed low k m0 m keeps is = (
   row_start d.content (used_of v.usage segment) segment (has_row d v k m is segment closed low),
 )
 
-long_there : {d : DeviceState} (v : LogMemory) (segment used : ℕ) → IsLawful d → HasRoom d v → segment < length v.usage.segments
+long_there : {d : DeviceState} (v : LogMemory) (segment used : ℕ) → IsLawful d → HoldsVolume d v → segment < length v.usage.segments
     → used ≤ 64 → 2 + 64 * segment + used ≤ length d.content
 long_there v segment used lawful room low few = let size = lawful.size in omega (arith, room, low, few, size)
 
 -- ---- a summary is read
 module _ {a b c : DeviceState} {v v' : LogMemory} {P : ℕ → Type 0} (segment used at : ℕ) (lawful : IsLawful a)
-    (so_far : HasRelocated a b v v' P) (was : ClearsTo a b v v' segment used at) (looks : Looks b c) (size : HasRoom a v)
+    (so_far : HasRelocated a b v v' P) (was : ClearsTo a b v v' segment used at) (looks : Looks b c) (size : HoldsVolume a v)
     (low : segment < length v.usage.segments) (few : used ≤ 64) (lt : at < used) where
   here : Relocates a b v v'
   here = so_far.relocates
@@ -186,7 +186,7 @@ module _ {a b c : DeviceState} {v v' : LogMemory} {P : ℕ → Type 0} (segment 
 
 -- ---- the whole of it
 pub all_cleared : (a b : DeviceState) (v v' : LogMemory) (segment : ℕ) {used : ℕ} → v.chunk.names ≡ [] → segment < length v.usage.segments
-    → used ≡ used_of v.usage segment → IsLawful a → HasRoom a v → used ≤ 64 → ClearsTo a b v v' segment used used
+    → used ≡ used_of v.usage segment → IsLawful a → HoldsVolume a v → used ≤ 64 → ClearsTo a b v v' segment used used
     → Vacates a b v v' (segment_start segment) (segment_start (segment + 1))
 all_cleared a b v v' segment {used} closed low is_used lawful size few was k m0 m keeps is =
     let long = long_there v segment used lawful size low few in

@@ -7,7 +7,7 @@ use Rattle.lfs_memory.specs.segments.Spare.{emptied_in}
 use Rattle.lfs_memory.specs.segments.Table.{clean_in}
 use Rattle.lfs_memory.specs.inodes.Data.{data_count}
 use Rattle.lfs_memory.specs.declared.memory.LogMemory.{LogMemory}
-use Rattle.lfs_memory.specs.Memory.{IsMemory, HasRoom}
+use Rattle.lfs_memory.specs.Memory.{IsMemory, HoldsVolume}
 use Rattle.lfs_verify.specs.declared.totals.BlockTotals.{BlockTotals}
 use Rattle.lfs_log.specs.LogState.{LogState}
 use Rattle.lfs_log.specs.Saving.{IsSpared, segments_for}
@@ -56,7 +56,7 @@ seen h = record {
 -- What a log keeps true over any device, until a commit failed. Its memory takes as many blocks as one commit may write.
 pub record IsRunning (d : DeviceState) (v : LogMemory) : Type 0 where
   pub memory : IsMemory v
-  pub room : HasRoom d v
+  pub room : HoldsVolume d v
   pub closed : v.chunk.names ≡ []
   pub few : length v.dirty.blocks ≤ MOST_UNSAVED
   pub wide : v.dirty.capacity.limit ≡ MOST_UNSAVED

@@ -2,7 +2,7 @@
 //! writes it elsewhere. After the cleaner of the Sprite LFS paper (1992, section 3.3).
 ghost use Rattle.std.specs.Prelude.{◌≡◌, ◌<◌, ◌≤◌, ◌+◌, ◌*◌, ◌-◌, ◌/◌, ℕ, [], length, get_or, IfOk, OnOk, OnErr, IsErrOf, IsTrue, IsFalse};
 ghost use Rattle.lfs_memory.specs.segments.Emptied.{IsEmptied};
-ghost use Rattle.lfs_memory.specs.Memory.{HasRoom, IsMemory};
+ghost use Rattle.lfs_memory.specs.Memory.{HoldsVolume, IsMemory};
 ghost use Rattle.lfs_log.specs.Cleaning.{AreCleanable, AreEmptied, Crowds, Empties, EndsReading, IsCleanable, MayClean, Overfills, most_brought};
 ghost use Rattle.lfs_log.specs.Keeping.{KeepsPass, KeepsShape};
 ghost use Rattle.lfs_log.specs.Relocating.{EndsRelocating, IsAmong, VacatesAll};
@@ -32,7 +32,7 @@ fn relocate_all<D: SectorDevice>(
         → get_or victims.now i 0 < length memory.old.usage.segments }
     requires closed { memory.old.chunk.names ≡ [] }
     requires memory { IsMemory memory.old }
-    requires size { HasRoom (D.state device.old) memory.old }
+    requires size { HoldsVolume (D.state device.old) memory.old }
     ensures relocates { EndsRelocating (D.state device.old) (D.state device.new) memory.old
         memory.new (IsAmong victims.now) result }
     ensures vacates { OnOk result (VacatesAll (D.state device.old) (D.state device.new) memory.old
@@ -92,7 +92,7 @@ fn empty_segments<D: SectorDevice>(
     requires victims { AreCleanable memory.old.usage victims.now }
     requires closed { memory.old.chunk.names ≡ [] }
     requires memory { IsMemory memory.old }
-    requires size { HasRoom (D.state device.old) memory.old }
+    requires size { HoldsVolume (D.state device.old) memory.old }
     ensures done { OnOk result (Empties (D.state device.old) (D.state device.new) memory.old
         memory.new victims.now) }
     ensures reads { EndsReading (D.state device.old) (D.state device.new) memory.old result }
@@ -135,7 +135,7 @@ pub fn relocate<D: SectorDevice>(
     requires few { most + TABLE_BLOCKS ≤ CHUNK_BLOCKS * (length memory.now.usage.segments / 8) }
     requires room { most ≤ pass.old.dirty.capacity.room }
     requires memory { IsMemory memory.now }
-    requires size { HasRoom (D.state device.old) memory.now }
+    requires size { HoldsVolume (D.state device.old) memory.now }
     ensures done { OnOk result (Empties (D.state device.old) (D.state device.new) memory.now
         pass.new victims.now) }
     ensures few { OnOk result (length pass.new.dirty.blocks ≤ most) }

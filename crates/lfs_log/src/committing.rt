@@ -3,7 +3,7 @@
 ghost use Rattle.std.specs.Prelude.{◌≡◌, ◌<◌, ◌≤◌, ◌+◌, ◌^◌, ◌-◌, [], length, OnOk, OnErr};
 ghost use Rattle.lfs_memory.specs.segments.Table.{clean_in};
 ghost use Rattle.lfs_log.specs.Settling.{AreAnew};
-ghost use Rattle.lfs_memory.specs.Memory.{IsMemory, AreMapsOut, HasRoom, Goes, Stops, room_of};
+ghost use Rattle.lfs_memory.specs.Memory.{IsMemory, AreMapsOut, HoldsVolume, Goes, Stops, room_of};
 ghost use Rattle.lfs_log.specs.Publishing.{IsAllOut};
 ghost use Rattle.lfs_log.specs.Versions.{number_of};
 ghost use Rattle.lfs_log.specs.Saving.{CommitsAll, CommitFails, IsSpared, orders_for, segments_for};
@@ -28,7 +28,7 @@ fn place_all<D: SectorDevice>(
 ) -> Result<(), DeviceFault>
     requires room { length memory.old.dirty.blocks + TABLE_BLOCKS ≤ room_of memory.old }
     requires memory { IsMemory memory.old }
-    requires size { HasRoom (D.state device.old) memory.old }
+    requires size { HoldsVolume (D.state device.old) memory.old }
     ensures saves { EndsSaving (D.state device.old) (D.state device.new) memory.old memory.new
         (length memory.old.dirty.blocks + TABLE_BLOCKS)
         (length memory.old.dirty.blocks + MAP_BLOCKS) result }
@@ -46,7 +46,7 @@ fn place_all<D: SectorDevice>(
 /// Ends the chunk that is being written, if there is one.
 pub fn seal_rest<D: SectorDevice>(device: &mut D, memory: &mut LogMemory) -> Result<(), DeviceFault>
     requires memory { IsMemory memory.old }
-    requires size { HasRoom (D.state device.old) memory.old }
+    requires size { HoldsVolume (D.state device.old) memory.old }
     ensures done { OnOk result (Goes (D.state device.old) (D.state device.new) memory.old memory.new
         OPEN_CHUNK_BLOCKS) }
     ensures stopped { OnErr result (Stops (D.state device.old) (D.state device.new) memory.old) }
@@ -72,7 +72,7 @@ fn write_out<D: SectorDevice>(
     requires closed { memory.old.chunk.names ≡ [] }
     requires spare { IsSpared memory.old }
     requires memory { IsMemory memory.old }
-    requires size { HasRoom (D.state device.old) memory.old }
+    requires size { HoldsVolume (D.state device.old) memory.old }
     ensures done { OnOk result (Goes (D.state device.old) (D.state device.new)
         memory.old memory.new (length memory.old.dirty.blocks + TABLE_BLOCKS + OPEN_CHUNK_BLOCKS)) }
     ensures stopped { OnErr result (Stops (D.state device.old) (D.state device.new) memory.old) }
@@ -108,7 +108,7 @@ pub fn save<D: SectorDevice>(
         ≤ clean_in memory.old.usage.segments }
     requires spare { IsSpared memory.old }
     requires memory { IsMemory memory.old }
-    requires size { HasRoom (D.state device.old) memory.old }
+    requires size { HoldsVolume (D.state device.old) memory.old }
     ensures done { OnOk result (CommitsAll (D.state device.old) (D.state device.new) memory.old
         memory.new (number_of version) number) }
     ensures stopped { OnErr result (CommitFails (D.state device.old) (D.state device.new) memory.old

@@ -4,7 +4,7 @@
 ghost use Rattle.std.specs.Prelude.{◌≡◌, ◌<◌, ◌≤◌, ◌+◌, ◌⊎◌, [], length, OnOk, OnErr};
 ghost use Rattle.lfs_memory.specs.segments.Table.{clean_in};
 ghost use Rattle.lfs_memory.specs.inodes.Data.{data_count};
-ghost use Rattle.lfs_memory.specs.Memory.{IsMemory, HasRoom, Goes, Stops};
+ghost use Rattle.lfs_memory.specs.Memory.{IsMemory, HoldsVolume, Goes, Stops};
 ghost use Rattle.lfs_log.specs.Thresholds.{reserve_of};
 ghost use Rattle.lfs_log.specs.Saving.{orders_for};
 ghost use Rattle.lfs_log.specs.Early.{WritesChunks, blocks_due};
@@ -27,7 +27,7 @@ fn write_chunk<D: SectorDevice>(
     requires closed { memory.old.chunk.names ≡ [] }
     requires clean { 0 < clean_in memory.old.usage.segments }
     requires memory { IsMemory memory.old }
-    requires size { HasRoom (D.state device.old) memory.old }
+    requires size { HoldsVolume (D.state device.old) memory.old }
     ensures done { OnOk result (Goes (D.state device.old) (D.state device.new) memory.old memory.new
         (CHUNK_BLOCKS + OPEN_CHUNK_BLOCKS)) }
     ensures stopped { OnErr result (Stops (D.state device.old) (D.state device.new) memory.old) }
@@ -72,7 +72,7 @@ pub fn write_chunks<D: SectorDevice>(
 ) -> Result<(), DeviceFault>
     requires closed { memory.old.chunk.names ≡ [] }
     requires memory { IsMemory memory.old }
-    requires size { HasRoom (D.state device.old) memory.old }
+    requires size { HoldsVolume (D.state device.old) memory.old }
     ensures done { OnOk result (WritesChunks (D.state device.old) (D.state device.new)
         memory.old memory.new) }
     ensures left { OnOk result ((data_count memory.new.dirty < CHUNK_BLOCKS)

@@ -20,7 +20,7 @@ use lfs_memory::lifting::LiftFault;
 use lfs_memory::pointers::{count_blocks, find_block, read_block};
 use lfs_memory::present::{locate_double, locate_leaf, read_header};
 use lfs_memory::segments::Usage;
-use lfs_memory::staging::{has_room, remove_tight, stage_tight};
+use lfs_memory::staging::{has_room, remove_tight, stage};
 use lfs_memory::{Changes, Header, LogFault, LogMemory, PointerRun};
 use lfs_model::limits::{FILE_NUMBERS, LAST_LEAF, MOST_UNSAVED, SECTOR_LEN};
 use lfs_verify::verify::verify;
@@ -475,7 +475,7 @@ impl<D: SectorDevice> Log<D> {
         self.relocated = false;
         // A stage that fails may have brought blocks into memory, which a commit clears.
         self.saved = false;
-        match stage_tight(
+        match stage(
             &mut self.device,
             &mut self.memory,
             changes,

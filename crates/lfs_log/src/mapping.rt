@@ -7,7 +7,7 @@ ghost use Rattle.lfs_model.specs.Stands.{LogMap};
 ghost use Rattle.lfs_memory.specs.inodes.Blocks.{blocks_of};
 ghost use Rattle.lfs_memory.specs.inodes.MapValue.{IsMap, IsMapOf, AreSettled, block_in};
 ghost use Rattle.lfs_log.specs.Placing.{EndsSaving, WritesNext};
-ghost use Rattle.lfs_memory.specs.Memory.{IsMemory, AreMapsOut, HasRoom, IsBlockAt, room_of};
+ghost use Rattle.lfs_memory.specs.Memory.{IsMemory, AreMapsOut, HoldsVolume, IsBlockAt, room_of};
 
 use crate::placing::seal_full;
 use lfs_device::{DeviceFault, SectorDevice};
@@ -32,7 +32,7 @@ fn write_map_block<D: SectorDevice>(
         → SpellsMap m t index bytes.now }
     requires room { 0 < room_of memory.old }
     requires memory { IsMemory memory.old }
-    requires size { HasRoom (D.state device.old) memory.old }
+    requires size { HoldsVolume (D.state device.old) memory.old }
     ensures writes { WritesNext (D.state device.old) (D.state device.new) memory.old memory.new
         result }
     ensures placed { OnOk result (IsBlockAt memory.old.map memory.new.map index
@@ -64,7 +64,7 @@ fn save_map_block<D: SectorDevice>(
     requires empty { (x : Entry) → blocks_of memory.old.dirty x ≡ None }
     requires room { 0 < room_of memory.old }
     requires memory { IsMemory memory.old }
-    requires size { HasRoom (D.state device.old) memory.old }
+    requires size { HoldsVolume (D.state device.old) memory.old }
     ensures saves { EndsSaving (D.state device.old) (D.state device.new) memory.old memory.new 1 1
         result }
     ensures others { OnOk result ((j : ℕ) → (j ≡ index → ⊥)
@@ -92,7 +92,7 @@ pub fn save_map<D: SectorDevice>(
     requires empty { (x : Entry) → blocks_of memory.old.dirty x ≡ None }
     requires room { MAP_BLOCKS ≤ room_of memory.old }
     requires memory { IsMemory memory.old }
-    requires size { HasRoom (D.state device.old) memory.old }
+    requires size { HoldsVolume (D.state device.old) memory.old }
     ensures saves { EndsSaving (D.state device.old) (D.state device.new) memory.old memory.new
         MAP_BLOCKS MAP_BLOCKS result }
     ensures known { OnOk result (AreMapsOut memory.new.map) }

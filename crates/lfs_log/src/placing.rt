@@ -5,7 +5,7 @@ ghost use Rattle.lfs_model.specs.Running.{IsLowest};
 ghost use Rattle.lfs_memory.specs.inodes.Blocks.{blocks_of};
 ghost use Rattle.lfs_memory.specs.inodes.Data.{data_count, is_data_code};
 ghost use Rattle.lfs_memory.specs.inodes.Key.{entry_of};
-ghost use Rattle.lfs_memory.specs.Memory.{IsMemory, IsMemoryUpTo, HasRoom, Goes, Stops, room_of};
+ghost use Rattle.lfs_memory.specs.Memory.{IsMemory, IsMemoryUpTo, HoldsVolume, Goes, Stops, room_of};
 ghost use Rattle.lfs_memory.specs.segments.Chunk.{room_in};
 ghost use Rattle.lfs_memory.specs.segments.Early.{early_in};
 ghost use Rattle.lfs_log.specs.Early.{GoesEarly, IsBegunFresh, IsFresh};
@@ -22,7 +22,7 @@ use lfs_model::limits::CHUNK_BLOCKS;
 pub fn seal<D: SectorDevice>(device: &mut D, memory: &mut LogMemory) -> Result<(), DeviceFault>
     requires begun { 0 < length memory.old.chunk.names }
     requires memory { IsMemoryUpTo CHUNK_BLOCKS memory.old }
-    requires size { HasRoom (D.state device.old) memory.old }
+    requires size { HoldsVolume (D.state device.old) memory.old }
     ensures done { OnOk result (Goes (D.state device.old) (D.state device.new) memory.old memory.new
         (room_in memory.old.chunk)) }
     ensures stopped { OnErr result (Stops (D.state device.old) (D.state device.new) memory.old) }
@@ -39,7 +39,7 @@ pub fn seal<D: SectorDevice>(device: &mut D, memory: &mut LogMemory) -> Result<(
 /// Writes the summary of a chunk that is full.
 pub fn seal_full<D: SectorDevice>(device: &mut D, memory: &mut LogMemory) -> Result<(), DeviceFault>
     requires memory { IsMemoryUpTo CHUNK_BLOCKS memory.old }
-    requires size { HasRoom (D.state device.old) memory.old }
+    requires size { HoldsVolume (D.state device.old) memory.old }
     ensures saves { EndsSaving (D.state device.old) (D.state device.new) memory.old memory.new 0 0
         result }
     ensures only { OnlyChunk memory.old memory.new }
@@ -62,7 +62,7 @@ fn write_block<D: SectorDevice>(
     requires lowest { IsLowest (blocks_of memory.old.dirty) (entry_of key) }
     requires room { 0 < room_of memory.old }
     requires memory { IsMemory memory.old }
-    requires size { HasRoom (D.state device.old) memory.old }
+    requires size { HoldsVolume (D.state device.old) memory.old }
     ensures writes { WritesNext (D.state device.old) (D.state device.new) memory.old memory.new
         result }
     ensures fewer { OnOk result (length memory.new.dirty.blocks + 1
@@ -94,7 +94,7 @@ pub fn save_block<D: SectorDevice>(
     requires room { 0 < room_of memory.old }
     requires lowest { IsLowest (blocks_of memory.old.dirty) (entry_of key) }
     requires memory { IsMemory memory.old }
-    requires size { HasRoom (D.state device.old) memory.old }
+    requires size { HoldsVolume (D.state device.old) memory.old }
     ensures saves { EndsSaving (D.state device.old) (D.state device.new) memory.old memory.new 1 1
         result }
     ensures fewer { OnOk result (length memory.new.dirty.blocks + 1
@@ -117,7 +117,7 @@ pub fn save_files<D: SectorDevice>(
 ) -> Result<(), DeviceFault>
     requires room { length memory.old.dirty.blocks ≤ room_of memory.old }
     requires memory { IsMemory memory.old }
-    requires size { HasRoom (D.state device.old) memory.old }
+    requires size { HoldsVolume (D.state device.old) memory.old }
     ensures saves { EndsSaving (D.state device.old) (D.state device.new) memory.old memory.new
         (length memory.old.dirty.blocks) (length memory.old.dirty.blocks) result }
     ensures empty { OnOk result ((x : Entry) → blocks_of memory.new.dirty x ≡ None) }

@@ -2,7 +2,7 @@
 ghost use Rattle.std.specs.Prelude.{◌≡◌, ◌<◌, ◌≤◌, ◌+◌, ◌^◌, ◌-◌, ℕ, get_or, length, OnOk, OnErr};
 ghost use Rattle.lfs_model.specs.Device.{Only};
 ghost use Rattle.lfs_memory.specs.segments.Table.{address_of};
-ghost use Rattle.lfs_memory.specs.Memory.{IsMemory, HasRoom};
+ghost use Rattle.lfs_memory.specs.Memory.{IsMemory, HoldsVolume};
 ghost use Rattle.lfs_log.specs.Keeping.{OnlyTable};
 ghost use Rattle.lfs_log.specs.Versions.{number_of};
 ghost use Rattle.lfs_log.specs.Publishing.{IsAllOut, IsNext, LeavesEither, Publishes, PublishFails, Syncs};
@@ -72,7 +72,7 @@ pub fn publish<D: SectorDevice>(
     requires number { number < 2 ^ 64 - 1 }
     requires out { IsAllOut memory.old }
     requires memory { IsMemory memory.old }
-    requires size { HasRoom (D.state device.old) memory.old }
+    requires size { HoldsVolume (D.state device.old) memory.old }
     ensures done { OnOk result (Publishes (D.state device.old) (D.state device.new) memory.old
         memory.new (number_of version) number) }
     ensures stopped { OnErr result (PublishFails (D.state device.old) (D.state device.new)

@@ -7,7 +7,7 @@ ghost use Rattle.lfs_model.specs.Memory.{parent};
 ghost use Rattle.lfs_model.specs.Reach.{segment_start};
 ghost use Rattle.lfs_model.specs.Summary.{FitsSummary, IsPlaced};
 ghost use Rattle.lfs_memory.specs.Lifting.{IsCountedAbove, IsInMemory, IsMapLost, MapLifts};
-ghost use Rattle.lfs_memory.specs.Memory.{HasRoom, IsMemory};
+ghost use Rattle.lfs_memory.specs.Memory.{HoldsVolume, IsMemory};
 ghost use Rattle.lfs_memory.specs.Present.{Looks};
 ghost use Rattle.lfs_memory.specs.inodes.Key.{entry_of};
 ghost use Rattle.lfs_memory.specs.inodes.MapValue.{block_in};
@@ -334,7 +334,7 @@ pub fn relocate_segment<D: SectorDevice>(
     requires inside { segment < length memory.old.usage.segments }
     requires closed { memory.old.chunk.names ≡ [] }
     requires memory { IsMemory memory.old }
-    requires size { HasRoom (D.state device.old) memory.old }
+    requires size { HoldsVolume (D.state device.old) memory.old }
     ensures relocates { EndsRelocating (D.state device.old) (D.state device.new) memory.old
         memory.new (IsInSegment segment) result }
     ensures vacates { OnOk result (Vacates (D.state device.old) (D.state device.new) memory.old

@@ -3,7 +3,7 @@
 ghost use Rattle.std.specs.Prelude.{◌≡◌, ◌≢◌, ◌<◌, ◌≤◌, ◌+◌, ◌/◌, ℕ, true, false, length, IfSome, IfNone, OnOk, OnErr};
 ghost use Rattle.lfs_memory.specs.segments.Chunk.{due_in};
 ghost use Rattle.lfs_memory.specs.segments.Table.{address_of, stale_of, used_of, clean_in};
-ghost use Rattle.lfs_memory.specs.Memory.{IsMemory, HasRoom, Goes, Stops, room_of};
+ghost use Rattle.lfs_memory.specs.Memory.{IsMemory, HoldsVolume, Goes, Stops, room_of};
 ghost use Rattle.lfs_log.specs.Keeping.{OnlyPlaces, OnlyUsage};
 ghost use Rattle.lfs_log.specs.Placing.{EndsSaving};
 ghost use Rattle.lfs_log.specs.Settling.{IsNowhere, Leaves, Resettles, IsResettled, IsAnew, AreAnew, IsFilled, blocks_in};
@@ -85,7 +85,7 @@ pub fn settle_block<D: SectorDevice>(
     requires stale { stale_of memory.old.usage index ≡ true }
     requires room { 0 < room_of memory.old }
     requires memory { IsMemory memory.old }
-    requires size { HasRoom (D.state device.old) memory.old }
+    requires size { HoldsVolume (D.state device.old) memory.old }
     ensures saves { EndsSaving (D.state device.old) (D.state device.new) memory.old memory.new 1 0
         result }
     ensures moved { OnOk result (IsResettled memory.old.usage memory.new.usage index) }
@@ -147,7 +147,7 @@ pub fn settle_usage<D: SectorDevice>(
 ) -> Result<(), DeviceFault>
     requires room { USAGE_BLOCKS ≤ room_of memory.old }
     requires memory { IsMemory memory.old }
-    requires size { HasRoom (D.state device.old) memory.old }
+    requires size { HoldsVolume (D.state device.old) memory.old }
     ensures saves { EndsSaving (D.state device.old) (D.state device.new) memory.old memory.new
         USAGE_BLOCKS 0 result }
     ensures anew { OnOk result (AreAnew memory.new.usage) }
@@ -171,7 +171,7 @@ fn fill_block<D: SectorDevice>(
     requires anew { AreAnew memory.old.usage }
     requires index { index < blocks_in memory.old.usage }
     requires memory { IsMemory memory.old }
-    requires size { HasRoom (D.state device.old) memory.old }
+    requires size { HoldsVolume (D.state device.old) memory.old }
     ensures done { OnOk result (Goes (D.state device.old) (D.state device.new) memory.old memory.new
         0) }
     ensures stopped { OnErr result (Stops (D.state device.old) (D.state device.new) memory.old) }
@@ -200,7 +200,7 @@ pub fn fill_usage<D: SectorDevice>(
 ) -> Result<(), DeviceFault>
     requires anew { AreAnew memory.old.usage }
     requires memory { IsMemory memory.old }
-    requires size { HasRoom (D.state device.old) memory.old }
+    requires size { HoldsVolume (D.state device.old) memory.old }
     ensures done { OnOk result (Goes (D.state device.old) (D.state device.new) memory.old memory.new
         0) }
     ensures stopped { OnErr result (Stops (D.state device.old) (D.state device.new) memory.old) }

@@ -7,7 +7,7 @@ use Rattle.lfs_model.specs.Device.{DeviceState, IsLawful}
 use Rattle.lfs_model.proofs.Moments.{carries_none, carries_then, started, joined}
 use Rattle.lfs_model.proofs.Settled.{settled_stands}
 use Rattle.lfs_memory.specs.declared.memory.LogMemory.{LogMemory}
-use Rattle.lfs_memory.specs.Memory.{room_of, HasRoom, IsMemory, Goes, GoesUpTo, Stops, Quiet}
+use Rattle.lfs_memory.specs.Memory.{room_of, HoldsVolume, IsMemory, Goes, GoesUpTo, Stops, Quiet}
 
 pub goes_none : {d : DeviceState} (v : LogMemory) → IsLawful d → IsMemory v → Goes d d v v 0
 goes_none {d} v lawful memory = record {
@@ -60,8 +60,9 @@ pub err_ok : {T E : Type 0} (r : Result T E) (e : E) (P : Type 0) → IsErr r ×
 err_ok (Ok x) e P gives = absurd gives.1
 err_ok (Err e') e P gives = tt
 
-pub has_room_still : {p : ℕ} {d d' : DeviceState} {v v' : LogMemory} {n : ℕ} → GoesUpTo p d d' v v' n → HasRoom d v → HasRoom d' v'
-has_room_still goes room = omega arith
+pub holds_volume_still : {p : ℕ} {d d' : DeviceState} {v v' : LogMemory} {n : ℕ} → GoesUpTo p d d' v v' n
+    → HoldsVolume d v → HoldsVolume d' v'
+holds_volume_still goes room = omega arith
 
 pub ok_then : {T E : Type 0} (r : Result T E) (P Q : Type 0) → (P → Q) → OnOk r P → OnOk r Q
 ok_then (Ok x) P Q go p = go p

@@ -69,8 +69,8 @@ abbrev pub IsMemory : LogMemory → Type 0
 IsMemory v = IsMemoryUpTo OPEN_CHUNK_BLOCKS v
 
 -- the device has all segments
-abbrev pub HasRoom : DeviceState → LogMemory → Type 0
-HasRoom d v = CHECKPOINT_SLOTS + SEGMENT_SECTORS * length v.usage.segments ≤ d.size
+abbrev pub HoldsVolume : DeviceState → LogMemory → Type 0
+HoldsVolume d v = CHECKPOINT_SLOTS + SEGMENT_SECTORS * length v.usage.segments ≤ d.size
 
 -- the files that the map hides are those without a name
 abbrev pub AreHidden : MapValue → LogMap → Type 0

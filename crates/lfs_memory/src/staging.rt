@@ -88,7 +88,7 @@ fn lose<D: SectorDevice>(
 /// # Errors
 ///
 /// Where a block can't be read, or isn't counted at its address.
-fn bring_and_apply<D: SectorDevice>(
+fn stage_with_room<D: SectorDevice>(
     device: &mut CachedDevice<D>,
     memory: &mut LogMemory,
     loss: Loss,
@@ -126,7 +126,7 @@ fn bring_and_apply<D: SectorDevice>(
 /// # Errors
 ///
 /// `Full` where memory has no room for the batch, `Device` where a block can't be read.
-fn stage_loose<D: SectorDevice>(
+fn stage_if_room<D: SectorDevice>(
     device: &mut CachedDevice<D>,
     memory: &mut LogMemory,
     changes: &Changes,
@@ -146,18 +146,18 @@ fn stage_loose<D: SectorDevice>(
     }
     let headers = changes.headers.as_slice();
     let blocks = changes.blocks.as_slice();
-    match bring_and_apply(device, memory, changes.loss, headers, blocks, counts) {
+    match stage_with_room(device, memory, changes.loss, headers, blocks, counts) {
         Ok(()) => Ok(()),
         Err(_) => Err(LogFault::Device),
     }
 }
 
-/// As `stage_loose`, and then the blocks of pointers in memory that lead nowhere leave it.
+/// As `stage_if_room`, and then the blocks of pointers in memory that lead nowhere leave it.
 ///
 /// # Errors
 ///
-/// As those of `stage_loose`.
-pub fn stage_tight<D: SectorDevice>(
+/// As those of `stage_if_room`.
+pub fn stage<D: SectorDevice>(
     device: &mut CachedDevice<D>,
     memory: &mut LogMemory,
     changes: &Changes,
@@ -172,7 +172,7 @@ pub fn stage_tight<D: SectorDevice>(
         result }
     ensures few { length memory.new.dirty.blocks ≤ memory.new.dirty.capacity.limit }
 {
-    let staged = stage_loose(device, memory, changes, counts);
+    let staged = stage_if_room(device, memory, changes, counts);
     tighten(memory);
     let _few = memory.dirty.len();
     staged

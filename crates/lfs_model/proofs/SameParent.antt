@@ -12,7 +12,7 @@ use Rattle.lfs_model.specs.Sound.{Sound}
 use Rattle.lfs_model.specs.Call.{Answer, Refuse, Done, Rename}
 use Rattle.lfs_model.specs.Step.{Holder, outcome, checked, when, no_last, last_dots, is_long, name, target, is_there, let_go, with_tree}
 use Rattle.lfs_model.specs.Step.{renames, rename_list}
-use Rattle.lfs_model.specs.Laws.{RenameHasRoom}
+use Rattle.lfs_model.specs.Laws.{RenameHasSpace}
 use Rattle.lfs_model.proofs.Keeps.{parent_dir}
 use Rattle.lfs_model.proofs.Makes.{dir_at}
 use Rattle.lfs_model.proofs.Renames.{same_need, less_need}
@@ -140,8 +140,8 @@ module _ (N : ℕ) (s : State) (sound : Sound N s) (a b : List ℕ) (d : ℕ) (i
       (checked s (when (not (is_there t d a)) NoEntry ∷ drop 4 (rename_list N s a b d d t')) (Done, with_tree s t'))
       ((λ e. busy), ((λ e. inval), ((λ e. long), tt))) (absent s (is_there t d a) none _)
 
-pub rename_has_room : RenameHasRoom
-rename_has_room N s s' sound a b d par_a par_b st =
+pub rename_has_space : RenameHasSpace
+rename_has_space N s s' sound a b d par_a par_b st =
     let e : st.first_end ≡ At d =
     Some-injective (sym (path_ends_to s.tree (Holder a) st.first_end st.first) ∙ path_ends_to s.tree (Holder a) (At d) par_a) in
     let f : st.second_end ≡ At d =

@@ -37,9 +37,9 @@ apart x y ne = elim (same_name x y) as (λ b. same_name x y ≡ b → b ≡ fals
     [ true ↦ λ e. absurd (ne (same_name-true x y e)) | false ↦ λ e. refl ] refl
 
 -- dot and dot-dot are no longer than a name may be
-limit_room : (form : ℕ) → 2 ≤ name_len form
-limit_room zero = omega arith
-limit_room (suc form) = omega arith
+limit_space : (form : ℕ) → 2 ≤ name_len form
+limit_space zero = omega arith
+limit_space (suc form) = omega arith
 
 -- what an answer of `look` means
 abbrev pub Means : Tree → ℕ → List ℕ → Seen → Type 0
@@ -154,7 +154,7 @@ look_dot_dot t d p e = subst (λ q. look t d q ≡ Above) (sym e) refl
 
 look_long : (t : Tree) (d : ℕ) (p : List ℕ) → name_limit t d < length p → look t d p ≡ TooLong
 look_long t d p long =
-    let wide = limit_room (form_of (node t d)) in
+    let wide = limit_space (form_of (node t d)) in
     let one : p ≢ dot = λ e. absurd (let n = ap length e in omega arith) in
     let two : p ≢ dot_dot = λ e. absurd (let n = ap length e in omega arith) in
     let is : nat_lt (name_limit t d) (length p) ≡ true = grind (arith, nat_tests) in

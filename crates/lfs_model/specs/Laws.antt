@@ -114,8 +114,8 @@ NeedOfRenameOver = (N : ℕ) (s : State) → Sound N s → (d n old form : ℕ) 
     → need (let_go (with_name (without_name s.tree d a) d b n) s.handles old) ≤ need s.tree
 
 -- So a rename whose two paths have one parent is never refused for space.
-abbrev pub RenameHasRoom : Type 0
-RenameHasRoom = (N : ℕ) (s s' : State) → Sound N s → (a b : List ℕ) (d : ℕ) → Parent s.tree a (At d) → Parent s.tree b (At d)
+abbrev pub RenameHasSpace : Type 0
+RenameHasSpace = (N : ℕ) (s s' : State) → Sound N s → (a b : List ℕ) (d : ℕ) → Parent s.tree a (At d) → Parent s.tree b (At d)
     → ¬ (Step N s (Rename a b) (Refuse NoSpace) s')
 
 -- the last state of a run is pending, so there is always one that a stop may leave

@@ -29,6 +29,6 @@ pub record AreKeptSince (d : DeviceState) (points : List Point) (calls : List Ca
 
 -- As `UsesVolume`, with the clocks at which the replies went out: a stop at any moment since that of a reply leaves the state behind
 -- every call that was acknowledged by then, or a later one.
-pub record UsesTold (d d' : DeviceState) (lines : List Line) (answers : List Answer) (clocks : List ℕ) : Type 0 where
+pub record UsesNoted (d d' : DeviceState) (lines : List Line) (answers : List Answer) (clocks : List ℕ) : Type 0 where
   pub uses : UsesVolume d d' lines answers
   pub since : AreKeptSince d' (uses.first ∷ uses.points) (map call_of lines) answers clocks

@@ -79,8 +79,8 @@ module _ (m : LogMap) where
   abbrev pub AreLinks : Type 0
   AreLinks = (n : ℕ) (h : Header) → m.header n ≡ Some h → h.links ≡ links tree_in n
 
-  abbrev pub HasRoom : ℕ → Type 0
-  HasRoom N = need tree_in ≤ NEED_OF_SEGMENT * N
+  abbrev pub HasSpace : ℕ → Type 0
+  HasSpace N = need tree_in ≤ NEED_OF_SEGMENT * N
 
 -- the log map of a volume of N segments is a tree's
 pub record IsTree (N : ℕ) (m : LogMap) : Type 0 where
@@ -88,7 +88,7 @@ pub record IsTree (N : ℕ) (m : LogMap) : Type 0 where
   pub texts : AreTexts m
   pub reached : AreReached m
   pub links : AreLinks m
-  pub room : HasRoom m N
+  pub room : HasSpace m N
 
 pub record TreeOf (N : ℕ) (m : LogMap) (t : Tree) : Type 0 where
   pub is : t ≡ tree_in m
@@ -101,7 +101,7 @@ tree_stage N m code =
     MatchBool (code == 11) (AreTexts m) (
     MatchBool (code == 12) (AreReached m) (
     MatchBool (code == 13) (AreLinks m) (
-    MatchBool (code == 14) (HasRoom m N) (
+    MatchBool (code == 14) (HasSpace m N) (
     Unit {0})))))
 
 -- the content stands for the state: its tree, without handles

@@ -1,7 +1,7 @@
 //! The laws of the model, each the contract of a function that does nothing: whoever stands on the
 //! model may use them.
 
-ghost use Rattle.lfs_model.specs.Laws.{OneEnd, OneOutcome, SomeOutcome, ProgramSteps, NewIsSound, CallsKeep, RunsKeep, LineRunsKeep, PendingIsSound, ReadsLeave, LeastNumber, LeastHandle, NeedOfChange, NeedOfLoss, NeedOfNameLess, NeedOfCut, NeedOfRename, NeedOfRenameOver, RenameHasRoom, DropKeeps, LastIsPending, OneLine, LinesInTurn};
+ghost use Rattle.lfs_model.specs.Laws.{OneEnd, OneOutcome, SomeOutcome, ProgramSteps, NewIsSound, CallsKeep, RunsKeep, LineRunsKeep, PendingIsSound, ReadsLeave, LeastNumber, LeastHandle, NeedOfChange, NeedOfLoss, NeedOfNameLess, NeedOfCut, NeedOfRename, NeedOfRenameOver, RenameHasSpace, DropKeeps, LastIsPending, OneLine, LinesInTurn};
 
 /// In a sound state a walk has exactly one end.
 pub fn walks_have_one_end()
@@ -96,8 +96,8 @@ pub fn need_of_a_rename()
 {}
 
 /// A rename within one directory is never refused for space, whether its new name is there or not.
-pub fn renames_in_one_directory_have_room()
-    ensures { RenameHasRoom }
+pub fn renames_in_one_directory_have_space()
+    ensures { RenameHasSpace }
 {}
 
 /// The last state of a run is pending, so there is always one that a stop may leave.

@@ -6,7 +6,7 @@ ghost use Rattle.lfs_path.specs.Telling.{Tells, TellsRefusal, WalksOnly};
 ghost use Rattle.lfs_path.specs.Trees.{InChain, here};
 
 use crate::chain::Chain;
-use crate::seen::{Link, Seen, look};
+use crate::seen::{Link, Seen, step};
 use crate::text::next_piece;
 use crate::walk_fault::WalkFault;
 use lfs_files::Files;
@@ -35,7 +35,7 @@ pub enum Stop<'a> {
 ///
 /// # Errors
 ///
-/// As those of `look`, and `NotDir`.
+/// As those of `step`, and `NotDir`.
 pub fn walk_text<'a, F: Files>(
     files: &mut F,
     chain: &mut Chain,
@@ -69,7 +69,7 @@ fn pass<F: Files>(files: &mut F, chain: &mut Chain, piece: &[u8]) -> Result<Opti
     ensures refused { IfErr result (TellsRefusal (F.state files.old) (F.state files.new)
         (InChain chain.old) (EndsAtPiece (here chain.old) piece.now)) }
 {
-    let seen = look(files, chain.directory(), piece)?;
+    let seen = step(files, chain.directory(), piece)?;
     match seen {
         Seen::Here => Ok(None),
         Seen::Above => {

@@ -39,7 +39,7 @@ pub enum Seen {
 ///
 /// `NameTooLong`, or `NoEntry` where the directory doesn't have the name. `Log` where the log gives
 /// no answer.
-pub fn look<F: Files>(files: &mut F, directory: FileNumber, piece: &[u8]) -> Result<Seen, WalkFault>
+pub fn step<F: Files>(files: &mut F, directory: FileNumber, piece: &[u8]) -> Result<Seen, WalkFault>
     ensures walks { WalksOnly (F.state files.old) (F.state files.new) result }
     ensures answer { IfOk result (λ seen. Tells (F.state files.old) (F.state files.new)
         (InDirectory directory.value) (IsSeen directory.value piece.now seen)) }

@@ -10,7 +10,7 @@ use Rattle.lfs_fs.specs.Refusals.{refusal_of}
 use Rattle.lfs_fs.specs.Seen.{answer_by}
 use Rattle.lfs_fs.specs.Volume.{Mounted, Serves}
 use Rattle.lfs_fs.specs.declared.error.FsError.{FsError}
-use Rattle.lfs_fs.specs.cleaner.Room.{CleansOnce, HasQuarter}
+use Rattle.lfs_fs.specs.cleaner.Making.{CleansOnce, HasQuarter}
 use Rattle.lfs_put.specs.Calls.{Made, ServesAll, made}
 
 -- these calls, each of them done

@@ -2,7 +2,7 @@
 ghost use Rattle.lfs_salvage.specs.Telling.{TellsNothing};
 
 use lfs_device::SectorDevice;
-use lfs_image::host::{HostFault, made};
+use lfs_host::host::{HostFault, made};
 use lfs_layout::Inode;
 use lfs_model::limits::SECTOR_LEN;
 use lfs_salvage::{Blocks, Flaw, MOST_STEPS, Piece, Readings};

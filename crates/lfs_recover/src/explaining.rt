@@ -1,15 +1,13 @@
-//! The command that checks a volume, and says in words where it is damaged.
+//! What is said in words behind a check: where the volume is damaged.
 ghost use Rattle.lfs_salvage.specs.Telling.{TellsNothing};
 
 use crate::wording::{put_damage, put_slot, put_unfinished};
 use lfs_device::{SectorDevice, World};
-use lfs_image::fault::{Ending, Fault, Refusal};
-use lfs_image::image::{Beside, Patience, open_to_look};
-use lfs_image::looking::Look;
-use lfs_image::printing::flush;
-use lfs_image::put::UNFINISHED;
-use lfs_image::viewing::look;
+use lfs_host::fault::{Ending, Fault, Refusal};
+use lfs_host::image::{Beside, Patience, open_to_look};
+use lfs_host::printing::flush;
 use lfs_layout::Checkpoint;
+use lfs_put::UNFINISHED;
 use lfs_salvage::{Damage, find_damage, read_addresses, read_paths, read_slots};
 use std::alloc::{AllocError, Global};
 use std::fs::File;
@@ -91,25 +89,25 @@ fn code_of(ending: Ending) -> Option<u8> {
     }
 }
 
-/// Checks the volume of an image as `check` does, and then says in words where it is damaged, which
-/// slot holds no checkpoint, and where a file is that was put and isn't whole. Beside a writer it
-/// says no more than `check`.
+/// Says in words, behind the line of a check of an image that ended so, where its volume is damaged,
+/// which slot holds no checkpoint, and where a file is that was put and isn't whole. Beside a writer
+/// it says nothing more. The ending stays the check's.
 pub fn explain<Here: World, R: Files<File = File> + Clock, W: Write>(
     rt: &R,
     alloc: Global,
     image: &str,
+    checked: Ending,
     patience: Patience,
     output: &mut W,
 ) -> Result<Ending, Fault> {
-    let ending = look::<Here, R, W>(rt, alloc, image, Look::Check, patience, output)?;
-    let Some(code) = code_of(ending) else {
-        return Ok(ending);
+    let Some(code) = code_of(checked) else {
+        return Ok(checked);
     };
     match open_to_look::<Here, R>(rt, image, patience) {
         Ok((mut device, Beside::Nobody)) => {
             explain_device(alloc, &mut device, code, output)?;
-            Ok(ending)
+            Ok(checked)
         }
-        Ok((_, Beside::Writer)) | Err(_) => Ok(ending),
+        Ok((_, Beside::Writer)) | Err(_) => Ok(checked),
     }
 }

@@ -10,7 +10,4 @@ mod telling;
 mod wording;
 
 pub use explaining::explain;
-pub use lfs_image as image;
-pub use lfs_image::{put, script};
-pub use lfs_layout as layout;
 pub use recovering::{Recovery, recover};

@@ -5,9 +5,9 @@ use crate::contents::{Stop, Text, fill, text_of};
 use crate::places::{LOST, Places, below, by_number, on_host};
 use crate::telling::{tell_lost, tell_moved, tell_part, tell_path, tell_strays};
 use lfs_device::SectorDevice;
-use lfs_image::fault::Fault;
-use lfs_image::host;
-use lfs_image::host::{HostFault, made};
+use lfs_host::fault::Fault;
+use lfs_host::host;
+use lfs_host::host::{HostFault, made};
 use lfs_layout::{Checkpoint, Inode};
 use lfs_model::Kind;
 use lfs_salvage::{

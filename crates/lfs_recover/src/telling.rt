@@ -1,6 +1,6 @@
 //! What is told of a recovery, a line for each thing.
-use lfs_image::fault::Fault;
-use lfs_image::printing::{put, put_count, put_word};
+use lfs_host::fault::Fault;
+use lfs_host::printing::{put, put_count, put_word};
 use lfs_model::limits::BLOCK_POINTERS;
 use lfs_salvage::{Flaw, Gap, Place};
 use std::io::Write;

@@ -1,7 +1,7 @@
 //! What `check -v` says behind the line of `check`.
 use crate::telling::put_path;
-use lfs_image::fault::Fault;
-use lfs_image::printing::{put, put_count};
+use lfs_host::fault::Fault;
+use lfs_host::printing::{put, put_count};
 use lfs_salvage::{Damage, Part};
 use std::io::Write;
 

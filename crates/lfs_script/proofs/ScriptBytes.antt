@@ -9,7 +9,8 @@ use Rattle.std.proofs.KnownBytes.{Appends-trans, Consumes-trans}
 use Rattle.lfs_model.specs.Call.{Answer}
 use Rattle.lfs_model.specs.Script.{Line, Spells, ended, lines, reply}
 use Rattle.lfs_model.proofs.LineTexts.{lines_in_turn}
-use Rattle.lfs_script.specs.Bytes.{AppendsSome, taken}
+use Rattle.lfs_words.specs.Bytes.{AppendsSome}
+use Rattle.lfs_script.specs.Bytes.{taken}
 use Rattle.lfs_script.specs.Ending.{AppendsTo, AreSpelled, IsText, ended_texts, replies}
 
 -- ---- bytes without a newline

@@ -13,16 +13,17 @@ use Rattle.lfs_model.specs.Run.{has_word}
 use Rattle.lfs_model.specs.Script.{InRange, Line, bad, lines, reply, text_of}
 use Rattle.lfs_fs.specs.Scripts.{RunsLines, ServesLine, TellsLines}
 use Rattle.lfs_fs.specs.Volume.{Mounted}
-use Rattle.lfs_script.specs.Bytes.{AppendsSome}
+use Rattle.lfs_words.specs.Bytes.{AppendsSome}
 use Rattle.lfs_script.specs.LineEnd.{OnTooLong, consumed_by_line}
 use Rattle.lfs_script.specs.declared.line.LineEnd.{LineEnd}
 use Rattle.lfs_script.specs.declared.line.LineEnd.TheVariants.{TooLong}
 use Rattle.lfs_script.specs.declared.source.ReadError.{ReadError}
-use Rattle.lfs_script.specs.Lines.{IsUnknown}
+use Rattle.lfs_lines.specs.Lines.{IsUnknown}
 use Rattle.lfs_script.specs.Ending.{EndOf, IsBadLine, IsBadText, IsText, EndsWithLine, ended_texts, replies}
-use Rattle.lfs_script.specs.Running.{AnswersText, Called, Ends, EndsBy, EndsTold, Finishes, LooksBeforeReply, RepliesBadLine, SoFar, Turns}
-use Rattle.lfs_script.specs.Told.{Look, Looked, LooksAt}
-use Rattle.lfs_script.proofs.Looking.{looked_more, looked_none}
+use Rattle.lfs_script.specs.Running.{AnswersText, Called, Ends, EndsBy, EndsNoted}
+use Rattle.lfs_script.specs.Running.{Finishes, GlancesBeforeReply, RepliesBadLine, SoFar, Turns}
+use Rattle.lfs_script.specs.Noted.{Glance, Glanced, GlancesAt}
+use Rattle.lfs_script.proofs.Glancing.{glanced_more, glanced_none}
 use Rattle.lfs_script.specs.Strict.{Follows, EndsBehind, GoesOnBehind, StrictEndOf}
 use Rattle.lfs_script.specs.declared.script.ScriptEnd.{ScriptEnd}
 use Rattle.lfs_script.specs.declared.script.ScriptEnd.TheVariants.{Done, BadLine, Read, Write, Memory}
@@ -76,55 +77,58 @@ module _ {D : Type 0} (state : D → DeviceState) where
       (called (Appends w w1) old new text answer answers replied, decides)
   turned (Some (Script end)) strict w w1 old new text n answer answers replied decides = absurd decides
 
-  -- device and writer were looked at behind the call
-  pub looks_called : {v : Mounted D} {d : D} (w : Option (List ℕ)) (answer : Answer) (old : Mounted D) {text : List ℕ} (s s1 : List Look)
+  -- device and writer were glanced at behind the call
+  pub glances_called : {v : Mounted D} {d : D} (w : Option (List ℕ)) (answer : Answer) (old : Mounted D) {text : List ℕ}
+      (s s1 : List Glance)
       → AnswersText state (Some answer) old v text → d ≡ v.log.device
-      → LooksAt (state d).moment w s s1 → LooksBeforeReply state v w text s s1
-  looks_called w answer old s s1 answers same looks = record {
-    once = λ line spells. subst (λ (x : D). LooksAt (state x).moment w s s1) same looks;
+      → GlancesAt (state d).moment w s s1 → GlancesBeforeReply state v w text s s1
+  glances_called w answer old s s1 answers same glances = record {
+    once = λ line spells. subst (λ (x : D). GlancesAt (state x).moment w s s1) same glances;
     never = λ bad. absurd (bad answers.0 answers.1);
   }
 
-  -- a bad text isn't looked at
-  pub looks_never : (v : Mounted D) (w : Option (List ℕ)) {text : List ℕ} (s : List Look) → IsBadText text
-      → LooksBeforeReply state v w text s s
-  looks_never v w s bad = record { once = λ line spells. absurd (bad line spells); never = λ e. refl }
+  -- a bad text isn't glanced at
+  pub glances_never : (v : Mounted D) (w : Option (List ℕ)) {text : List ℕ} (s : List Glance) → IsBadText text
+      → GlancesBeforeReply state v w text s s
+  glances_never v w s bad = record { once = λ line spells. absurd (bad line spells); never = λ e. refl }
 
   -- the line as a slice
-  pub looks_of : (v : Mounted D) (w : Option (List ℕ)) {slice text : List ℕ} (s s1 : List Look) → slice ≡ text
-      → LooksBeforeReply state v w slice s s1 → LooksBeforeReply state v w text s s1
-  looks_of v w s s1 is looks = subst (λ (t : List ℕ). LooksBeforeReply state v w t s s1) is looks
+  pub glances_of : (v : Mounted D) (w : Option (List ℕ)) {slice text : List ℕ} (s s1 : List Glance) → slice ≡ text
+      → GlancesBeforeReply state v w slice s s1 → GlancesBeforeReply state v w text s s1
+  glances_of v w s s1 is glances = subst (λ (t : List ℕ). GlancesBeforeReply state v w t s s1) is glances
 
 module _ {D : Type 0} (state : D → DeviceState) (strict : Bool) where
   -- the last line is none, or goes on, or ends the script
-  pub finish_none : (w : Option (List ℕ)) (v : Mounted D) (text : List ℕ) (n : ℕ) (s : List Look) → true ≡ (length text == 0)
+  pub finish_none : (w : Option (List ℕ)) (v : Mounted D) (text : List ℕ) (n : ℕ) (s : List Glance) → true ≡ (length text == 0)
       → Finishes state strict (Script Done) w w v v text n s s
   finish_none w v text n s e = inl (nothing text (zero_length (length text) e), refl, refl, refl, refl)
 
-  pub finish_done : (w w1 : Option (List ℕ)) (old : Mounted D) {new : Mounted D} {text : List ℕ} (n : ℕ) (s : List Look) {s1 : List Look}
+  pub finish_done : (w w1 : Option (List ℕ)) (old : Mounted D) {new : Mounted D} {text : List ℕ}
+      (n : ℕ) (s : List Glance) {s1 : List Glance}
       → false ≡ (length text == 0)
-      → Turns state strict None w w1 old new text n → LooksBeforeReply state new w text s s1
+      → Turns state strict None w w1 old new text n → GlancesBeforeReply state new w text s s1
       → Finishes state strict (Script Done) w w1 old new text n s s1
-  finish_done w w1 old {text} n s e turns looks = inr (some_length (length text) e, looks, inl (refl, turns))
+  finish_done w w1 old {text} n s e turns glances = inr (some_length (length text) e, glances, inl (refl, turns))
 
-  pub finish_end : (end : StrictEnd) (w w1 : Option (List ℕ)) (old : Mounted D) {new : Mounted D} {text : List ℕ} (n : ℕ) (s : List Look)
-      {s1 : List Look}
-      → false ≡ (length text == 0) → Turns state strict (Some end) w w1 old new text n → LooksBeforeReply state new w text s s1
+  pub finish_end : (end : StrictEnd) (w w1 : Option (List ℕ)) (old : Mounted D) {new : Mounted D} {text : List ℕ} (n : ℕ) (s : List Glance)
+      {s1 : List Glance}
+      → false ≡ (length text == 0) → Turns state strict (Some end) w w1 old new text n → GlancesBeforeReply state new w text s s1
       → Finishes state strict end w w1 old new text n s s1
-  finish_end end w w1 old {text} n s e turns looks = inr (some_length (length text) e, looks, inr turns)
+  finish_end end w w1 old {text} n s e turns glances = inr (some_length (length text) e, glances, inr turns)
 
   -- the line as a slice
   pub turns_of : (end : Option StrictEnd) (w w1 : Option (List ℕ)) (old new : Mounted D) {slice text : List ℕ} (n : ℕ) → slice ≡ text
       → Turns state strict end w w1 old new slice n → Turns state strict end w w1 old new text n
   turns_of end w w1 old new n is turns = subst (λ (t : List ℕ). Turns state strict end w w1 old new t n) is turns
 
-  pub finishes_of : (end : StrictEnd) (w w1 : Option (List ℕ)) (old new : Mounted D) {slice text : List ℕ} (n : ℕ) (s s1 : List Look)
+  pub finishes_of : (end : StrictEnd) (w w1 : Option (List ℕ)) (old new : Mounted D) {slice text : List ℕ} (n : ℕ) (s s1 : List Glance)
       → slice ≡ text → Finishes state strict end w w1 old new slice n s s1 → Finishes state strict end w w1 old new text n s s1
   finishes_of end w w1 old new n s s1 is finishes =
       subst (λ (t : List ℕ). Finishes state strict end w w1 old new t n s s1) is finishes
 
   -- the replies so far are flushed
-  pub so_far_flushed : {n : ℕ} {r left w w1 : Option (List ℕ)} (w2 : Option (List ℕ)) {old now : Mounted D} {s s1 : List Look} → Keeps w1 w2
+  pub so_far_flushed : {n : ℕ} {r left w w1 : Option (List ℕ)} (w2 : Option (List ℕ)) {old now : Mounted D} {s s1 : List Glance}
+      → Keeps w1 w2
       → SoFar state strict n r left w w1 old now s s1 → SoFar state strict n r left w w2 old now s s1
   so_far_flushed {w} {w1} w2 keeps so = record {
     texts = so.texts;
@@ -134,7 +138,7 @@ module _ {D : Type 0} (state : D → DeviceState) (strict : Bool) where
     spelled = so.spelled;
     clocks = so.clocks;
     told = so.told;
-    looked = so.looked;
+    glanced = so.glanced;
     goes_on = so.goes_on;
     consumed = so.consumed;
     appended = Appends-kept w w1 w2 (replies so.answers) so.appended keeps;
@@ -155,7 +159,7 @@ module _ {D : Type 0} {state : D → DeviceState} {strict : Bool} (none : (old :
     (more : (old mid new : Mounted D) (script : List Line) (answers : List Answer) (clocks : List ℕ) (line : Line) (answer : Answer)
     → TellsLines state old mid script answers clocks → ServesLine state mid new line answer
     → TellsLines state old new (script ++ line ∷ []) (answers ++ answer ∷ []) (clocks ++ (state new.log.device).moment ∷ [])) where
-  pub so_far_none : (r w : Option (List ℕ)) {left : List ℕ} (old : Mounted D) (s : List Look) → left ≡ []
+  pub so_far_none : (r w : Option (List ℕ)) {left : List ℕ} (old : Mounted D) (s : List Glance) → left ≡ []
       → SoFar state strict 1 r (prepend_known left r) w w old old s s
   so_far_none r w {left} old s empty = record {
     texts = [];
@@ -165,14 +169,14 @@ module _ {D : Type 0} {state : D → DeviceState} {strict : Bool} (none : (old :
     spelled = tt;
     clocks = [];
     told = none old;
-    looked = looked_none s;
+    glanced = glanced_none s;
     goes_on = tt;
     consumed = none_read r empty;
     appended = Appends-nil w;
     count = refl;
   }
 
-  pub no_room : (r w : Option (List ℕ)) (old : Mounted D) (s : List Look) → EndsTold state strict (Script Memory) r r w w old old s s
+  pub no_room : (r w : Option (List ℕ)) (old : Mounted D) (s : List Glance) → EndsNoted state strict (Script Memory) r r w w old old s s
   no_room r w old s = record {
     ends = record {
       texts = [];
@@ -184,14 +188,14 @@ module _ {D : Type 0} {state : D → DeviceState} {strict : Bool} (none : (old :
     };
     clocks = [];
     told = none old;
-    looked = looked_none s;
+    glanced = glanced_none s;
   }
 
-  pub so_far_more : (n : ℕ) (r mid left w w1 w2 : Option (List ℕ)) (old now new : Mounted D) {text : List ℕ} (s s1 s2 : List Look)
+  pub so_far_more : (n : ℕ) (r mid left w w1 w2 : Option (List ℕ)) (old now new : Mounted D) {text : List ℕ} (s s1 s2 : List Glance)
       → SoFar state strict n r mid w w1 old now s s1 → IsText text → Consumes mid left (text ++ 10 ∷ [])
-      → Turns state strict None w1 w2 now new text n → LooksBeforeReply state new w1 text s1 s2
+      → Turns state strict None w1 w2 now new text n → GlancesBeforeReply state new w1 text s1 s2
       → SoFar state strict (n + 1) r left w w2 old new s s2
-  so_far_more n r mid left w w1 w2 old now new {text} s s1 s2 so plain consumes (call, goes_on) looks = record {
+  so_far_more n r mid left w w1 w2 old now new {text} s s1 s2 so plain consumes (call, goes_on) glances = record {
     texts = so.texts ++ text ∷ [];
     script = so.script ++ call.line ∷ [];
     answers = so.answers ++ call.answer ∷ [];
@@ -199,7 +203,7 @@ module _ {D : Type 0} {state : D → DeviceState} {strict : Bool} (none : (old :
     spelled = spelled_more so.texts so.script so.spelled call.spells;
     clocks = so.clocks ++ (state new.log.device).moment ∷ [];
     told = more old now new so.script so.answers so.clocks call.line call.answer so.told call.serves;
-    looked = looked_more w1 call.answer (state new.log.device).moment so.looked so.appended (looks.once call.line call.spells);
+    glanced = glanced_more w1 call.answer (state new.log.device).moment so.glanced so.appended (glances.once call.line call.spells);
     goes_on = each_more (GoesOnBehind strict) so.answers call.answer so.goes_on goes_on;
     consumed = line_more r mid left so.texts text so.consumed consumes;
     appended = replies_after w w1 w2 so.answers call.answer so.appended call.replied;
@@ -208,12 +212,12 @@ module _ {D : Type 0} {state : D → DeviceState} {strict : Bool} (none : (old :
 
   -- a reply that went out in part
   reply_stops : {n : ℕ} {r mid : Option (List ℕ)} (now w w1 w2 : Option (List ℕ)) {old : Mounted D} (at : Mounted D) {new : Mounted D}
-      {text : List ℕ} (input rest : List ℕ) (s s1 s2 : List Look)
-      (so : SoFar state strict n r mid w w1 old at s s1) → LooksAt (state new.log.device).moment w1 s1 s2
+      {text : List ℕ} (input rest : List ℕ) (s s1 s2 : List Glance)
+      (so : SoFar state strict n r mid w w1 old at s s1) → GlancesAt (state new.log.device).moment w1 s1 s2
       → Called state (AppendsSome w1 w2) at new text
       → lines input ≡ so.texts ++ text ∷ [] → EndsWithLine input rest now → Consumes r now (input ++ rest)
-      → EndsTold state strict (Script Write) r now w w2 old new s s2
-  reply_stops now w w1 w2 {old} at {new} {text} input rest s s1 s2 so looks call cut whole consumes = record {
+      → EndsNoted state strict (Script Write) r now w w2 old new s s2
+  reply_stops now w w1 w2 {old} at {new} {text} input rest s s1 s2 so glances call cut whole consumes = record {
     ends = record {
       texts = so.texts ++ text ∷ [];
       script = so.script ++ call.line ∷ [];
@@ -237,17 +241,17 @@ module _ {D : Type 0} {state : D → DeviceState} {strict : Bool} (none : (old :
     };
     clocks = so.clocks ++ (state new.log.device).moment ∷ [];
     told = more old at new so.script so.answers so.clocks call.line call.answer so.told call.serves;
-    looked = looked_more w1 call.answer (state new.log.device).moment so.looked so.appended looks;
+    glanced = glanced_more w1 call.answer (state new.log.device).moment so.glanced so.appended glances;
   }
 
   -- a reply behind which a strict run ends
   refusal_stops : {n : ℕ} {r mid : Option (List ℕ)} (now w w1 w2 : Option (List ℕ)) {old : Mounted D} (at : Mounted D) {new : Mounted D}
-      {text : List ℕ} (input rest : List ℕ) (s s1 s2 : List Look)
-      (so : SoFar state strict n r mid w w1 old at s s1) → LooksAt (state new.log.device).moment w1 s1 s2
+      {text : List ℕ} (input rest : List ℕ) (s s1 s2 : List Glance)
+      (so : SoFar state strict n r mid w w1 old at s s1) → GlancesAt (state new.log.device).moment w1 s1 s2
       → (call : Called state (Appends w1 w2) at new text)
       → EndsBehind strict call.answer → lines input ≡ so.texts ++ text ∷ [] → EndsWithLine input rest now → Consumes r now (input ++ rest)
-      → EndsTold state strict Refused r now w w2 old new s s2
-  refusal_stops now w w1 w2 {old} at {new} {text} input rest s s1 s2 so looks call refused cut whole consumes = record {
+      → EndsNoted state strict Refused r now w w2 old new s s2
+  refusal_stops now w w1 w2 {old} at {new} {text} input rest s s1 s2 so glances call refused cut whole consumes = record {
     ends = record {
       texts = so.texts ++ text ∷ [];
       script = so.script ++ call.line ∷ [];
@@ -270,14 +274,14 @@ module _ {D : Type 0} {state : D → DeviceState} {strict : Bool} (none : (old :
     };
     clocks = so.clocks ++ (state new.log.device).moment ∷ [];
     told = more old at new so.script so.answers so.clocks call.line call.answer so.told call.serves;
-    looked = looked_more w1 call.answer (state new.log.device).moment so.looked so.appended looks;
+    glanced = glanced_more w1 call.answer (state new.log.device).moment so.glanced so.appended glances;
   }
 
   -- an end at which no call is made
   stays : {end : StrictEnd} {n : ℕ} {r mid : Option (List ℕ)} (now : Option (List ℕ)) {w w1 : Option (List ℕ)} (w2 : Option (List ℕ))
-      {old at new : Mounted D} {s s1 s2 : List Look}
+      {old at new : Mounted D} {s s1 s2 : List Glance}
       (so : SoFar state strict n r mid w w1 old at s s1) → new ≡ at → s2 ≡ s1 → StrictEndOf strict end r now w w2 so.texts so.answers
-      → EndsTold state strict end r now w w2 old new s s2
+      → EndsNoted state strict end r now w w2 old new s s2
   stays now {w} w2 {old} {s} so same seen bytes = record {
     ends = record {
       texts = so.texts;
@@ -289,14 +293,14 @@ module _ {D : Type 0} {state : D → DeviceState} {strict : Bool} (none : (old :
     };
     clocks = so.clocks;
     told = subst (λ (v : Mounted D). TellsLines state old v so.script so.answers so.clocks) (sym same) so.told;
-    looked = subst (Looked w so.answers so.clocks s) (sym seen) so.looked;
+    glanced = subst (Glanced w so.answers so.clocks s) (sym seen) so.glanced;
   }
 
   -- a bad line
   bad_ends : (end : ScriptEnd) {n : ℕ} {r mid now w w1 w2 : Option (List ℕ)} {old at new : Mounted D} (text rest : List ℕ)
-      {s s1 s2 : List Look} (so : SoFar state strict n r mid w w1 old at s s1) → new ≡ at → s2 ≡ s1 → IsBadLine text rest now
+      {s s1 s2 : List Glance} (so : SoFar state strict n r mid w w1 old at s s1) → new ≡ at → s2 ≡ s1 → IsBadLine text rest now
       → Consumes r now (ended_texts so.texts ++ (text ++ rest)) → RepliesBadLine end w1 w2 n
-      → EndsTold state strict (Script end) r now w w2 old new s s2
+      → EndsNoted state strict (Script end) r now w w2 old new s s2
   bad_ends Done text rest so same seen line consumes refuses = absurd refuses
   bad_ends Read text rest so same seen line consumes refuses = absurd refuses
   bad_ends Memory text rest so same seen line consumes refuses = absurd refuses
@@ -327,30 +331,30 @@ module _ {D : Type 0} {state : D → DeviceState} {strict : Bool} (none : (old :
 
   -- a line with its newline, which is the last
   pub turned_end : (end : StrictEnd) (n : ℕ) (r mid now w w1 w2 : Option (List ℕ)) (old at new : Mounted D) {text : List ℕ} (left : List ℕ)
-      (s s1 s2 : List Look) → SoFar state strict n r mid w w1 old at s s1 → IsText text
+      (s s1 s2 : List Glance) → SoFar state strict n r mid w w1 old at s s1 → IsText text
       → Consumes mid (prepend_known left now) (text ++ 10 ∷ []) → Turns state strict (Some end) w1 w2 at new text n
-      → LooksBeforeReply state new w1 text s1 s2 → EndsTold state strict end r now w w2 old new s s2
-  turned_end Refused n r mid now w w1 w2 old at new {text} left s s1 s2 so plain consumes (call, refused) looks =
+      → GlancesBeforeReply state new w1 text s1 s2 → EndsNoted state strict end r now w w2 old new s s2
+  turned_end Refused n r mid now w w1 w2 old at new {text} left s s1 s2 so plain consumes (call, refused) glances =
       refusal_stops now w w1 w2 at (ended_texts (so.texts ++ text ∷ [])) left s s1 s2 so
-      (looks.once call.line call.spells) call refused (lines_whole (so.texts ++ text ∷ []) (all_more so.texts text so.plain plain))
+      (glances.once call.line call.spells) call refused (lines_whole (so.texts ++ text ∷ []) (all_more so.texts text so.plain plain))
       (inl (ended_texts so.texts ++ text, ended_more so.texts text)) (with_left r now left (ended_texts (so.texts ++ text ∷ []))
       (line_more r mid (prepend_known left now) so.texts text so.consumed consumes))
-  turned_end (Script end) n r mid now w w1 w2 old at new {text} left s s1 s2 so plain consumes (inl (is, call)) looks =
-      subst (λ (e : ScriptEnd). EndsTold state strict (Script e) r now w w2 old new s s2) (sym is)
+  turned_end (Script end) n r mid now w w1 w2 old at new {text} left s s1 s2 so plain consumes (inl (is, call)) glances =
+      subst (λ (e : ScriptEnd). EndsNoted state strict (Script e) r now w w2 old new s s2) (sym is)
       (reply_stops now w w1 w2 at (ended_texts (so.texts ++ text ∷ [])) left s s1 s2 so
-      (looks.once call.line call.spells) call (lines_whole (so.texts ++ text ∷ []) (all_more so.texts text so.plain plain))
+      (glances.once call.line call.spells) call (lines_whole (so.texts ++ text ∷ []) (all_more so.texts text so.plain plain))
       (inl (ended_texts so.texts ++ text, ended_more so.texts text)) (with_left r now left (ended_texts (so.texts ++ text ∷ []))
       (line_more r mid (prepend_known left now) so.texts text so.consumed consumes)))
-  turned_end (Script end) n r mid now w w1 w2 old at new {text} left s s1 s2 so plain consumes (inr (unspelled, refuses, same)) looks =
-      bad_ends end text (10 ∷ left) so same (looks.never unspelled) (record { plain = plain; is_bad = inr (unspelled, inl (left, refl)) })
+  turned_end (Script end) n r mid now w w1 w2 old at new {text} left s s1 s2 so plain consumes (inr (unspelled, refuses, same)) glances =
+      bad_ends end text (10 ∷ left) so same (glances.never unspelled) (record { plain = plain; is_bad = inr (unspelled, inl (left, refl)) })
       (line_read r mid now (ended_texts so.texts) text (10 ∷ []) left so.consumed consumes) refuses
 
   -- a line that is too long
   pub too_long : (end : ScriptEnd) {n : ℕ} (r mid : Option (List ℕ)) {now : Option (List ℕ)} (w w1 w2 : Option (List ℕ))
       (old at : Mounted D) (text left : List ℕ) (b : ℕ)
-      (s s1 : List Look) → SoFar state strict n r mid w w1 old at s s1 → IsText text → b ≢ 10 → length text ≡ 140000
+      (s s1 : List Glance) → SoFar state strict n r mid w w1 old at s s1 → IsText text → b ≢ 10 → length text ≡ 140000
       → Consumes mid (prepend_known left now) (text ++ b ∷ []) → RepliesBadLine end w1 w2 n
-      → EndsTold state strict (Script end) r now w w2 old at s s1
+      → EndsNoted state strict (Script end) r now w w2 old at s s1
   too_long end {n} r mid {now} w w1 w2 old at text left b s s1 so plain apart long consumes refuses =
       bad_ends end (text ++ b ∷ []) left so refl refl
       (record { plain = plain_more text b plain apart; is_bad = inl (let l = length-append text (b ∷ []) in omega (arith, l, long)) })
@@ -360,9 +364,9 @@ module _ {D : Type 0} {state : D → DeviceState} {strict : Bool} (none : (old :
       refuses
 
   -- a read that failed
-  pub read_fails : (n : ℕ) (r mid now w w1 : Option (List ℕ)) (old at : Mounted D) (text : List ℕ) {left : List ℕ} (s s1 : List Look)
+  pub read_fails : (n : ℕ) (r mid now w w1 : Option (List ℕ)) (old at : Mounted D) (text : List ℕ) {left : List ℕ} (s s1 : List Glance)
       → SoFar state strict n r mid w w1 old at s s1 → IsText text
-      → Consumes mid (prepend_known left now) (text ++ []) → left ≡ [] → EndsTold state strict (Script Read) r now w w1 old at s s1
+      → Consumes mid (prepend_known left now) (text ++ []) → left ≡ [] → EndsNoted state strict (Script Read) r now w w1 old at s s1
   read_fails n r mid now w w1 old at text s s1 so plain consumes empty =
       let read : Consumes mid now text = subst (Consumes mid now) (append-nil text)
       (subst (λ o. Consumes mid o (text ++ [])) (ap (λ l. prepend_known l now) empty ∙ prepend_known-nil now) consumes) in
@@ -371,8 +375,8 @@ module _ {D : Type 0} {state : D → DeviceState} {strict : Bool} (none : (old :
 
   -- as many lines as have a number
   pub numbers_end : {n : ℕ} (r : Option (List ℕ)) {now : Option (List ℕ)} (w w1 : Option (List ℕ)) (old at : Mounted D) (left : List ℕ)
-      (s s1 : List Look) → SoFar state strict n r
-      (prepend_known left now) w w1 old at s s1 → 2 ^ 64 - 1 ≤ n → EndsTold state strict (Script Read) r now w w1 old at s s1
+      (s s1 : List Glance) → SoFar state strict n r
+      (prepend_known left now) w w1 old at s s1 → 2 ^ 64 - 1 ≤ n → EndsNoted state strict (Script Read) r now w w1 old at s s1
   numbers_end {n} r {now} w w1 old at left s s1 so last =
       stays now w1 so refl refl (
         (left, inr (let c = so.count in omega (arith, c, last)), with_left r now left (ended_texts so.texts) so.consumed, so.appended),
@@ -382,12 +386,12 @@ module _ {D : Type 0} {state : D → DeviceState} {strict : Bool} (none : (old :
   -- the end of the input
   pub finished : (end : StrictEnd) {n : ℕ} (r mid : Option (List ℕ)) {now : Option (List ℕ)} (w w1 w2 : Option (List ℕ))
       (old at new : Mounted D) (text left : List ℕ)
-      (s s1 s2 : List Look) → SoFar state strict n r mid w w1 old at s s1 → IsText text
+      (s s1 s2 : List Glance) → SoFar state strict n r mid w w1 old at s s1 → IsText text
       → Consumes mid (prepend_known left now) (text ++ []) → IsAtEnd (prepend_known left now)
-      → Finishes state strict end w1 w2 at new text n s1 s2 → EndsTold state strict end r now w w2 old new s s2
+      → Finishes state strict end w1 w2 at new text n s1 s2 → EndsNoted state strict end r now w w2 old new s s2
   finished end {n} r mid {now} w w1 w2 old at new text left s s1 s2 so plain consumes ended (inl (empty, is, still, same, seen)) =
       let read = last_read r mid now (ended_texts so.texts) text left so.consumed consumes ended in
-      subst (λ (e : StrictEnd). EndsTold state strict e r now w w2 old new s s2) (sym is) (stays {end = Script Done} now w2 so same seen (
+      subst (λ (e : StrictEnd). EndsNoted state strict e r now w w2 old new s s2) (sym is) (stays {end = Script Done} now w2 so same seen (
         (
           ended_texts so.texts,
           subst (Consumes r now) (ap (λ t. ended_texts so.texts ++ t) empty ∙ append-nil (ended_texts so.texts)) read.0,
@@ -397,9 +401,9 @@ module _ {D : Type 0} {state : D → DeviceState} {strict : Bool} (none : (old :
         ),
         so.goes_on,
       ))
-  finished end r mid {now} w w1 w2 old at new text left s s1 s2 so plain consumes ended (inr (some, looks, inl (is, (call, goes_on)))) =
+  finished end r mid {now} w w1 w2 old at new text left s s1 s2 so plain consumes ended (inr (some, glances, inl (is, (call, goes_on)))) =
       let read = last_read r mid now (ended_texts so.texts) text left so.consumed consumes ended in
-      subst (λ (e : StrictEnd). EndsTold state strict e r now w w2 old new s s2) (sym is)
+      subst (λ (e : StrictEnd). EndsNoted state strict e r now w w2 old new s s2) (sym is)
       (record {
         ends = record {
           texts = so.texts ++ text ∷ [];
@@ -420,24 +424,24 @@ module _ {D : Type 0} {state : D → DeviceState} {strict : Bool} (none : (old :
         };
         clocks = so.clocks ++ (state new.log.device).moment ∷ [];
         told = more old at new so.script so.answers so.clocks call.line call.answer so.told call.serves;
-        looked = looked_more w1 call.answer (state new.log.device).moment so.looked so.appended (looks.once call.line call.spells);
+        glanced = glanced_more w1 call.answer (state new.log.device).moment so.glanced so.appended (glances.once call.line call.spells);
       })
-  finished Refused {n} r mid {now} w w1 w2 old at new text left s s1 s2 so plain consumes ended (inr (some, looks, inr (call, refused))) =
+  finished Refused {n} r mid {now} w w1 w2 old at new text left s s1 s2 so plain consumes ended (inr (some, glances, inr (call, refused))) =
       let read = last_read r mid now (ended_texts so.texts) text left so.consumed consumes ended in
       refusal_stops now w w1 w2 at (ended_texts so.texts ++ text) [] s s1 s2 so
-      (looks.once call.line call.spells) call refused (lines_last so.texts text so.plain plain some) (inr (refl, read.1))
+      (glances.once call.line call.spells) call refused (lines_last so.texts text so.plain plain some) (inr (refl, read.1))
       (subst (Consumes r now) (sym (append-nil (ended_texts so.texts ++ text))) read.0)
   finished (Script end) {n} r mid {now} w w1 w2 old at new text left s s1 s2 so plain consumes ended
-      (inr (some, looks, inr (inl (is, call)))) =
+      (inr (some, glances, inr (inl (is, call)))) =
       let read = last_read r mid now (ended_texts so.texts) text left so.consumed consumes ended in
-      subst (λ (e : ScriptEnd). EndsTold state strict (Script e) r now w w2 old new s s2) (sym is)
-      (reply_stops now w w1 w2 at (ended_texts so.texts ++ text) [] s s1 s2 so (looks.once call.line call.spells) call
+      subst (λ (e : ScriptEnd). EndsNoted state strict (Script e) r now w w2 old new s s2) (sym is)
+      (reply_stops now w w1 w2 at (ended_texts so.texts ++ text) [] s s1 s2 so (glances.once call.line call.spells) call
       (lines_last so.texts text so.plain plain some) (inr (refl, read.1))
       (subst (Consumes r now) (sym (append-nil (ended_texts so.texts ++ text))) read.0))
   finished (Script end) {n} r mid {now} w w1 w2 old at new text left s s1 s2 so plain consumes ended
-      (inr (some, looks, inr (inr (unspelled, refuses, same)))) =
+      (inr (some, glances, inr (inr (unspelled, refuses, same)))) =
       let read = last_read r mid now (ended_texts so.texts) text left so.consumed consumes ended in
-      bad_ends end text [] so same (looks.never unspelled) (record { plain = plain; is_bad = inr (unspelled, inr (refl, some, read.1)) })
+      bad_ends end text [] so same (glances.never unspelled) (record { plain = plain; is_bad = inr (unspelled, inr (refl, some, read.1)) })
       (subst (λ t. Consumes r now (ended_texts so.texts ++ t)) (sym (append-nil text)) read.0) refuses
 
 -- ---- a run that isn't strict

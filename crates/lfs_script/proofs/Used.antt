@@ -16,11 +16,11 @@ use Rattle.lfs_fs.specs.Volume.{LeavesAll, Mounted}
 use Rattle.lfs_fs.specs.log.verify.declared.fault.MountFault.{MountFault}
 use Rattle.lfs_fs.specs.log.verify.declared.fault.MountFault.TheVariants.{NoMemory, Device, TooSmall, NoCheckpoint, Damaged}
 use Rattle.lfs_fs.proofs.Sessions.{told_saved, uses_told, uses_volume}
-use Rattle.lfs_script.specs.Running.{Ends, EndsBy, EndsTold}
+use Rattle.lfs_script.specs.Running.{Ends, EndsBy, EndsNoted}
 use Rattle.lfs_script.specs.Saved.{SessionSaved}
-use Rattle.lfs_script.specs.Session.{Session, SessionTold}
+use Rattle.lfs_script.specs.Session.{Session, SessionNoted}
 use Rattle.lfs_script.specs.Strict.{StrictSession}
-use Rattle.lfs_script.specs.Told.{Look}
+use Rattle.lfs_script.specs.Noted.{Glance}
 use Rattle.lfs_script.specs.Unused.{IsUnused}
 use Rattle.lfs_script.specs.declared.script.ScriptEnd.{ScriptEnd}
 use Rattle.lfs_script.specs.declared.script.StrictEnd.{StrictEnd}
@@ -65,11 +65,11 @@ used_strictly {state} d r w v new lawful finds durable untouched carries moment 
 -- and one before a witness
 pub used_told : {D : Type 0} {state : D → DeviceState} (d : D) {strict : Bool} {end : StrictEnd} (r : Option (List ℕ))
     {r' : Option (List ℕ)} (w : Option (List ℕ)) {w' : Option (List ℕ)} (v : Fs D)
-    (new : Mounted D) (s : List Look) {s' : List Look} → IsLawful (state d) → FindsState state d v
+    (new : Mounted D) (s : List Glance) {s' : List Glance} → IsLawful (state d) → FindsState state d v
     → ((state (seen v).log.device).keeps_model → Only (state d).content (state (seen v).log.device))
     → IsUntouched (state d) (state (seen v).log.device) → Carries (state d) (state (seen v).log.device)
     → LeavesOnly (state d) (state (seen v).log.device) (state d).may_leave → (state (seen v).log.device).failures ≡ (state d).failures
-    → EndsTold state strict end r r' w w' (seen v) new s s' → SessionTold strict end r r' w w' (state d) (state new.log.device) s s'
+    → EndsNoted state strict end r r' w w' (seen v) new s s' → SessionNoted strict end r r' w w' (state d) (state new.log.device) s s'
 used_told {state} d r w v new s lawful finds durable untouched carries moment no_failure ends = record {
   texts = ends.ends.texts;
   script = ends.ends.script;
@@ -77,18 +77,18 @@ used_told {state} d r w v new s lawful finds durable untouched carries moment no
   clocks = ends.clocks;
   spelled = ends.ends.spelled;
   bytes = ends.ends.bytes;
-  looked = ends.looked;
+  glanced = ends.glanced;
   uses = λ keeps. uses_told d lawful v finds durable untouched carries moment no_failure ends.told keeps;
 }
 
 -- and where all may be saved then
 pub used_saved : {D : Type 0} {state : D → DeviceState} (d : D) {is_saved strict : Bool} {end : StrictEnd} (r : Option (List ℕ))
     {r' : Option (List ℕ)} (w : Option (List ℕ)) {w' : Option (List ℕ)} (v : Fs D)
-    (new : Mounted D) (s : List Look) {s' : List Look} → IsLawful (state d) → FindsState state d v
+    (new : Mounted D) (s : List Glance) {s' : List Glance} → IsLawful (state d) → FindsState state d v
     → ((state (seen v).log.device).keeps_model → Only (state d).content (state (seen v).log.device))
     → IsUntouched (state d) (state (seen v).log.device) → Carries (state d) (state (seen v).log.device)
     → LeavesOnly (state d) (state (seen v).log.device) (state d).may_leave → (state (seen v).log.device).failures ≡ (state d).failures
-    → EndsTold state strict end r r' w w' (seen v) new s s' → (IsTrue is_saved → LeavesAll state new)
+    → EndsNoted state strict end r r' w w' (seen v) new s s' → (IsTrue is_saved → LeavesAll state new)
     → SessionSaved is_saved strict end r r' w w' (state d) (state new.log.device) s s'
 unfolding used_told
 used_saved {state} d r w v new s lawful finds durable untouched carries moment no_failure ends all = record {
@@ -97,16 +97,16 @@ used_saved {state} d r w v new s lawful finds durable untouched carries moment n
 }
 
 -- where it isn't strict, no refusal ends it
-pub told_goes_on : (end : StrictEnd) (r r' w w' : Option (List ℕ)) (d d' : DeviceState) (s s' : List Look) → end ≡ Refused
-    → SessionTold false end r r' w w' d d' s s' → ⊥
+pub told_goes_on : (end : StrictEnd) (r r' w w' : Option (List ℕ)) (d d' : DeviceState) (s s' : List Glance) → end ≡ Refused
+    → SessionNoted false end r r' w w' d d' s s' → ⊥
 told_goes_on end r r' w w' d d' s s' is session =
-    let ended = subst (λ (e : StrictEnd). SessionTold false e r r' w w' d d' s s') is session in
+    let ended = subst (λ (e : StrictEnd). SessionNoted false e r r' w w' d d' s s') is session in
     let bad : false ≡ true = ended.bytes.refused.0 in cc
 
 -- a session whose end is known
-pub told_of : (strict : Bool) (end is : StrictEnd) (r r' w w' : Option (List ℕ)) (d d' : DeviceState) (s s' : List Look) → end ≡ is
-    → SessionTold strict end r r' w w' d d' s s' → SessionTold strict is r r' w w' d d' s s'
-told_of strict end is r r' w w' d d' s s' same session = subst (λ (e : StrictEnd). SessionTold strict e r r' w w' d d' s s') same session
+pub told_of : (strict : Bool) (end is : StrictEnd) (r r' w w' : Option (List ℕ)) (d d' : DeviceState) (s s' : List Glance) → end ≡ is
+    → SessionNoted strict end r r' w w' d d' s s' → SessionNoted strict is r r' w w' d d' s s'
+told_of strict end is r r' w w' d d' s s' same session = subst (λ (e : StrictEnd). SessionNoted strict e r r' w w' d d' s s') same session
 
 -- what is said of what a result holds
 pub ok_of : {A E : Type 0} (P : A → Type 0) {r : Result A E} {x : A} → r ≡ Ok x → IfOk r P → P x
@@ -179,8 +179,8 @@ module _ {mid new : DeviceState} (counts : (t : ℕ) (c : Content) → t ≤ mid
   }
 
   pub stopped_told : {d : DeviceState} {strict : Bool} {end : StrictEnd} (r : Option (List ℕ)) {r' : Option (List ℕ)} (w : Option (List ℕ))
-      {w' : Option (List ℕ)} (s : List Look) {s' : List Look}
-      → SessionTold strict end r r' w w' d mid s s' → SessionTold strict end r r' w w' d new s s'
+      {w' : Option (List ℕ)} (s : List Glance) {s' : List Glance}
+      → SessionNoted strict end r r' w w' d mid s s' → SessionNoted strict end r r' w w' d new s s'
   unfolding stopped_use
   stopped_told {d} r w s session = record {
     texts = session.texts;
@@ -189,7 +189,7 @@ module _ {mid new : DeviceState} (counts : (t : ℕ) (c : Content) → t ≤ mid
     clocks = session.clocks;
     spelled = session.spelled;
     bytes = session.bytes;
-    looked = session.looked;
+    glanced = session.glanced;
     uses = λ keeps. (
         let was = session.uses (carries.kept_before keeps) in record {
           uses = stopped_use d was.uses;

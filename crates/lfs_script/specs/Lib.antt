@@ -1,20 +1,13 @@
 pub mod Bytes
 pub mod LineEnd
-pub mod Words
-pub mod Reading
-pub mod Lines
-pub mod Calls
-pub mod Command
-pub mod Pieces
-pub mod Answers
 pub mod Ending
 pub mod Strict
 pub mod Running
 pub mod Session
 pub mod Unused
 pub mod Seen
-pub mod Told
+pub mod Noted
 pub mod Saved
 pub mod Series
-pub mod SeriesTold
+pub mod SeriesNoted
 pub use Rattle.lfs_fs.specs as fs

@@ -7,9 +7,9 @@ use Rattle.lfs_model.specs.Device.{DeviceState}
 use Rattle.lfs_model.specs.Script.{Line, Spells, bad, reply}
 use Rattle.lfs_fs.specs.Scripts.{RunsLines, ServesLine, TellsLines}
 use Rattle.lfs_fs.specs.Volume.{Mounted}
-use Rattle.lfs_script.specs.Bytes.{AppendsSome}
+use Rattle.lfs_words.specs.Bytes.{AppendsSome}
 use Rattle.lfs_script.specs.Ending.{AreSpelled, EndOf, IsBadText, IsText, ended_texts, replies}
-use Rattle.lfs_script.specs.Told.{Look, Looked, LooksAt}
+use Rattle.lfs_script.specs.Noted.{Glance, Glanced, GlancesAt}
 use Rattle.lfs_script.specs.Strict.{EndsBehind, GoesOn, GoesOnBehind, StrictEndOf}
 use Rattle.lfs_script.specs.declared.script.ScriptEnd.{ScriptEnd}
 use Rattle.lfs_script.specs.declared.script.ScriptEnd.TheVariants.{Done, BadLine, Read, Write, Memory}
@@ -45,12 +45,12 @@ module _ {D : Type 0} (state : D → DeviceState) where
     pub bytes : StrictEndOf strict end r r' w w' texts answers
 
   -- As `EndsBy`, with the clocks at which the replies went out.
-  pub record EndsTold (strict : Bool) (end : StrictEnd) (r r' w w' : Option (List ℕ)) (old new : Mounted D)
-      (s s' : List Look) : Type 0 where
+  pub record EndsNoted (strict : Bool) (end : StrictEnd) (r r' w w' : Option (List ℕ)) (old new : Mounted D)
+      (s s' : List Glance) : Type 0 where
     pub ends : EndsBy strict end r r' w w' old new
     pub clocks : List ℕ
     pub told : TellsLines state old new ends.script ends.answers clocks
-    pub looked : Looked w ends.answers clocks s s'
+    pub glanced : Glanced w ends.answers clocks s s'
 
   -- The n-th line is called, and its reply goes out as far as R says.
   pub record Called (R : List ℕ → Type 0) (old new : Mounted D) (text : List ℕ) : Type 0 where
@@ -72,20 +72,20 @@ module _ {D : Type 0} (state : D → DeviceState) where
   Turns strict (Some (Script end)) w w' old new text n = ((end ≡ Write) × Called (AppendsSome w w') old new text)
       ⊎ (IsBadText text × RepliesBadLine end w w' n × (new ≡ old))
 
-  -- Where the text is a call's, device and writer are looked at once: behind the call, before its reply. A bad text isn't looked at.
-  pub record LooksBeforeReply (new : Mounted D) (w : Option (List ℕ)) (text : List ℕ) (s s' : List Look) : Type 0 where
-    pub once : (line : Line) → Spells text line → LooksAt (state new.log.device).moment w s s'
+  -- Where the text is a call's, device and writer are glanced at once: behind the call, before its reply. A bad text isn't glanced at.
+  pub record GlancesBeforeReply (new : Mounted D) (w : Option (List ℕ)) (text : List ℕ) (s s' : List Glance) : Type 0 where
+    pub once : (line : Line) → Spells text line → GlancesAt (state new.log.device).moment w s s'
     pub never : IsBadText text → s' ≡ s
 
   -- Both of the last line, which may be none.
-  abbrev pub Finishes : Bool → StrictEnd → Option (List ℕ) → Option (List ℕ) → Mounted D → Mounted D → List ℕ → ℕ → List Look → List Look
-      → Type 0
+  abbrev pub Finishes : Bool → StrictEnd → Option (List ℕ) → Option (List ℕ) → Mounted D → Mounted D → List ℕ → ℕ → List Glance
+      → List Glance → Type 0
   Finishes strict end w w' old new text n s s' = ((text ≡ []) × (end ≡ Script Done) × (w' ≡ w) × (new ≡ old) × (s' ≡ s))
-      ⊎ ((0 < length text) × LooksBeforeReply new w text s s'
+      ⊎ ((0 < length text) × GlancesBeforeReply new w text s s'
       × (((end ≡ Script Done) × Turns strict None w w' old new text n) ⊎ Turns strict (Some end) w w' old new text n))
 
   -- How far a script has come before the n-th line, where the reader has this left.
-  pub record SoFar (strict : Bool) (n : ℕ) (r left w w' : Option (List ℕ)) (old now : Mounted D) (s s' : List Look) : Type 0 where
+  pub record SoFar (strict : Bool) (n : ℕ) (r left w w' : Option (List ℕ)) (old now : Mounted D) (s s' : List Glance) : Type 0 where
     pub texts : List (List ℕ)
     pub script : List Line
     pub answers : List Answer
@@ -93,7 +93,7 @@ module _ {D : Type 0} (state : D → DeviceState) where
     pub spelled : AreSpelled texts script
     pub clocks : List ℕ
     pub told : TellsLines state old now script answers clocks
-    pub looked : Looked w answers clocks s s'
+    pub glanced : Glanced w answers clocks s s'
     pub goes_on : GoesOn strict answers
     pub consumed : Consumes r left (ended_texts texts)
     pub appended : Appends w w' (replies answers)

@@ -3,11 +3,11 @@ use Rattle.std.specs.Prelude.{ℕ, Bool, Option, List}
 use Rattle.lfs_model.specs.Call.{Answer}
 use Rattle.lfs_model.specs.Device.{DeviceState}
 use Rattle.lfs_model.specs.Script.{Line}
-use Rattle.lfs_model.specs.Since.{UsesTold}
+use Rattle.lfs_model.specs.Since.{UsesNoted}
 use Rattle.lfs_model.specs.Use.{UsesVolume}
 use Rattle.lfs_script.specs.Ending.{AreSpelled, EndOf}
 use Rattle.lfs_script.specs.Strict.{StrictEndOf}
-use Rattle.lfs_script.specs.Told.{Look, Looked}
+use Rattle.lfs_script.specs.Noted.{Glance, Glanced}
 use Rattle.lfs_script.specs.declared.script.StrictEnd.{StrictEnd}
 use Rattle.lfs_script.specs.declared.script.ScriptEnd.{ScriptEnd}
 
@@ -22,14 +22,14 @@ pub record Session (end : ScriptEnd) (r r' w w' : Option (List ℕ)) (d d' : Dev
   pub bytes : EndOf end r r' w w' texts answers
   pub uses : d'.keeps_model → UsesVolume d d' script answers
 
--- The same, before a witness, which looked at device and writer before each reply went out.
-pub record SessionTold (strict : Bool) (end : StrictEnd) (r r' w w' : Option (List ℕ)) (d d' : DeviceState)
-    (s s' : List Look) : Type 0 where
+-- The same, before a witness, which glanced at device and writer before each reply went out.
+pub record SessionNoted (strict : Bool) (end : StrictEnd) (r r' w w' : Option (List ℕ)) (d d' : DeviceState)
+    (s s' : List Glance) : Type 0 where
   pub texts : List (List ℕ)
   pub script : List Line
   pub answers : List Answer
   pub clocks : List ℕ
   pub spelled : AreSpelled texts script
   pub bytes : StrictEndOf strict end r r' w w' texts answers
-  pub looked : Looked w answers clocks s s'
-  pub uses : d'.keeps_model → UsesTold d d' script answers clocks
+  pub glanced : Glanced w answers clocks s s'
+  pub uses : d'.keeps_model → UsesNoted d d' script answers clocks

@@ -4,31 +4,15 @@ ghost use Rattle.lfs_model.specs.Call.{Count, Pwrite};
 ghost use Rattle.lfs_model.specs.Script.{call_of};
 ghost use Rattle.lfs_fs.specs.Seen.{answer_by, seen};
 ghost use Rattle.lfs_fs.specs.Volume.{Serves};
-ghost use Rattle.lfs_script.specs.Answers.{result_of};
-ghost use Rattle.lfs_script.specs.Calls.{line_for};
+ghost use Rattle.lfs_replies.specs.Answers.{result_of};
+ghost use Rattle.lfs_lines.specs.Calls.{line_for};
 
-use crate::call::Call;
 use lfs_device::SectorDevice;
-use lfs_fs::{Entry, Fs, FsError, Space, Stat, TreeRow};
+use lfs_fs::{Fs, FsError};
+use lfs_lines::Call;
 use lfs_model::limits::LONGEST_TRANSFER;
+use lfs_replies::Answer;
 use std::alloc::{AllocError, Global};
-
-/// What a call gives where it isn't refused.
-#[derive(Drop)]
-pub enum Answer {
-    Done,
-    Handle(u32),
-    Count(u32),
-    Bytes(Vec<u8>),
-    /// A link's text.
-    Text(Vec<u8>),
-    Stat(Stat),
-    Entries(Vec<Entry>),
-    Space(Space),
-    /// The version of the volume's layout.
-    Version(u32),
-    Tree(Vec<TreeRow>),
-}
 
 // One more than the bytes that a write takes.
 const TOO_MANY: u32 = LONGEST_TRANSFER + 1;

@@ -1,20 +1,20 @@
 // A script from its first line to its end.
 ghost use Rattle.std.specs.Prelude.{◌≤◌, length, option_map, true};
 ghost use Rattle.lfs_fs.specs.Seen.{seen};
-ghost use Rattle.lfs_script.specs.Answers.{result_of};
-ghost use Rattle.lfs_script.specs.Running.{AnswersText, Ends, EndsBy, EndsTold, Finishes, LooksBeforeReply, RepliesBadLine, Turns};
+ghost use Rattle.lfs_replies.specs.Answers.{result_of};
+ghost use Rattle.lfs_script.specs.Running.{AnswersText, Ends, EndsBy, EndsNoted, Finishes, GlancesBeforeReply, RepliesBadLine, Turns};
 ghost use Rattle.lfs_script.specs.Strict.{Follows};
 
-use crate::answer::{Answer, make};
-use crate::call::parse;
+use crate::answer::make;
 use crate::line::{LineEnd, next_line};
-use crate::reply::{put_bad, put_reply};
 use crate::source::Source;
-use crate::witness::{Looks, Witness};
-use crate::word::WordFault;
+use crate::witness::{Glances, Witness};
 use lfs_device::SectorDevice;
 use lfs_fs::{Fs, FsError};
+use lfs_lines::parse;
 use lfs_model::limits::LONGEST_LINE;
+use lfs_replies::{Answer, put_bad, put_reply};
+use lfs_words::WordFault;
 use std::alloc::Global;
 use std::io::{Read, Write};
 
@@ -92,13 +92,13 @@ fn turn<W: Write, D: SectorDevice, S: Witness<D, W>>(
     requires short { length line.now ≤ LONGEST_LINE }
     ensures turns { Turns D.SectorDevice.state strict result (W.contents writer.old)
         (W.contents writer.new) (seen fs.old) (seen fs.new) line.now count }
-    ensures looks { LooksBeforeReply D.SectorDevice.state (seen fs.new) (W.contents writer.old)
-        line.now (S.looks witness.old) (S.looks witness.new) }
+    ensures glances { GlancesBeforeReply D.SectorDevice.state (seen fs.new) (W.contents writer.old)
+        line.now (S.glances witness.old) (S.glances witness.new) }
 {
     let Some(answer) = answer_line(alloc, fs, line) else {
         return Some(StrictEnd::Script(refuse(writer, count)));
     };
-    witness.look(fs.device(), writer);
+    witness.glance(fs.device(), writer);
     match put_reply(writer, &answer) {
         Ok(()) => decide(strict, &answer),
         Err(_) => Some(StrictEnd::Script(ScriptEnd::Write)),
@@ -117,8 +117,8 @@ fn finish<W: Write, D: SectorDevice, S: Witness<D, W>>(
 ) -> StrictEnd
     requires short { length line.now ≤ LONGEST_LINE }
     ensures { Finishes D.SectorDevice.state strict result (W.contents writer.old)
-        (W.contents writer.new) (seen fs.old) (seen fs.new) line.now count (S.looks witness.old)
-        (S.looks witness.new) }
+        (W.contents writer.new) (seen fs.old) (seen fs.new) line.now count (S.glances witness.old)
+        (S.glances witness.new) }
 {
     if line.is_empty() {
         return StrictEnd::Script(ScriptEnd::Done);
@@ -141,8 +141,8 @@ pub fn run<R: Read, W: Write, D: SectorDevice>(
     ensures { Ends D.SectorDevice.state result (R.remaining reader.old) (R.remaining reader.new)
         (W.contents writer.old) (W.contents writer.new) (seen fs.old) (seen fs.new) }
 {
-    let mut looks = Looks::<D, W>::new();
-    match run_told(alloc, false, reader, writer, &mut looks, fs) {
+    let mut glances = Glances::<D, W>::new();
+    match run_noted(alloc, false, reader, writer, &mut glances, fs) {
         StrictEnd::Script(end) => end,
         StrictEnd::Refused => unreachable!(),
     }
@@ -159,13 +159,13 @@ pub fn run_strict<R: Read, W: Write, D: SectorDevice>(
         (R.remaining reader.new) (W.contents writer.old) (W.contents writer.new) (seen fs.old)
         (seen fs.new) }
 {
-    let mut looks = Looks::<D, W>::new();
-    run_told(alloc, true, reader, writer, &mut looks, fs)
+    let mut glances = Glances::<D, W>::new();
+    run_noted(alloc, true, reader, writer, &mut glances, fs)
 }
 
-/// As `run` or `run_strict`, before a witness, which looks at device and writer between each call
+/// As `run` or `run_strict`, before a witness, which glances at device and writer between each call
 /// and its reply.
-pub fn run_told<R: Read, W: Write, D: SectorDevice, S: Witness<D, W>>(
+pub fn run_noted<R: Read, W: Write, D: SectorDevice, S: Witness<D, W>>(
     alloc: Global,
     strict: bool,
     reader: &mut R,
@@ -173,9 +173,9 @@ pub fn run_told<R: Read, W: Write, D: SectorDevice, S: Witness<D, W>>(
     witness: &mut S,
     fs: &mut Fs<D>,
 ) -> StrictEnd
-    ensures { EndsTold D.SectorDevice.state strict result (R.remaining reader.old)
+    ensures { EndsNoted D.SectorDevice.state strict result (R.remaining reader.old)
         (R.remaining reader.new) (W.contents writer.old) (W.contents writer.new) (seen fs.old)
-        (seen fs.new) (S.looks witness.old) (S.looks witness.new) }
+        (seen fs.new) (S.glances witness.old) (S.glances witness.new) }
 {
     let Ok(mut line) = Vec::with_capacity(alloc, LONGEST_LINE) else {
         return StrictEnd::Script(ScriptEnd::Memory);

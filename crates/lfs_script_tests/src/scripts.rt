@@ -1,11 +1,9 @@
 //! Scripts whose lines are long, and volumes that are used by several scripts. Most scripts stand
-//! as cases beside the program
-//! `lfs_cases`.
-use crate::volume::{SECTORS, answered, new_device};
-use lfs_device::{Left, MemDevice};
-use lfs_script::fs::MountFault;
-use lfs_script::{ScriptEnd, StoppedScript, use_and_stop, use_each};
-use std::alloc::{AllocError, Global};
+//! as cases beside the program `lfs_trials`.
+use crate::volume::{answered, new_device};
+use lfs_device::Left;
+use lfs_script::{StoppedScript, use_each};
+use std::alloc::Global;
 use std::test::Fail;
 
 // Whether a write of so many hexadecimal zeros, with this behind them, has these replies.
@@ -73,49 +71,5 @@ fn uses_in_turn(rt: HostRuntime) -> Result<(), Fail> {
             assert!(rt; output.as_slice() == replies);
         }
     }
-    Ok(())
-}
-
-// A script that writes a file of 2,154 blocks and doesn't save it, and its replies.
-fn large_file(alloc: Global) -> Result<(String, String), AllocError> {
-    let mut script = "create /f\n".to_string(alloc)?;
-    let mut replies = "ok 0\n".to_string(alloc)?;
-    for piece in 0..16u32 {
-        let line = format!(in alloc; "fill 0 {} 65536 255\n", 65_536 * piece)?;
-        script.push_str(line.as_str())?;
-        replies.push_str("ok 65536\n")?;
-    }
-    script.push_str("fill 0 1048576 54272 255\n")?;
-    replies.push_str("ok 54272\n")?;
-    Ok((script, replies))
-}
-
-// No commit is made as the file is written: a stop leaves an empty tree.
-#[test]
-fn a_large_file_that_is_not_saved(rt: HostRuntime) -> Result<(), Fail> {
-    let alloc = rt.alloc();
-    let (script, mut replies) = large_file(alloc)?;
-    replies.push_str("ok 0\n")?;
-    for left in [Left::Old, Left::New, Left::Bad] {
-        let output = used_in_turn(alloc, script.as_bytes(), b"tree\n", left)?.ok_or("not mounted")?;
-        assert!(rt; output.as_slice() == replies.as_bytes());
-    }
-    Ok(())
-}
-
-// How the use of a device with no volume ends, and what it writes.
-fn used_with_no_volume(alloc: Global) -> Result<(Result<ScriptEnd, MountFault>, Vec<u8>), Fail> {
-    let device = MemDevice::new(alloc, SECTORS)?;
-    let mut output = Vec::new(alloc);
-    let mut input = b"tree\n".as_slice();
-    let (end, _) = use_and_stop(alloc, &mut input, &mut output, device, Left::Old);
-    Ok((end, output))
-}
-
-#[test]
-fn a_use_of_no_volume(rt: HostRuntime) -> Result<(), Fail> {
-    let (end, output) = used_with_no_volume(rt.alloc())?;
-    assert!(rt; end == Err(MountFault::NoCheckpoint));
-    assert!(rt; output.is_empty());
     Ok(())
 }

@@ -1,24 +1,18 @@
 //! Volumes of 64 segments in memory.
-use lfs_device::{Left, MemDevice};
-use lfs_script::fs::{Fs, format_version};
+use lfs_device::MemDevice;
+use lfs_script::fs::{Fs, format};
 use lfs_script::{ScriptEnd, run};
 use std::alloc::Global;
 use std::io::Read;
 use std::test::Fail;
 
-/// The sectors of a volume of 64 segments.
-pub const SECTORS: u32 = 2 + 64 * 64;
-
-/// A device with an empty volume of this version.
-pub fn device_of_version(alloc: Global, version: u8) -> Result<MemDevice, Fail> {
-    let mut device = MemDevice::new(alloc, SECTORS)?;
-    format_version(&mut device, 64, u32::from(version))?;
-    Ok(device)
-}
+const SEGMENTS: u32 = 64;
 
 /// A device with an empty volume.
 pub fn new_device(alloc: Global) -> Result<MemDevice, Fail> {
-    device_of_version(alloc, 1)
+    let mut device = MemDevice::new(alloc, 2 + 64 * SEGMENTS)?;
+    format(&mut device, SEGMENTS)?;
+    Ok(device)
 }
 
 /// An empty volume, on the heap, where each end of a function drops it by one call.
@@ -35,29 +29,4 @@ pub fn answered<R: Read>(alloc: Global, reader: &mut R) -> Result<(ScriptEnd, Ve
     let mut output = Vec::new(alloc);
     let end = run(alloc, reader, &mut output, &mut fs);
     Ok((end, output))
-}
-
-// Two kinds of what a stop leaves, each pair in one order and the other.
-const PAIRS: [(Left, Left); 6] = [
-    (Left::Old, Left::New),
-    (Left::New, Left::Bad),
-    (Left::Bad, Left::Old),
-    (Left::Old, Left::Bad),
-    (Left::New, Left::Old),
-    (Left::Bad, Left::New),
-];
-
-/// Leaves each sector that isn't synced so, or else two kinds in turn, which are others from write
-/// to write.
-pub fn leave(device: &mut MemDevice, write: u64, left: Option<Left>) {
-    if let Some(left) = left {
-        device.crash(left);
-        return;
-    }
-    let (first, second) = PAIRS[(write % 6) as usize];
-    let mut lefts = [first; 128];
-    for half in 0..64usize {
-        lefts[2 * half + 1] = second;
-    }
-    device.crash_each(&lefts);
 }

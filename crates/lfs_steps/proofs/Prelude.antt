@@ -58,14 +58,14 @@ pub use Rattle.lfs_path.specs.dirs.Adding.{AddsName, grown, slot_for}
 pub use Rattle.lfs_path.specs.dirs.Directory.{names_at}
 pub use Rattle.lfs_path.specs.dirs.Taking.{CutsSlot, shrunk}
 pub use Rattle.lfs_entries.specs.Entries.{is_directory}
-pub use Rattle.lfs_entries.specs.Looking.{LooksAt, LooksUp}
+pub use Rattle.lfs_entries.specs.Finding.{GivesObject, GivesNumber}
 pub use Rattle.lfs_entries.specs.Moving.{fewer_links, more_links}
 pub use Rattle.lfs_entries.specs.NewNames.{links_beside}
 pub use Rattle.lfs_entries.specs.NewObjects.{NewKind, form_of_new, kind_of_new, makes_directory, new_directory, new_file, new_link}
 pub use Rattle.lfs_entries.specs.NewObjects.{text_of_new}
 pub use Rattle.lfs_entries.specs.Renaming.{GivesName}
 pub use Rattle.lfs_entries.specs.Replacing.{FitsFound}
-pub use Rattle.lfs_entries.specs.Sizes.{HasRoom}
+pub use Rattle.lfs_entries.specs.Sizes.{TakesOneMore}
 pub use Rattle.lfs_entries.specs.declared.entry.Object.{Object}
 pub use Rattle.lfs_entries.specs.declared.moving.Source.{Source}
 pub use Rattle.lfs_entries.specs.declared.moving.Target.{Target}

@@ -13,10 +13,11 @@ use Rattle.lfs_model.proofs.Moments.{carries_none, carries_then, joined, weaker}
 use Rattle.lfs_cleaner.proofs.of_log.LogReads.{acknowledged, looks_leave, segment_count}
 use Rattle.lfs_cleaner.specs.log.LogState.{LogState, Holds, IsSaved, LeavesSaved, Saves, Alters, IsStaged, IsRefused, IsStageFault}
 use Rattle.lfs_cleaner.specs.log.LogState.{commits_due}
-use Rattle.lfs_cleaner.specs.Room.{Acknowledges, FailsRoom, HaltsLater, HasQuarter, IsAtRest, IsRoomFault, KeepsMap, LacksRoom, MakesRoom}
-use Rattle.lfs_cleaner.specs.Room.{MayNotMakeRoom, StaysUnsaved, most_checkpoints}
-use Rattle.lfs_cleaner.proofs.RoomBounds.{makes_none, readied_saves}
-use Rattle.lfs_cleaner.proofs.Rooms.{acknowledges_still, fault_then, halts_then, keeps_none, keeps_then, keeps_weaker, rest_saves}
+use Rattle.lfs_cleaner.specs.Making.{Acknowledges, FailsClean, HaltsLater, HasQuarter}
+use Rattle.lfs_cleaner.specs.Making.{IsAtRest, IsCleanFault, KeepsMap, LacksClean, MakesClean}
+use Rattle.lfs_cleaner.specs.Making.{MayNotMakeClean, StaysUnsaved, most_checkpoints}
+use Rattle.lfs_cleaner.proofs.CleanBounds.{makes_none, readied_saves}
+use Rattle.lfs_cleaner.proofs.CleanEnds.{acknowledges_still, fault_then, halts_then, keeps_none, keeps_then, keeps_weaker, rest_saves}
 use Rattle.lfs_store.specs.declared.draft.Draft.{Draft}
 use Rattle.lfs_store.specs.StoreState.{asked_by}
 use Rattle.lfs_store.specs.Accepting.{HasClean, HoldsNext, Commits, Readies, SavesFew, Accepts, Declines, IsAcceptFault}
@@ -43,7 +44,7 @@ stays_then D a b c one two =
     }
 
 -- what room is to the log map
-module _ {D : Type 0} (state : D → DeviceState) {h h' : LogState D} (room : MakesRoom state h h') where
+module _ {D : Type 0} (state : D → DeviceState) {h h' : LogState D} (room : MakesClean state h h') where
   pub room_holds : (k : CheckpointValue) {m0 : LogMap} (m : LogMap) → (state h'.device).keeps_model → Holds state h k m0 m
       → IsLogMap (dropped m)
       → HoldsNext state k.segments m0 m h' m
@@ -148,7 +149,7 @@ module _ {D : Type 0} {state : D → DeviceState} where
 
   -- ---- behind a commit, or nothing
   module _ {a b c : LogState D} (ready : Readies state a b) where
-    pub room_then : MakesRoom state b c → MakesRoom state a c
+    pub room_then : MakesClean state b c → MakesClean state a c
     room_then two =
         record {
           keeps = keeps_numbered _ _ _ (keeps_then _ c ready.room.keeps two.keeps) (omega arith);
@@ -165,28 +166,28 @@ module _ {D : Type 0} {state : D → DeviceState} where
     halts_after halts =
         halts_numbered _ _ _ (halts_then _ c ready.room.keeps halts) (omega arith)
 
-    pub lacks_after : LacksRoom state b c → LacksRoom state a c
+    pub lacks_after : LacksClean state b c → LacksClean state a c
     lacks_after lacks = record {
       makes = room_then lacks.makes;
       never = λ k m0 m keeps may.
           (let next = ready.able k m0 m (lacks.makes.keeps.carries.kept_before keeps) may in lacks.never next.0 next.1 m keeps next.2);
     }
 
-    pub fails_after : FailsRoom state b c → FailsRoom state a c
+    pub fails_after : FailsClean state b c → FailsClean state a c
     fails_after fails = record {
       makes = room_then fails.makes;
       fault = fault_then _ c ready.room.keeps fails.makes.keeps.carries fails.fault;
     }
 
   -- a quarter of the segments is enough for a commit
-  pub cannot_lack : {h after : LogState D} → IsLawful (state after.device) → MakesRoom state h after → HasQuarter after
-      → after.clean < after.segments / 8 + 8 → MayNotMakeRoom state h after
+  pub cannot_lack : {h after : LogState D} → IsLawful (state after.device) → MakesClean state h after → HasQuarter after
+      → after.clean < after.segments / 8 + 8 → MayNotMakeClean state h after
   cannot_lack {after} lawful room quarter few k m0 m keeps may =
       let over = room.keeps.holds k m0 m keeps may.holds may.shown in
       omega (arith, (segment_count _ lawful over.holds).least)
 
   -- ---- what room is to what is saved
-  module _ {h h' : LogState D} (room : MakesRoom state h h') where
+  module _ {h h' : LogState D} (room : MakesClean state h h') where
     pub saves_few : SavesFew h h'
     saves_few = record {
       number = room.keeps.later;
@@ -196,7 +197,7 @@ module _ {D : Type 0} {state : D → DeviceState} where
 
   -- ---- the draft is staged, or refused
   module _ (h mid h' : LogState D) (d : Draft) (lawful : IsLawful (state mid.device)) (running : h.halted ≡ false)
-      (room : MakesRoom state h mid) {raised : Bool} (alters : Alters state mid h' (asked_by d) raised) where
+      (room : MakesClean state h mid) {raised : Bool} (alters : Alters state mid h' (asked_by d) raised) where
     before : (state h'.device).keeps_model → (state mid.device).keeps_model
     before = alters.looks.carries.kept_before
 
@@ -275,7 +276,7 @@ module _ {D : Type 0} {state : D → DeviceState} where
         omega (arith, failed over.checkpoint over.acknowledged m keeps over.holds fits)
 
   -- no room is made
-  pub declines_room : {h h' : LogState D} {d : Draft} → h.halted ≡ false → MakesRoom state h h' → Declines state h h' d
+  pub declines_room : {h h' : LogState D} {d : Draft} → h.halted ≡ false → MakesClean state h h' → Declines state h h' d
   declines_room {h} {h'} running room = record {
     carries = room.keeps.carries;
     halted = cc;
@@ -285,11 +286,11 @@ module _ {D : Type 0} {state : D → DeviceState} where
     moment = room.keeps.moment;
   }
 
-  pub room_fault : (h h' : LogState D) (d : Draft) → IsRoomFault state h h' → IsAcceptFault state h h' d
+  pub room_fault : (h h' : LogState D) (d : Draft) → IsCleanFault state h h' → IsAcceptFault state h h' d
   room_fault h h' d failed k m0 m keeps is fits map = failed k m0 m keeps is map
 
   -- ---- a draft that memory has no room for, though what could be saved is saved
-  pub asks_much : {h h' : LogState D} (d : Draft) → MakesRoom state h h' → (h.saved ≡ true → IsAtRest h)
+  pub asks_much : {h h' : LogState D} (d : Draft) → MakesClean state h h' → (h.saved ≡ true → IsAtRest h)
       → (h'.saved ≡ false → h'.waiting + asked_by d ≤ MOST_UNSAVED) → MOST_UNSAVED < h'.waiting + asked_by d → MOST_UNSAVED < asked_by d
   asks_much {h'} d makes rest room much = by_flag h'.saved refl
     where

@@ -7,10 +7,10 @@ use Rattle.lfs_model.specs.Device.{DeviceState, IsLawful}
 use Rattle.lfs_model.proofs.Moments.{carries_none, started, weaker}
 use Rattle.lfs_cleaner.specs.log.LogState.{AreAllSaved, LogState, WritesEarly}
 use Rattle.lfs_cleaner.specs.log.Saving.{commit_orders}
-use Rattle.lfs_cleaner.specs.Room.{KeepsMap, MakesRoom, passes_orders, room_orders}
+use Rattle.lfs_cleaner.specs.Making.{KeepsMap, MakesClean, passes_orders, clean_orders}
 use Rattle.lfs_cleaner.proofs.of_log.LogReads.{acknowledged}
-use Rattle.lfs_cleaner.proofs.RoomBounds.{same_need}
-use Rattle.lfs_cleaner.proofs.Rooms.{keeps_weaker}
+use Rattle.lfs_cleaner.proofs.CleanBounds.{same_need}
+use Rattle.lfs_cleaner.proofs.CleanEnds.{keeps_weaker}
 use Rattle.lfs_store.specs.Accepting.{HasClean, Readies}
 use Rattle.lfs_store.proofs.Acceptings.{due_as, room_then}
 
@@ -64,7 +64,7 @@ module _ {D : Type 0} (state : D → DeviceState) where
     clean_stays : HasClean h → HasClean h'
     clean_stays enough = ⊎_elim (λ (same : h' ≡ h). rw same enough) (λ (kept : HasClean h'). kept) (early_clean _ _ _ w)
 
-    room_early : MakesRoom state h h'
+    room_early : MakesClean state h h'
     room_early = record {
       keeps = keeps_weaker _ keeps_early (omega arith);
       unsaved = λ e. (sym w.saved ∙ e, record { number = w.number; fewer = w.fewer; clean = clean_stays });
@@ -108,10 +108,10 @@ module _ {D : Type 0} (state : D → DeviceState) where
   pub told_cleaned : {a b : LogState D} (c : LogState D) → (b ≡ a) ⊎ (HasClean b ⊎ ((b.saved ≡ true) × AreAllSaved b))
       → b.clean < b.segments / 8 + 8
       → length (state b.device).told ≤ length (state a.device).told + commit_orders
-      → length (state c.device).told ≤ length (state b.device).told + room_orders b.segments
+      → length (state c.device).told ≤ length (state b.device).told + clean_orders b.segments
       → (b.saved ≡ true → length (state c.device).told ≤ length (state b.device).told + passes_orders b.segments)
       → b.segments ≡ a.segments
-      → length (state c.device).told ≤ length (state a.device).told + room_orders a.segments
+      → length (state c.device).told ≤ length (state a.device).told + clean_orders a.segments
   told_cleaned {a} {b} c once few first rest passes same = ⊎_elim
       (λ (is : b ≡ a). rw (← is) rest)
       (λ (more : HasClean b ⊎ ((b.saved ≡ true) × AreAllSaved b)). ⊎_elim
@@ -121,7 +121,7 @@ module _ {D : Type 0} (state : D → DeviceState) where
       more)
       once
     where
-      behind : (x y z n m : ℕ) → m ≡ n → y ≤ x + commit_orders → z ≤ y + passes_orders m → z ≤ x + room_orders n
+      behind : (x y z n m : ℕ) → m ≡ n → y ≤ x + commit_orders → z ≤ y + passes_orders m → z ≤ x + clean_orders n
       behind x y z n m is one two =
           let after : z ≤ y + passes_orders n = subst (λ (l : ℕ). z ≤ y + passes_orders l) is two in
           sum x y z commit_orders (passes_orders n) one after

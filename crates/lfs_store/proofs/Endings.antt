@@ -10,13 +10,13 @@ use Rattle.lfs_files.specs.declared.fault.StoreFault.{StoreFault}
 use Rattle.lfs_files.specs.declared.fault.StoreFault.TheVariants.{NoMemory, Log}
 use Rattle.lfs_cleaner.specs.log.LogState.{LogState, IsFull, IsStaged, IsRefused, IsStageFault}
 use Rattle.lfs_cleaner.specs.log.Saving.{commit_orders}
-use Rattle.lfs_cleaner.specs.Room.{FailsRoom, HaltsLater, HasQuarter, IsAtRest, LacksRoom, MakesRoom, most_checkpoints, room_orders}
-use Rattle.lfs_cleaner.proofs.RoomBounds.{halts_first, lacks_commit}
+use Rattle.lfs_cleaner.specs.Making.{FailsClean, HaltsLater, HasQuarter, IsAtRest, LacksClean, MakesClean, most_checkpoints, clean_orders}
+use Rattle.lfs_cleaner.proofs.CleanBounds.{halts_first, lacks_commit}
 use Rattle.lfs_cleaner.proofs.of_log.of_memory.Going.{ok_then}
 use Rattle.lfs_store.specs.declared.store.Store.{Store}
 use Rattle.lfs_store.specs.Accepting.{Declines, HasClean, HasCleanForTwo, HasRoomFor, Readies}
 use Rattle.lfs_store.specs.Keeping.{KeepsDraft}
-use Rattle.lfs_store.specs.Outcomes.{Accepted, Cleaned, Committed, RoomMade}
+use Rattle.lfs_store.specs.Outcomes.{Accepted, Cleaned, Committed, Reserves}
 use Rattle.lfs_store.specs.StoreState.{asked_by}
 use Rattle.lfs_store.proofs.Acceptings.{accepts, accept_fault, commits_none, declines, declines_room, fails_after, halts_after, lacks_after}
 use Rattle.lfs_store.proofs.Acceptings.{readies_none, room_fault, room_then}
@@ -96,7 +96,7 @@ module _ {D : Type 0} {state : D → DeviceState} where
   }
 
   -- ---- room
-  pub made_ready : {a b : Store D} → KeepsDraft a b → Readies state a.log b.log → RoomMade state a b (Ok tt)
+  pub made_ready : {a b : Store D} → KeepsDraft a b → Readies state a.log b.log → Reserves state a b (Ok tt)
   made_ready keeps ready = record {
     keeps = keeps;
     done = ready.room;
@@ -105,12 +105,12 @@ module _ {D : Type 0} {state : D → DeviceState} where
     halted = λ e. absurd (cc);
   }
 
-  pub made_none : {a : Store D} → IsLawful (state a.log.device) → a.log.halted ≡ false → RoomMade state a a (Ok tt)
+  pub made_none : {a : Store D} → IsLawful (state a.log.device) → a.log.halted ≡ false → Reserves state a a (Ok tt)
   made_none lawful running = made_ready keeps_none (readies_none lawful running)
 
   -- a commit that failed
   pub made_uncommitted : (a b : Store D) {fault : LogFault} → IsLawful (state a.log.device) → a.log.halted ≡ false
-      → Committed state a b (Err fault) → RoomMade state a b (Err fault)
+      → Committed state a b (Err fault) → Reserves state a b (Err fault)
   made_uncommitted a b lawful running commit = record {
     keeps = commit.keeps;
     done = tt;
@@ -120,8 +120,8 @@ module _ {D : Type 0} {state : D → DeviceState} where
   }
 
   -- room that is made behind steps that leave the log ready
-  pub made_then : {a b c : Store D} {r : Result Unit LogFault} → KeepsDraft a b → Readies state a.log b.log → RoomMade state b c r
-      → RoomMade state a c r
+  pub made_then : {a b c : Store D} {r : Result Unit LogFault} → KeepsDraft a b → Readies state a.log b.log → Reserves state b c r
+      → Reserves state a c r
   made_then {a} {b} {c} {r} keeps ready made =
       let running = ready.room.keeps.running in
       record {
@@ -134,13 +134,13 @@ module _ {D : Type 0} {state : D → DeviceState} where
 
   -- a commit behind them
   pub made_committed : {a b : Store D} (r : Result Unit LogFault) → IsLawful (state a.log.device) → a.log.halted ≡ false
-      → Committed state a b r → RoomMade state a b r
+      → Committed state a b r → Reserves state a b r
   made_committed {a} {b} (Ok x) lawful running commit = made_ready commit.keeps commit.ready
   made_committed {a} {b} (Err fault) lawful running commit = made_uncommitted _ _ lawful running commit
 
   -- ---- the cleaner makes room
-  pub cleaned : {a : Store D} {h : LogState D} {r : Result Unit LogFault} → h.totals ≡ a.log.totals → OnOk r (MakesRoom state a.log h)
-      → (IsErrOf r Full → LacksRoom state a.log h) → (IsErrOf r Device → FailsRoom state a.log h)
+  pub cleaned : {a : Store D} {h : LogState D} {r : Result Unit LogFault} → h.totals ≡ a.log.totals → OnOk r (MakesClean state a.log h)
+      → (IsErrOf r Full → LacksClean state a.log h) → (IsErrOf r Device → FailsClean state a.log h)
       → (IsErrOf r Halted → a.log.halted ≢ true → HaltsLater state a.log h (most_checkpoints a.log))
       → (a.log.halted ≡ true → (h ≡ a.log) × IsErrOf r Halted) → (HasQuarter a.log → h ≡ a.log) → Cleaned state a (record a { log = h }) r
   cleaned totals done full device halted still quiet = record {
@@ -178,10 +178,10 @@ module _ {D : Type 0} {state : D → DeviceState} where
   -- ---- what holds however a draft ends, behind what readied the log
   module _ {a b : Store D} (running : a.log.halted ≡ false) (quiet : HasRoomFor a.log a.draft → HasClean a.log → b.log ≡ a.log)
       (told : length (state b.log.device).told
-      ≤ length (state a.log.device).told + room_orders a.log.segments)
+      ≤ length (state a.log.device).told + clean_orders a.log.segments)
       (one_commit : HasCleanForTwo a.log → length (state b.log.device).told ≤ length (state a.log.device).told + commit_orders) where
     -- no room was made
-    pub accepted_unready : {fault : LogFault} → RoomMade state a b (Err fault) → (log_error fault ≡ log_error Full → IsFull b.log)
+    pub accepted_unready : {fault : LogFault} → Reserves state a b (Err fault) → (log_error fault ≡ log_error Full → IsFull b.log)
         → Accepted state a b.log (Err (Log fault))
     accepted_unready {fault} made lacks = record {
       counted = tt;
@@ -201,7 +201,7 @@ module _ {D : Type 0} {state : D → DeviceState} where
       one_commit = one_commit;
     }
 
-    module _ {h : LogState D} (lawful : IsLawful (state b.log.device)) (made : RoomMade state a b (Ok tt)) (enough : HasClean b.log) where
+    module _ {h : LogState D} (lawful : IsLawful (state b.log.device)) (made : Reserves state a b (Ok tt)) (enough : HasClean b.log) where
       -- it is staged
       pub accepted_staged : IsStaged state b.log h b.draft.changes → h.totals ≡ b.drafted → Accepted state a h (Ok tt)
       accepted_staged s totals = record {

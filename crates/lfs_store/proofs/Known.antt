@@ -4,7 +4,7 @@ use Rattle.lfs_model.specs.Device.{DeviceState}
 use Rattle.lfs_model.specs.Stands.{LogMap}
 use Rattle.lfs_cleaner.specs.log.LogState.{LogState, Reads, commits_due}
 use Rattle.lfs_cleaner.specs.log.memory.Present.{Looks}
-use Rattle.lfs_cleaner.specs.Room.{most_checkpoints}
+use Rattle.lfs_cleaner.specs.Making.{most_checkpoints}
 use Rattle.lfs_store.specs.declared.draft.Draft.{Draft}
 use Rattle.lfs_store.specs.Drafting.{IsApart}
 use Rattle.lfs_store.specs.Seen.{StagedLog, staged_of}

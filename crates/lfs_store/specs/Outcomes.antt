@@ -8,8 +8,9 @@ use Rattle.lfs_files.specs.declared.fault.StoreFault.TheVariants.{NoMemory, Log}
 use Rattle.lfs_files.specs.declared.fault.LogFault.TheVariants.{Full, Device, Halted}
 use Rattle.lfs_cleaner.specs.log.LogState.{LogState, Halts, IsFull, Saves}
 use Rattle.lfs_cleaner.specs.log.Saving.{commit_orders, orders_for}
-use Rattle.lfs_cleaner.specs.Room.{FailsRoom, HaltsLater, HasQuarter, IsAtRest, LacksRoom, MakesRoom, MayNotMakeRoom, most_checkpoints}
-use Rattle.lfs_cleaner.specs.Room.{room_orders}
+use Rattle.lfs_cleaner.specs.Making.{FailsClean, HaltsLater, HasQuarter, IsAtRest}
+use Rattle.lfs_cleaner.specs.Making.{LacksClean, MakesClean, MayNotMakeClean, most_checkpoints}
+use Rattle.lfs_cleaner.specs.Making.{clean_orders}
 use Rattle.lfs_store.specs.declared.store.Store.{Store}
 use Rattle.lfs_store.specs.Keeping.{KeepsDraft}
 use Rattle.lfs_store.specs.StoreState.{asked_by}
@@ -35,17 +36,17 @@ module _ {D : Type 0} (state : D → DeviceState) where
         ≤ length (state old.log.device).told + orders_for old.log.waiting
 
   -- Room is made in the log, or why it isn't.
-  pub record RoomMade (old new : Store D) (result : Result Unit LogFault) : Type 0 where
+  pub record Reserves (old new : Store D) (result : Result Unit LogFault) : Type 0 where
     pub keeps : KeepsDraft old new
-    pub done : OnOk result (MakesRoom state old.log new.log)
-    pub full : IsErrOf result Full → LacksRoom state old.log new.log
-    pub device : IsErrOf result Device → FailsRoom state old.log new.log
+    pub done : OnOk result (MakesClean state old.log new.log)
+    pub full : IsErrOf result Full → LacksClean state old.log new.log
+    pub device : IsErrOf result Device → FailsClean state old.log new.log
     pub halted : IsErrOf result Halted → old.log.halted ≢ true
         → HaltsLater state old.log new.log (most_checkpoints old.log)
 
   -- The cleaner makes it, where fewer than a quarter of the segments is clean.
   pub record Cleaned (old new : Store D) (result : Result Unit LogFault) : Type 0 where
-    pub room : RoomMade old new result
+    pub room : Reserves old new result
     pub still : old.log.halted ≡ true → (new.log ≡ old.log) × IsErrOf result Halted
     pub quiet : HasQuarter old.log → new.log ≡ old.log
 
@@ -56,7 +57,7 @@ module _ {D : Type 0} (state : D → DeviceState) where
     pub done : OnOk result (Accepts state old.log h' old.draft)
     pub full : IsErrOf result (Log Full) → Declines state old.log h' old.draft
     pub lacks : IsErrOf result (Log Full) → IsFull h'
-    pub never : IsErrOf result (Log Full) → MayNotMakeRoom state old.log h'
+    pub never : IsErrOf result (Log Full) → MayNotMakeClean state old.log h'
     pub memory : IsErrOf result NoMemory → Declines state old.log h' old.draft
     pub fits : IsErrOf result NoMemory → (old.log.saved ≡ true → IsAtRest old.log) → MOST_UNSAVED < asked_by old.draft
     pub device : IsErrOf result (Log Device) → Declines state old.log h' old.draft
@@ -66,6 +67,6 @@ module _ {D : Type 0} (state : D → DeviceState) where
     pub still : old.log.halted ≡ true → (h' ≡ old.log) × IsErrOf result (Log Halted)
     pub quiet : HasRoomFor old.log old.draft → HasClean old.log → h'.number ≡ old.log.number
     pub told : length (state h'.device).told
-        ≤ length (state old.log.device).told + room_orders old.log.segments
+        ≤ length (state old.log.device).told + clean_orders old.log.segments
     pub one_commit : HasCleanForTwo old.log
         → length (state h'.device).told ≤ length (state old.log.device).told + commit_orders

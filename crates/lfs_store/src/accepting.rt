@@ -12,7 +12,7 @@ use crate::store::Store;
 use lfs_cache::CachedDevice;
 use lfs_cleaner::volume_log::verify::Tables;
 use lfs_cleaner::volume_log::{Log, LogFault, MountFault};
-use lfs_cleaner::{clean_once, has_quarter, make_room};
+use lfs_cleaner::{clean_once, has_quarter, make_clean};
 use lfs_device::SectorDevice;
 use lfs_files::StoreFault;
 use lfs_model::limits::MOST_UNSAVED;
@@ -28,11 +28,11 @@ impl<D: SectorDevice> Store<D> {
     ghost use Rattle.lfs_cleaner.specs.log.LogState.{AreAllSaved, Halts, IsFull, Mounts, WritesEarly};
     ghost use Rattle.lfs_cleaner.specs.log.Saving.{commit_orders, orders_for};
     ghost use Rattle.lfs_cleaner.specs.log.Thresholds.{LacksReserve};
-    ghost use Rattle.lfs_cleaner.specs.Room.{CleansOnce, HasQuarter, once_orders, passes_orders, room_orders};
+    ghost use Rattle.lfs_cleaner.specs.Making.{CleansOnce, HasQuarter, once_orders, passes_orders, clean_orders};
     ghost use Rattle.lfs_store.specs.Recounting.{MountsTotals};
     ghost use Rattle.lfs_store.specs.Accepting.{Readies, HasClean, HasCleanForTwo, HasRoomFor};
     ghost use Rattle.lfs_store.specs.Keeping.{KeepsDraft, OnlyDrafts};
-    ghost use Rattle.lfs_store.specs.Outcomes.{Accepted, Cleaned, Committed, RoomMade};
+    ghost use Rattle.lfs_store.specs.Outcomes.{Accepted, Cleaned, Committed, Reserves};
 
     /// The volume that the newest checkpoint of the device leads to, with its totals and an empty
     /// draft; else why there is none, and the device. It writes nothing, and takes the memory that
@@ -179,7 +179,7 @@ impl<D: SectorDevice> Store<D> {
         ensures enough { OnOk result (HasQuarter self.new.log) }
         ensures told { length (D.state self.new.log.device).told
             ≤ length (D.state self.old.log.device).told
-            + room_orders self.old.log.segments }
+            + clean_orders self.old.log.segments }
         ensures passes { self.old.log.saved ≡ true
             → length (D.state self.new.log.device).told
             ≤ length (D.state self.old.log.device).told
@@ -187,7 +187,7 @@ impl<D: SectorDevice> Store<D> {
         ensures unsaved { (IsErrOf result LogFault.Halted → ⊥) → self.new.log.saved ≡ false
             → self.new.log ≡ self.old.log }
     {
-        make_room(&mut self.log)
+        make_clean(&mut self.log)
     }
 
     /// One pass of the cleaner where fewer than a quarter of the segments is clean, and none else: a
@@ -231,9 +231,9 @@ impl<D: SectorDevice> Store<D> {
 
     /// Makes room in memory for the draft where it has none, and only there: by early writes, and by
     /// a commit where these don't suffice.
-    fn find_room(&mut self) -> Result<(), LogFault>
+    fn prepare_commit(&mut self) -> Result<(), LogFault>
         requires { self.old.log.halted ≡ false }
-        ensures makes { RoomMade D.SectorDevice.state self.old self.new result }
+        ensures makes { Reserves D.SectorDevice.state self.old self.new result }
         ensures ready { OnOk result (Readies D.SectorDevice.state self.old.log self.new.log) }
         ensures room { OnOk result (self.new.log.saved ≡ false
             → self.new.log.waiting + asked_by self.new.draft ≤ MOST_UNSAVED) }
@@ -274,14 +274,14 @@ impl<D: SectorDevice> Store<D> {
     }
 
     /// Cleans segments, and tells whether enough are clean for a commit then.
-    fn find_segments(&mut self) -> Result<(), LogFault>
+    fn make_clean(&mut self) -> Result<(), LogFault>
         requires { self.old.log.halted ≡ false }
-        ensures makes { RoomMade D.SectorDevice.state self.old self.new result }
+        ensures makes { Reserves D.SectorDevice.state self.old self.new result }
         ensures enough { OnOk result (HasClean self.new.log) }
         ensures lacks { IsErrOf result LogFault.Full → IsFull self.new.log }
         ensures told { length (D.state self.new.log.device).told
             ≤ length (D.state self.old.log.device).told
-            + room_orders self.old.log.segments }
+            + clean_orders self.old.log.segments }
         ensures passes { self.old.log.saved ≡ true
             → length (D.state self.new.log.device).told
             ≤ length (D.state self.old.log.device).told
@@ -298,9 +298,9 @@ impl<D: SectorDevice> Store<D> {
     /// Readies the log for a change, the only place that knows when one may begin: memory has room
     /// for the draft, else early writes or a commit make it; and enough segments are clean for the
     /// commit that saves it, else the cleaner makes them so.
-    fn prepare_change(&mut self) -> Result<(), LogFault>
+    fn reserve(&mut self) -> Result<(), LogFault>
         requires { self.old.log.halted ≡ false }
-        ensures makes { RoomMade D.SectorDevice.state self.old self.new result }
+        ensures makes { Reserves D.SectorDevice.state self.old self.new result }
         ensures enough { OnOk result (HasClean self.new.log) }
         ensures room { OnOk result (self.new.log.saved ≡ false
             → self.new.log.waiting + asked_by self.new.draft ≤ MOST_UNSAVED) }
@@ -309,27 +309,27 @@ impl<D: SectorDevice> Store<D> {
         ensures lacks { IsErrOf result LogFault.Full → IsFull self.new.log }
         ensures told { length (D.state self.new.log.device).told
             ≤ length (D.state self.old.log.device).told
-            + room_orders self.old.log.segments }
+            + clean_orders self.old.log.segments }
         ensures one_commit { HasCleanForTwo self.old.log
             → length (D.state self.new.log.device).told
             ≤ length (D.state self.old.log.device).told + commit_orders }
     {
-        self.find_room()?;
+        self.prepare_commit()?;
         if self.log.may_commit() {
             return Ok(());
         }
-        self.find_segments()
+        self.make_clean()
     }
 
     /// Stages the draft, and leaves it as it is.
-    fn stage_draft(&mut self) -> Result<(), StoreFault>
+    fn stage(&mut self) -> Result<(), StoreFault>
         ensures accepts { Accepted D.SectorDevice.state self.old self.new.log result }
         ensures drafted { self.new.drafted ≡ self.old.drafted }
     {
         if self.log.is_halted() {
             return Err(StoreFault::Log(LogFault::Halted));
         }
-        match self.prepare_change() {
+        match self.reserve() {
             Ok(()) => {}
             Err(fault) => return Err(StoreFault::Log(fault)),
         }
@@ -358,7 +358,7 @@ impl<D: SectorDevice> Store<D> {
         ensures draft { IsEmpty self.new.draft }
         ensures drafted { self.new.drafted ≡ self.new.log.totals }
     {
-        let outcome = self.stage_draft();
+        let outcome = self.stage();
         self.give_up();
         outcome
     }

@@ -1,8 +1,6 @@
-//! Tests of the commands of the program, and of the example over the library.
+//! Tests of a put on a device that stops, and of the example over the library.
 #![tactic(auto)]
 
-#[cfg(test)]
-mod commands;
 #[cfg(test)]
 mod example;
 #[cfg(test)]

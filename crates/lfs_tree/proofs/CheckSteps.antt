@@ -7,7 +7,7 @@ use Rattle.lfs_model.specs.Decodes.{IsSized}
 use Rattle.lfs_model.specs.Device.{DeviceState, IsLawful}
 use Rattle.lfs_model.specs.Reach.{address, view}
 use Rattle.lfs_model.specs.Stands.{LogMap, HoldsAt, log_in}
-use Rattle.lfs_model.specs.TreeOf.{AreLinks, AreReached, AreSlots, AreTexts, HasRoom, IsTree, TreeOf, tree_in}
+use Rattle.lfs_model.specs.TreeOf.{AreLinks, AreReached, AreSlots, AreTexts, HasSpace, IsTree, TreeOf, tree_in}
 use Rattle.lfs_model.proofs.Decodes.{are_sized, formed}
 use Rattle.lfs_files.specs.declared.header.Header as files
 use Rattle.lfs_inodes.specs.MapValue.{address_in}
@@ -17,8 +17,8 @@ use Rattle.lfs_verify.specs.declared.tables.Tables.{Tables}
 use Rattle.lfs_verify.specs.Loading.{HoldsTables}
 use Rattle.lfs_verify.specs.Take.{Looks}
 use Rattle.lfs_tree.specs.Checking.{IsDamagedTree, IsFaultOf, IsGathered, IsOfLog, IsRefusedTree, IsTreeDamage, links_fail, reached_fail}
-use Rattle.lfs_tree.specs.Checking.{room_fail}
-use Rattle.lfs_tree.specs.Linking.{AreLinksFit, FitsRoom}
+use Rattle.lfs_tree.specs.Checking.{space_fail}
+use Rattle.lfs_tree.specs.Linking.{AreLinksFit, FitsSpace}
 use Rattle.lfs_tree.specs.Naming.{NamesValue}
 use Rattle.lfs_tree.specs.Objects.{AreNamed}
 use Rattle.lfs_tree.specs.Reading.{Leads, Sees, TellsHeaders}
@@ -38,7 +38,7 @@ module _ (c : Content) (k : CheckpointValue) (m : LogMap) {headers : List (Optio
   pub tree_links : AreLinksFit headers names → AreLinks m
   tree_links fit = links_if_fit m (held_headers is.holds) headers is.told is.named is.slots fit
 
-  need_here : HasRoom m k.segments ↔ FitsRoom t.data_blocks t.meta_blocks t.segments
+  need_here : HasSpace m k.segments ↔ FitsSpace t.data_blocks t.meta_blocks t.segments
   need_here =
       let need = need_is c k m is.sized is.holds is.slots.formed is.of_log.counted in
       let same = is.of_log.segments in
@@ -54,10 +54,10 @@ module _ (c : Content) (k : CheckpointValue) (m : LogMap) {headers : List (Optio
         (λ links. other (fit_if_links m (held_headers is.holds) headers is.told is.named is.slots links))
 
     module _ (links : AreLinksFit headers names) where
-      pub fails_room : (FitsRoom t.data_blocks t.meta_blocks t.segments → ⊥) → IsTreeDamage k.segments m 14
-      fails_room other = room_fail refl is.slots is.texts (tree_reached fit) (tree_links links) (λ room. other (need_here.0 room))
+      pub fails_space : (FitsSpace t.data_blocks t.meta_blocks t.segments → ⊥) → IsTreeDamage k.segments m 14
+      fails_space other = space_fail refl is.slots is.texts (tree_reached fit) (tree_links links) (λ room. other (need_here.0 room))
 
-      pub tree_whole : FitsRoom t.data_blocks t.meta_blocks t.segments → IsTree k.segments m
+      pub tree_whole : FitsSpace t.data_blocks t.meta_blocks t.segments → IsTree k.segments m
       tree_whole room =
           record { slots = is.slots; texts = is.texts; reached = tree_reached fit; links = tree_links links; room = need_here.1 room }
 

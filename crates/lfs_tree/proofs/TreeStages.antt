@@ -26,7 +26,7 @@ use Rattle.lfs_model.proofs.Standing.{headers_are}
 use Rattle.lfs_verify.specs.Codes.{HoldsBelow}
 use Rattle.lfs_verify.proofs.CodeSteps.{below_1, below_next, stage_1, stage_2, stage_3, stage_4, stage_5, stage_6, stage_7, stage_8}
 use Rattle.lfs_verify.proofs.CodeSteps.{stage_9}
-use Rattle.lfs_tree.specs.Checking.{IsTreeDamage, links_fail, reached_fail, room_fail, slots_fail, texts_fail}
+use Rattle.lfs_tree.specs.Checking.{IsTreeDamage, links_fail, reached_fail, space_fail, slots_fail, texts_fail}
 
 -- ---- stages by number
 below_10 : {v : View} → Stages v → HoldsBelow v 10
@@ -48,7 +48,7 @@ damage_of_tree {v} s (reached_fail is slots texts fails) =
     (omega arith, omega arith, rw is (below_next v 11 (below_next v 10 (below_10 s) slots) texts, fails))
 damage_of_tree {v} s (links_fail is slots texts reached fails) =
     (omega arith, omega arith, rw is (below_next v 12 (below_next v 11 (below_next v 10 (below_10 s) slots) texts) reached, fails))
-damage_of_tree {v} s (room_fail is slots texts reached links fails) = (
+damage_of_tree {v} s (space_fail is slots texts reached links fails) = (
   omega arith,
   omega arith,
   rw is (below_next v 13 (below_next v 12 (below_next v 11 (below_next v 10 (below_10 s) slots) texts) reached) links, fails),

@@ -9,7 +9,7 @@ use Rattle.lfs_model.specs.Device.{DeviceState}
 use Rattle.lfs_model.specs.Stands.{HoldsAt, LogMap}
 use Rattle.lfs_model.specs.Totals.{IsCounted}
 use Rattle.lfs_model.specs.Tree.{State}
-use Rattle.lfs_model.specs.TreeOf.{AreLinks, AreReached, AreSlots, AreTexts, HasRoom, Stands, TreeOf, tree_in}
+use Rattle.lfs_model.specs.TreeOf.{AreLinks, AreReached, AreSlots, AreTexts, HasSpace, Stands, TreeOf, tree_in}
 use Rattle.lfs_model.specs.Volume.{IsTooSmall, IsWithoutCheckpoint}
 use Rattle.lfs_files.specs.declared.header.Header.{Header}
 use Rattle.lfs_verify.specs.declared.fault.MountFault.{MountFault}
@@ -34,7 +34,7 @@ pub data IsTreeDamage (N : ℕ) (m : LogMap) (code : ℕ) : Type 0 where
   texts_fail : code ≡ 11 → AreSlots m → (AreTexts m → ⊥) → IsTreeDamage N m code
   reached_fail : code ≡ 12 → AreSlots m → AreTexts m → (AreReached m → ⊥) → IsTreeDamage N m code
   links_fail : code ≡ 13 → AreSlots m → AreTexts m → AreReached m → (AreLinks m → ⊥) → IsTreeDamage N m code
-  room_fail : code ≡ 14 → AreSlots m → AreTexts m → AreReached m → AreLinks m → (HasRoom m N → ⊥) → IsTreeDamage N m code
+  space_fail : code ≡ 14 → AreSlots m → AreTexts m → AreReached m → AreLinks m → (HasSpace m N → ⊥) → IsTreeDamage N m code
 
 -- What a fault says: that a call of the device failed, or that there is such damage. No others come.
 abbrev pub IsFaultOf : Type 0 → (ℕ → Type 0) → MountFault → Type 0

@@ -14,5 +14,5 @@ abbrev pub AreLinksFit : List (Option Header) → NamesValue → Type 0
 AreLinksFit headers t = (n : ℕ) → n < FILE_NUMBERS → FitsLinks (get_or headers n None) (slice_index t.counts n) (slice_index t.below n)
 
 -- so many blocks of data and others are within the limit of so many segments
-abbrev pub FitsRoom : ℕ → ℕ → ℕ → Type 0
-FitsRoom blocks others segments = blocks + NEED_OF_META * others + LEAST_NEED ≤ NEED_OF_SEGMENT * segments
+abbrev pub FitsSpace : ℕ → ℕ → ℕ → Type 0
+FitsSpace blocks others segments = blocks + NEED_OF_META * others + LEAST_NEED ≤ NEED_OF_SEGMENT * segments

@@ -14,7 +14,7 @@ ghost use Rattle.lfs_verify.specs.Keeping.{OnlyLooks};
 
 use crate::fault::CheckFault;
 use crate::headers::{Headers, read_headers};
-use crate::links::{stage_links, stage_room};
+use crate::links::{stage_links, stage_space};
 use crate::reached::stage_reached;
 use crate::slot_stage::stage_slots;
 use crate::tables::NameTables;
@@ -99,7 +99,7 @@ fn check_names(
     if !stage_links(headers, names) {
         return Err(MountFault::Damaged(LINKS));
     }
-    if !stage_room(tables.data_blocks, tables.meta_blocks, tables.segments) {
+    if !stage_space(tables.data_blocks, tables.meta_blocks, tables.segments) {
         return Err(MountFault::Damaged(ROOM));
     }
     Ok(())

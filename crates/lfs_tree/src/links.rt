@@ -1,7 +1,7 @@
 //! Stage 13: each inode's links are those of the tree. Stage 14: the tree's need is within the
 //! limit.
 ghost use Rattle.std.specs.Prelude.{◌↔◌, IsTrue};
-ghost use Rattle.lfs_tree.specs.Linking.{AreLinksFit, FitsLinks, FitsRoom};
+ghost use Rattle.lfs_tree.specs.Linking.{AreLinksFit, FitsLinks, FitsSpace};
 
 use crate::headers::Headers;
 use crate::slots::is_directory;
@@ -41,8 +41,8 @@ pub fn stage_links(headers: &Headers, tables: &NameTables) -> bool
 
 /// Whether so many segments have room for a tree of so many blocks of data and others: false where
 /// the stage fails.
-pub fn stage_room(data_blocks: u32, meta_blocks: u32, segments: u32) -> bool
-    ensures { IsTrue result ↔ FitsRoom data_blocks meta_blocks segments }
+pub fn stage_space(data_blocks: u32, meta_blocks: u32, segments: u32) -> bool
+    ensures { IsTrue result ↔ FitsSpace data_blocks meta_blocks segments }
 {
     let need = u64::from(data_blocks) + NEED_OF_META * u64::from(meta_blocks) + LEAST_NEED;
     need <= NEED_OF_SEGMENT * u64::from(segments)

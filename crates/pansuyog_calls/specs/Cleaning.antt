@@ -4,7 +4,7 @@ use Rattle.lfs_model.specs.Device.{DeviceState}
 use Rattle.lfs_fs.specs.Seen.{seen}
 use Rattle.lfs_fs.specs.Volume.{segments_of}
 use Rattle.lfs_fs.specs.declared.fs.Fs.{Fs}
-use Rattle.lfs_store.specs.cleaner.Room.{CleansOnce, HasQuarter, once_orders}
+use Rattle.lfs_store.specs.cleaner.Making.{CleansOnce, HasQuarter, once_orders}
 use Rattle.pansuyog_calls.specs.Codes.{not_mounted}
 
 -- C is told whether fewer than a quarter of the segments is clean

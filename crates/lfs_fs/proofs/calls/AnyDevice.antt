@@ -2,7 +2,7 @@
 use Rattle.lfs_fs.proofs.Prelude.{◌≡◌, ◌≤◌, ◌+◌, ℕ, Bool, true, false, ◌||◌, List, length, refl, sym, ◌∙◌, ap, subst, inl, inr, arith}
 use Rattle.lfs_fs.proofs.Prelude.{IsTrue, Order, Answer, Call, Create, Pwrite, Truncate, Mkdir, LinkTo, Symlink, Unlink, Rmdir, Rename}
 use Rattle.lfs_fs.proofs.Prelude.{Fsync, Sync, Clean, Upgrade, Widen, Refuse, changes, cleans, commits, is_ok, may_write, takes_no_memory}
-use Rattle.lfs_fs.proofs.Prelude.{never_for_device, DeviceState, Refusal, Halted, Stuck, LogState, commit_orders, room_orders, TellsFew}
+use Rattle.lfs_fs.proofs.Prelude.{never_for_device, DeviceState, Refusal, Halted, Stuck, LogState, commit_orders, clean_orders, TellsFew}
 use Rattle.lfs_fs.proofs.Prelude.{Behaves, CommitsFew, IsStill, Mounted, TellsAtMost, changes_handles, most_orders, segments_of, reads_none}
 use Rattle.lfs_fs.proofs.Prelude.{◌⊎◌}
 use Rattle.lfs_model.specs.Refusal.{NoMemory}
@@ -39,7 +39,7 @@ pub change_writes : (call : Call) → changes call ≡ true → IsTrue (may_writ
 change_writes call change = ap (λ (b : Bool). b || commits call || cleans call) change
 
 -- a call that changes something gives as many orders as where room is made
-pub change_orders : (call : Call) (segments : ℕ) → changes call ≡ true → most_orders call segments ≡ room_orders segments
+pub change_orders : (call : Call) (segments : ℕ) → changes call ≡ true → most_orders call segments ≡ clean_orders segments
 change_orders (Create p) segments change = refl
 change_orders (Pwrite h off w) segments change = refl
 change_orders (Truncate h n) segments change = refl
@@ -86,7 +86,7 @@ module _ {D : Type 0} (state : D → DeviceState) where
   sync_bounded old new few told = record { few = few; told = told; one_commit = λ unclean clean. told }
 
   -- one that cleans
-  pub clean_bounded : (old new : Mounted D) → CommitsFew old new → TellsAtMost state old.log new.log (room_orders (segments_of old))
+  pub clean_bounded : (old new : Mounted D) → CommitsFew old new → TellsAtMost state old.log new.log (clean_orders (segments_of old))
       → IsBounded old new Clean
   clean_bounded old new few told = record { few = few; told = told; one_commit = λ unclean clean. absurd (cc) }
 

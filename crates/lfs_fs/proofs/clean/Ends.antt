@@ -1,19 +1,19 @@
 -- The ends of a clean, as steps of the model.
 use Rattle.lfs_fs.proofs.Prelude.{◌≡◌, ◌<◌, ◌≤◌, ◌+◌, ◌/◌, ◌^◌, false, refl, sym, ◌∙◌, inl, inr, arith, Answer, Clean, Done}
 use Rattle.lfs_fs.proofs.Prelude.{Refuse, CheckpointValue, DeviceState, IsLawful, Device, Halted, Stuck, Worn, Point, StepsOr, LogMap}
-use Rattle.lfs_fs.proofs.Prelude.{LogFault, room_orders, LogState, Store, HasClean, volume_of, MayNotMakeRoom}
+use Rattle.lfs_fs.proofs.Prelude.{LogFault, clean_orders, LogState, Store, HasClean, volume_of, MayNotMakeClean}
 use Rattle.lfs_fs.proofs.Prelude.{few_checkpoints, FsError, Fs, error_of_log, refusal_of, seen, IsAt, IsIn, Mounted, Serves, TellsAtMost}
 use Rattle.lfs_fs.proofs.Prelude.{segments_of}
 use Rattle.lfs_model.specs.Checkpoint.{IsSegmentCount}
 use Rattle.lfs_files.specs.declared.fault.LogFault.TheVariants as log
-use Rattle.lfs_store.specs.cleaner.Room.{IsRoomFault, once_orders}
+use Rattle.lfs_store.specs.cleaner.Making.{IsCleanFault, once_orders}
 use Rattle.lfs_store.proofs.of_cleaner.Onces.{once_within}
-use Rattle.lfs_store.specs.cleaner.Room.{MakesRoom}
+use Rattle.lfs_store.specs.cleaner.Making.{MakesClean}
 use Rattle.lfs_store.proofs.Acceptings.{room_holds}
 use Rattle.lfs_fs.specs.declared.error.FsError.TheVariants as error
 use Rattle.lfs_fs.proofs.calls.AnyDevice.{clean_bounded, write_behaves}
 use Rattle.lfs_fs.proofs.Prelude.{Err, Ok, Result}
-use Rattle.lfs_store.specs.Outcomes.{RoomMade}
+use Rattle.lfs_store.specs.Outcomes.{Reserves}
 use Rattle.lfs_fs.proofs.calls.Files.{with_store}
 use Rattle.lfs_fs.proofs.calls.Steps.{not_worn}
 use Rattle.lfs_fs.proofs.calls.Drafts.{IsRest, counted_still, runs_on}
@@ -27,7 +27,7 @@ module _ {D : Type 0} {state : D → DeviceState} (lawful : (d : D) → IsLawful
   -- one pass gives the device no more than where room is made
   pub once_tells : (old new : LogState D) → IsSegmentCount old.segments
       → TellsAtMost state old new (once_orders old.segments)
-      → TellsAtMost state old new (room_orders old.segments)
+      → TellsAtMost state old new (clean_orders old.segments)
   once_tells old new count tells = let within = once_within count in omega (arith, within, tells)
 
   -- past the last number nothing is cleaned
@@ -39,9 +39,9 @@ module _ {D : Type 0} {state : D → DeviceState} (lawful : (d : D) → IsLawful
       (λ e. cc))
 
   module _ (old new : Mounted D) (was : old.log.halted ≡ false) (rest : IsRest state old new) (low : old.log.number < 2 ^ 62)
-      (tells : TellsAtMost state old.log new.log (room_orders (segments_of old))) where
+      (tells : TellsAtMost state old.log new.log (clean_orders (segments_of old))) where
     -- the log map is as it was, and what isn't saved after it wasn't before
-    module _ (room : MakesRoom state old.log new.log) where
+    module _ (room : MakesClean state old.log new.log) where
       ready : new.log.saved ≡ false → (old.log.saved ≡ false → HasClean old.log × (old.log.number ≤ 2 ^ 62 + segments_of old / 8))
           → HasClean new.log × (new.log.number ≤ 2 ^ 62 + segments_of new / 8)
       ready e before =
@@ -76,21 +76,21 @@ module _ {D : Type 0} {state : D → DeviceState} (lawful : (d : D) → IsLawful
           inl (clean_done (segments_of old) p.state, not_worn (segments_of old) Clean p (let n = at.number in omega (arith, n, low))))
 
       -- a call of the device failed
-      pub clean_failed_serves : IsRoomFault state old.log new.log → Serves state old new Clean (Refuse Device)
+      pub clean_failed_serves : IsCleanFault state old.log new.log → Serves state old new Clean (Refuse Device)
       clean_failed_serves failed = ends_by (λ e. cc) (λ e. cc) (λ p keeps at k m0 m is.
           let rose = failed k m0 m keeps is.holds
           (map_dropped state new keeps (lawful old.log.device) (lawful new.log.device) room.keeps.carries is) in
           inr (Device, refl, (refl, (let f = at.failures in omega (arith, f, rose))), refl))
 
       -- there is room where the device keeps the model
-      pub clean_full_serves : MayNotMakeRoom state old.log new.log → Serves state old new Clean (Refuse Device)
+      pub clean_full_serves : MayNotMakeClean state old.log new.log → Serves state old new Clean (Refuse Device)
       clean_full_serves cannot = ends_by (λ e. cc) (λ e. cc) (λ p keeps at k m0 m is.
           absurd (cannot k m0 m keeps (has_room (lawful old.log.device) low k m0 m is)))
 
   -- ---- the call
   module _ (old : Fs D) (store : Store D) (was : (seen old).log.halted ≡ false) {result : Result (Unit {0}) LogFault}
-      (made : RoomMade state old.store store result) (low : (seen old).log.number < 2 ^ 62)
-      (tells : TellsAtMost state (seen old).log (volume_of store) (room_orders (segments_of (seen old)))) where
+      (made : Reserves state old.store store result) (low : (seen old).log.number < 2 ^ 62)
+      (tells : TellsAtMost state (seen old).log (volume_of store) (clean_orders (segments_of (seen old)))) where
     abbrev new : Fs D
     new = with_store old store
 

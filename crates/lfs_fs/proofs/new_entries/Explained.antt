@@ -1,6 +1,6 @@
 -- What the rule of a new entry takes, and why it takes none, as the model sees it in one state.
 use Rattle.lfs_fs.proofs.Prelude.{◌<◌, not, ◌&&◌, ◌≡◌, ℕ, Bool, false, List, length, Option, Some, None, ◌∙◌, ap, subst, ⊎_elim, arith}
-use Rattle.lfs_fs.proofs.Prelude.{Call, IsName, LogMap, State, FilesState, Last, is_dots, EntryFault, LooksUp, RefusesEntry, TakesEntry}
+use Rattle.lfs_fs.proofs.Prelude.{Call, IsName, LogMap, State, FilesState, Last, is_dots, EntryFault, GivesNumber, RefusesEntry, TakesEntry}
 use Rattle.lfs_fs.proofs.Prelude.{ChecksNew, new_dots, IsReached, dots_is, free_is, full_is, long_is, piece_is, short_is, slash_is}
 use Rattle.lfs_fs.proofs.Prelude.{there_is, holder}
 use Rattle.lfs_model.specs.Step.{is_long}
@@ -23,7 +23,7 @@ module _ {S D : Type 0} (a b : FilesState S D) {N : ℕ} {m : LogMap} {s : State
 
   -- ---- it takes an entry
   module _ (head : Header) (takes : TakesEntry a b d l.name.now l.slash is_mkdir head) where
-    new_looks : LooksUp m d l.name.now head None
+    new_looks : GivesNumber m d l.name.now head None
     new_looks = takes.looks m m keeps has
 
     pub is_taken : IsTaken s p d is_mkdir
@@ -36,7 +36,7 @@ module _ {S D : Type 0} (a b : FilesState S D) {N : ℕ} {m : LogMap} {s : State
     }
 
   -- ---- it takes none
-  looks_at : {found : Option ℕ} (gives : Gives a b d l.name.now found) → LooksUp m d l.name.now gives.head found
+  looks_at : {found : Option ℕ} (gives : Gives a b d l.name.now found) → GivesNumber m d l.name.now gives.head found
   looks_at gives = gives.looks m m keeps has
 
   not_long : {found : Option ℕ} → Gives a b d l.name.now found → is_long s.tree d p ≡ false

@@ -2,7 +2,8 @@
 use Rattle.lfs_fs.proofs.Prelude.{◌<◌, ◌≡◌, ◌≢◌, ◌||◌, ◌&&◌, not, ℕ, Bool, true, false, List, length, Option, Some, None, eqb, refl, sym}
 use Rattle.lfs_fs.proofs.Prelude.{◌∙◌, ap, subst, inl, inr, arith, ◌==◌, eq-eqb, nat_tests, Answer, Done, Refuse, Rename, IsName, LogMap}
 use Rattle.lfs_fs.proofs.Prelude.{Step, name, State, is_dir, links, names, node, FilesState, Last, is_dots, IsChain, here, Object}
-use Rattle.lfs_fs.proofs.Prelude.{EntryFault, Source, Target, is_directory, LooksAt, LooksUp, ChecksRename, HasBothNames, RefusesRename}
+use Rattle.lfs_fs.proofs.Prelude.{EntryFault, Source, Target, is_directory}
+use Rattle.lfs_fs.proofs.Prelude.{GivesObject, GivesNumber, ChecksRename, HasBothNames, RefusesRename}
 use Rattle.lfs_fs.proofs.Prelude.{at_most, not_at_most, IsReached, dots_is, entry_is, free_is, full_is, gives_is, has_piece, holder}
 use Rattle.lfs_fs.proofs.Prelude.{kind_is, last_dots_is, links_are, long_is, piece_is, short_is, slash_is, target_is, there_is, IsRename}
 use Rattle.lfs_fs.proofs.Prelude.{StopsAt, conditions, rename_stops, shape_of}
@@ -14,7 +15,7 @@ use Rattle.lfs_files.specs.Headers.{as_header}
 use Rattle.lfs_entries.specs.declared.fault.EntryFault.TheVariants as fault
 use Rattle.lfs_entries.specs.Renaming.{FindsSource, FindsTarget, GivesName, IsAbove, IsNotAbove, RefusesNext, RefusesSource, of_first}
 use Rattle.lfs_entries.specs.Renaming.{of_second, of_target, of_within}
-use Rattle.lfs_entries.specs.Replacing.{FitsFound, RefusesFound, RefusesReplaced, RefusesRoom}
+use Rattle.lfs_entries.specs.Replacing.{FitsFound, RefusesFound, RefusesReplaced, RefusesFull}
 use Rattle.lfs_fs.proofs.calls.Files.{Explains}
 use Rattle.lfs_steps.proofs.paths.ChainTrees.{above_within, apart_not_within}
 use Rattle.lfs_steps.proofs.paths.LastNames.{piece_is_name}
@@ -63,7 +64,7 @@ module _ {S D : Type 0} (f f' : FilesState S D) {N : ℕ} {m : LogMap} {s : Stat
     abbrev on : Bool
     on = is_directory source.object.header.kind
 
-    looks_a : LooksAt m da l.name.now source.holder (Some source.object)
+    looks_a : GivesObject m da l.name.now source.holder (Some source.object)
     looks_a = finds.looks m m keeps has_map
 
     source_is : NamesSource N s a b da db n on
@@ -90,7 +91,7 @@ module _ {S D : Type 0} (f f' : FilesState S D) {N : ℕ} {m : LogMap} {s : Stat
 
     -- ---- the second may be its name
     module _ {dest : Target} (also : FindsTarget f f' db o.name.now o.slash source.object.header.kind dest) where
-      looks_b : LooksAt m db o.name.now dest.holder dest.replaced
+      looks_b : GivesObject m db o.name.now dest.holder dest.replaced
       looks_b = also.looks m m keeps has_map
 
       may : MayBeNamed N s a b da db on
@@ -101,8 +102,8 @@ module _ {S D : Type 0} (f f' : FilesState S D) {N : ℕ} {m : LogMap} {s : Stat
 
       -- it gives an object
       module _ (r : Object) (some : dest.replaced ≡ Some r) where
-        looks_r : LooksAt m db o.name.now dest.holder (Some r)
-        looks_r = subst (LooksAt m db o.name.now dest.holder) some looks_b
+        looks_r : GivesObject m db o.name.now dest.holder (Some r)
+        looks_r = subst (GivesObject m db o.name.now dest.holder) some looks_b
 
         dest_is : NamesTarget N s a b da db r.number.value (is_directory r.header.kind)
         dest_is = record {
@@ -141,8 +142,8 @@ module _ {S D : Type 0} (f f' : FilesState S D) {N : ℕ} {m : LogMap} {s : Stat
 
       -- it gives none
       module _ (none : dest.replaced ≡ None) where
-        looks_none : LooksUp m db o.name.now dest.holder None
-        looks_none = (subst (LooksAt m db o.name.now dest.holder) none looks_b).looks
+        looks_none : GivesNumber m db o.name.now dest.holder None
+        looks_none = (subst (GivesObject m db o.name.now dest.holder) none looks_b).looks
 
         new : is_there s.tree db b ≡ false
         new = there_is g.second looks_none
@@ -155,7 +156,7 @@ module _ {S D : Type 0} (f f' : FilesState S D) {N : ℕ} {m : LogMap} {s : Stat
 
         module _ (apart : IsNotAbove chain n) where
           room_explained : (rose : Type 0) → source.directory.value ≢ dest.directory.value → (why : EntryFault)
-              → RefusesRoom source.object.header.kind dest.holder why → Explains (Rename a b) N s rose why
+              → RefusesFull source.object.header.kind dest.holder why → Explains (Rename a b) N s rose why
           room_explained rose ne fault.DirFull why = step (stops_full named source_is may new (within_not apart)
               (differs da db (λ same. ne (finds.directory ∙ same ∙ sym also.directory)))
               (full_is g.second dest.holder looks_none.header why))
@@ -275,8 +276,8 @@ module _ {S D : Type 0} (f f' : FilesState S D) {N : ℕ} {m : LogMap} {s : Stat
       shaped = shape_of N g.first.map g.first.headers;
       named_a = first.named;
       named_b = second.named;
-      looks_a = subst (λ (q : ℕ). LooksAt m q l.name.now source.holder (Some source.object)) (sym first.directory) (looks_a first);
-      looks_b = subst (λ (q : ℕ). LooksAt m q o.name.now dest.holder dest.replaced) (sym second.directory) (looks_b first second);
+      looks_a = subst (λ (q : ℕ). GivesObject m q l.name.now source.holder (Some source.object)) (sym first.directory) (looks_a first);
+      looks_b = subst (λ (q : ℕ). GivesObject m q o.name.now dest.holder dest.replaced) (sym second.directory) (looks_b first second);
       apart = checks.other;
       fits = checks.fits;
     }

@@ -2,7 +2,7 @@
 use Rattle.lfs_fs.proofs.Prelude.{◌≡◌, ◌<◌, ◌*◌, ℕ, Bool, true, false, List, [], length, Option, Some, Result, refl, sym, ◌∙◌, ap, nat_lt}
 use Rattle.lfs_fs.proofs.Prelude.{arith, IfErr, IsErrOf, OnOk, unwrap_or, Kind, Done, Refuse, Rmdir, DeviceState, IsLawful, LogMap, Step}
 use Rattle.lfs_fs.proofs.Prelude.{Dir, File, Names, Node, State, is_dir, names_in, names_of, node, slot_len, node_by, FilesState, Store}
-use Rattle.lfs_fs.proofs.Prelude.{files_of, Last, Entry, EntryFault, is_directory, LooksAt, CountsDrop, DraftsDrop, HasOld, FailsWhere}
+use Rattle.lfs_fs.proofs.Prelude.{files_of, Last, Entry, EntryFault, is_directory, GivesObject, CountsDrop, DraftsDrop, HasOld, FailsWhere}
 use Rattle.lfs_fs.proofs.Prelude.{FsError, Fs, error_of_entry, Finishes, Reaches, refusal_of, IsReady, answer_by, seen, Mounted, Serves}
 use Rattle.lfs_fs.proofs.Prelude.{segments_of, MayGo, gone, IsReached, gives_is, has_piece, holder, kind_is, last_dots_is, long_is}
 use Rattle.lfs_fs.proofs.Prelude.{short_is, target_is, there_is, IsShaped, node_by_header}
@@ -27,7 +27,7 @@ use Rattle.lfs_fs.proofs.volume.Map.{shape_of_volume}
 use Rattle.lfs_steps.proofs.volume.Slots.{no_slots, some_names}
 
 module _ {N : ℕ} {m : LogMap} {s : State} {p : List ℕ} {d : ℕ} {l : Last} (g : IsReached N m s p d l) (e : Entry)
-    (looks : LooksAt m d l.name.now e.holder (Some e.object)) (is_kind : e.object.header.kind ≡ kind.Directory) where
+    (looks : GivesObject m d l.name.now e.holder (Some e.object)) (is_kind : e.object.header.kind ≡ kind.Directory) where
   abbrev n : ℕ
   n = e.object.number.value
 
@@ -66,7 +66,7 @@ module _ {N : ℕ} {m : LogMap} {s : State} {p : List ℕ} {d : ℕ} {l : Last} 
 
 module _ {S D : Type 0} {a b : FilesState S D} {N : ℕ} {m : LogMap} {s : State} {p : List ℕ} {d : ℕ} {l : Last} {e : Entry}
     (has : HasEmpty a b d l.name.now e) (g : IsReached N m s p d l) (shaped : IsShaped m)
-    (looks : LooksAt m d l.name.now e.holder (Some e.object)) where
+    (looks : GivesObject m d l.name.now e.holder (Some e.object)) where
   done : Step N s (Rmdir p) Done (gone s p d)
   done = rmdir_done N s p d g.walk (has_piece g) (last_dots_is g ∙ has.finds.named)
       (short_is g e.holder looks.looks.header has.finds.short) (there_is g looks.looks)

@@ -1,7 +1,8 @@
 -- The call unlink as a step of the model: what the rule of an old entry takes, and the name that goes.
 use Rattle.lfs_fs.proofs.Prelude.{◌≡◌, ◌≢◌, ℕ, Bool, true, false, List, Some, Result, refl, sym, ◌∙◌, IfErr, IsErrOf, OnOk, Done, Unlink}
 use Rattle.lfs_fs.proofs.Prelude.{DeviceState, IsLawful, LogMap, Step, State, is_dir, node, opened, FilesState, Store, files_of, Last}
-use Rattle.lfs_fs.proofs.Prelude.{Entry, EntryFault, LooksAt, CountsDrop, DraftsDrop, HasOld, FailsWhere, FsError, Fs, Finishes, Reaches}
+use Rattle.lfs_fs.proofs.Prelude.{Entry, EntryFault, GivesObject, CountsDrop, DraftsDrop}
+use Rattle.lfs_fs.proofs.Prelude.{HasOld, FailsWhere, FsError, Fs, Finishes, Reaches}
 use Rattle.lfs_fs.proofs.Prelude.{IsReady, answer_by, seen, Mounted, Serves, segments_of, MayGo, gone, IsReached, dots_is, gives_is}
 use Rattle.lfs_fs.proofs.Prelude.{kind_is, short_is, slash_is, there_is, IsShaped}
 use Rattle.lfs_model.proofs.Keeps.{unlink_keeps}
@@ -17,7 +18,7 @@ use Rattle.lfs_fs.proofs.volume.Map.{shape_of_volume}
 
 module _ {S D : Type 0} {a b : FilesState S D} {N : ℕ} {m : LogMap} {s : State} {p : List ℕ} {d : ℕ} {l : Last} {e : Entry}
     (has : HasEntry a b d l.name.now l.slash e) (g : IsReached N m s p d l) (shaped : IsShaped m)
-    (looks : LooksAt m d l.name.now e.holder (Some e.object)) where
+    (looks : GivesObject m d l.name.now e.holder (Some e.object)) where
   plain : is_dir (node s.tree e.object.number.value) ≡ false
   plain = kind_is g e.holder looks.looks.header l.name.now (sym looks.looks.gives) e.object.header looks.there
       ∙ plain_so e.object.header.kind has.other

@@ -2,8 +2,8 @@
 use Rattle.lfs_fs.proofs.Prelude.{◌≡◌, ◌<◌, ◌≤◌, ◌+◌, ◌/◌, ◌^◌, ℕ, Bool, true, false, length, Ok, Err, refl, sym, ◌∙◌, ap, subst, inl, inr}
 use Rattle.lfs_fs.proofs.Prelude.{⊎_elim, arith, List, ◌*◌, ◌&&◌, IsTrue, Result, OnOk, IfErr, Call, Answer, Refuse, changes, is_ok}
 use Rattle.lfs_fs.proofs.Prelude.{may_write, takes_no_memory, cleans, never_for_device, CheckpointValue, StandsForOn, DeviceState, IsLawful}
-use Rattle.lfs_fs.proofs.Prelude.{LeavesOnly, LogMap, Handles, State, dropped, carries_then, joined, HaltsLater, MayNotMakeRoom}
-use Rattle.lfs_fs.proofs.Prelude.{most_checkpoints, room_orders, Holds, LogState, Reads, StoreFault, BlockTotals, Order, commit_orders}
+use Rattle.lfs_fs.proofs.Prelude.{LeavesOnly, LogMap, Handles, State, dropped, carries_then, joined, HaltsLater, MayNotMakeClean}
+use Rattle.lfs_fs.proofs.Prelude.{most_checkpoints, clean_orders, Holds, LogState, Reads, StoreFault, BlockTotals, Order, commit_orders}
 use Rattle.lfs_fs.proofs.Prelude.{Accepts, Declines, IsAcceptFault, FsError, Fs, StagesDraft, TellsFew, TurnsDown, need_of, error_of_store}
 use Rattle.lfs_fs.proofs.Prelude.{refusal_of, answer_by, seen, Behaves, CommitsFew, IsIn, IsStill, Mounted, Serves, TellsAtMost}
 use Rattle.lfs_fs.proofs.Prelude.{segments_of, IsMapOf, Step, acknowledges, draft_of, drafted_of, with_draft, AreTotals, Draft, held_still}
@@ -29,7 +29,7 @@ module _ {D : Type 0} (state : D → DeviceState) (old new : Fs D) where
   -- why a draft isn't staged, by the fault of the store
   pub turned_down : (fault : StoreFault) {e : FsError} → e ≡ error_of_store fault → (seen old).log.halted ≡ false
       → (seen old).log.number < 2 ^ 62 → (seen new).log.totals ≡ (seen old).log.totals → TellsFew state (seen old).log (seen new).log
-      → (fault ≡ store.Log log.Full → Turned) → (fault ≡ store.Log log.Full → MayNotMakeRoom state (seen old).log (seen new).log)
+      → (fault ≡ store.Log log.Full → Turned) → (fault ≡ store.Log log.Full → MayNotMakeClean state (seen old).log (seen new).log)
       → (fault ≡ store.NoMemory → Turned) → (fault ≡ store.Log log.Device → Turned)
       → (fault ≡ store.Log log.Device → IsAcceptFault state (seen old).log (seen new).log (draft_of old.store))
       → (fault ≡ store.Log log.Halted → ((seen old).log.halted ≡ true → ⊥)
@@ -50,8 +50,8 @@ abbrev pub with_open : {D : Type 0} → Fs D → Handles → Mounted D
 with_open f table = record { log = (seen f).log; table = table }
 
 module _ {D : Type 0} (state : D → DeviceState) (v : Mounted D) (ready : Fs D) (call : Call) where
-  abbrev HasRoom : Type 0
-  HasRoom = need_of ready ≤ 47 * segments_of v
+  abbrev HasSpace : Type 0
+  HasSpace = need_of ready ≤ 47 * segments_of v
 
   -- What the draft makes of a state: with room the next one, by a step with this answer.
   pub record IsDraft (m : LogMap) (s : State) : Type 0 where
@@ -60,8 +60,8 @@ module _ {D : Type 0} (state : D → DeviceState) (v : Mounted D) (ready : Fs D)
     pub ok : is_ok answer ≡ true
     pub fits : Fits (draft_of ready.store) m
     pub counted : AreTotals (with_draft (draft_of ready.store) m) (drafted_of ready.store)
-    pub map : HasRoom → IsMapOf (segments_of v) (with_draft (draft_of ready.store) m) next
-    pub done : HasRoom → Step (segments_of v) s call answer next
+    pub map : HasSpace → IsMapOf (segments_of v) (with_draft (draft_of ready.store) m) next
+    pub done : HasSpace → Step (segments_of v) s call answer next
     pub lacks : 47 * segments_of v < need_of ready → Step (segments_of v) s call (Refuse refusal.NoSpace) s
 
   abbrev pub AreDrafts : Type 0
@@ -81,8 +81,8 @@ module _ {D : Type 0} (state : D → DeviceState) (lawful : (d : D) → IsLawful
       -- what is told after the reads is told after what was before them
       pub tells_after : TellsFew state b h → TellsFew state a h
       tells_after tells = record {
-        room = told_before (room_orders a.segments)
-            (subst (λ (n : ℕ). TellsAtMost state b h (room_orders n)) reads.segments tells.room);
+        room = told_before (clean_orders a.segments)
+            (subst (λ (n : ℕ). TellsAtMost state b h (clean_orders n)) reads.segments tells.room);
         one_commit = λ clean. told_before commit_orders (tells.one_commit
             (let same = reads.clean in let size = reads.segments in omega (arith, clean, same, size)));
       }
@@ -276,7 +276,7 @@ module _ {D : Type 0} (state : D → DeviceState) (lawful : (d : D) → IsLawful
           let rose = fault_after still.reads (seen new).log d failed k m0 m keeps is.holds fit (map_dropped state (seen new) keeps
           (lawful v.log.device) (lawful (seen new).log.device) (declines_old down.0).carries is) in
           inr (refusal.Device, refl, (free, (let f = at.failures in omega (arith, f, rose))), refl))
-          (λ (cannot : MayNotMakeRoom state (seen ready).log (seen new).log).
+          (λ (cannot : MayNotMakeClean state (seen ready).log (seen new).log).
           absurd (cannot k m0 m keeps (has_room (lawful (seen ready).log.device) down.0.young k m0 m (still_in state still is)))) down.1)
       draft_turned error.Halted down =
           halts_serves v {new = seen new} call was (change_writes call change) table_same

@@ -5,8 +5,8 @@ use Rattle.lfs_steps.proofs.Prelude.{IsWithHeader, IsVersion, IsForm, IsDirector
 use Rattle.lfs_steps.proofs.Prelude.{with_new, Dir, File, Link, Node, State, Tree, byte_cmp, least, links, node, slot_len, with_name}
 use Rattle.lfs_steps.proofs.Prelude.{with_node, map_of, node_by, node_of, object, tree_in, least_free, not_some, starts_one, object_kept}
 use Rattle.lfs_steps.proofs.Prelude.{change_more, node_in, FilesState, IsApart, as_header, relinked, Last, AddsName, grown, slot_for}
-use Rattle.lfs_steps.proofs.Prelude.{LooksUp, links_beside, NewKind, form_of_new, kind_of_new, makes_directory, new_directory, new_file}
-use Rattle.lfs_steps.proofs.Prelude.{new_link, text_of_new, HasRoom}
+use Rattle.lfs_steps.proofs.Prelude.{GivesNumber, links_beside, NewKind, form_of_new, kind_of_new, makes_directory, new_directory, new_file}
+use Rattle.lfs_steps.proofs.Prelude.{new_link, text_of_new, TakesOneMore}
 use Rattle.std.specs.FinMap.{put}
 use Rattle.lfs_model.specs.declared.Kind.TheVariants as kind
 use Rattle.lfs_model.specs.Entry as entry
@@ -64,8 +64,8 @@ pub record Enters (N : ℕ) (m : LogMap) (s : State) (p : List ℕ) (d : ℕ) (l
   pub at : IsReached N m s p d l
   pub shaped : IsShaped m
   pub taken : IsTaken s p d is_mkdir
-  pub looks : LooksUp m d l.name.now head None
-  pub room : HasRoom head
+  pub looks : GivesNumber m d l.name.now head None
+  pub room : TakesOneMore head
 
 module _ {N : ℕ} {m : LogMap} {s : State} {p : List ℕ} {d : ℕ} {l : Last} {is_mkdir : Bool} {head : Header}
     (g : Enters N m s p d l is_mkdir head) where

@@ -2,7 +2,7 @@
 use Rattle.lfs_steps.proofs.Prelude.{◌≡◌, ◌≢◌, ◌<◌, ◌+◌, ◌-◌, ℕ, Bool, true, false, List, [], Some, refl, sym, ◌∙◌, ap, subst, inr, arith}
 use Rattle.lfs_steps.proofs.Prelude.{if◌then◌else◌, Call, Done, one_if, Sound, LogMap, Step, name, State, Tree, is_dir, names_in, node}
 use Rattle.lfs_steps.proofs.Prelude.{opened, slot_len, named_counts, FilesState, IsApart, FitsHeader, as_header, Last, is_directory}
-use Rattle.lfs_steps.proofs.Prelude.{LooksAt}
+use Rattle.lfs_steps.proofs.Prelude.{GivesObject}
 use Rattle.lfs_model.specs.Tree.{links as links_of}
 use Rattle.lfs_files.specs.declared.header.Header.{Header}
 use Rattle.lfs_path.specs.dirs.Taking.{TakesName}
@@ -25,7 +25,7 @@ use Rattle.lfs_steps.proofs.volume.Nodes.{IsMapOf, IsShaped}
 pub record MayGo (N : ℕ) (m : LogMap) (s : State) (p : List ℕ) (d : ℕ) (l : Last) (e : Entry) (call : Call) : Type 0 where
   pub reached : IsReached N m s p d l
   pub shaped : IsShaped m
-  pub looks : LooksAt m d l.name.now e.holder (Some e.object)
+  pub looks : GivesObject m d l.name.now e.holder (Some e.object)
   pub empty : names_in s.tree e.object.number.value ≡ []
   pub done : Step N s call Done (gone s p d)
   pub sound : Sound N (gone s p d)

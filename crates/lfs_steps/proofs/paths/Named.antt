@@ -3,7 +3,8 @@ use Rattle.lfs_steps.proofs.Prelude.{◌≡◌, ◌≤◌, ◌<◌, ◌+◌, ◌
 use Rattle.lfs_steps.proofs.Prelude.{nat_lt, arith, refl, is_some, unwrap_or, T, find, is_sorted, Kind, LAST_NUMBER, AreBytes, IsHeaderOf}
 use Rattle.lfs_steps.proofs.Prelude.{slash, LogMap, gives_dir, is_full, is_long, is_there, last_dots, name, no_last, target, Dir, State}
 use Rattle.lfs_steps.proofs.Prelude.{Tree, byte_cmp, entry, form_of, is_dir, links, name_len, names_in, node, slot_len, without_name}
-use Rattle.lfs_steps.proofs.Prelude.{node_by, At, Parent, parent_dir, dir_at, as_header, names_at, Last, is_directory, LooksUp, HasRoom}
+use Rattle.lfs_steps.proofs.Prelude.{node_by, At, Parent, parent_dir, dir_at}
+use Rattle.lfs_steps.proofs.Prelude.{as_header, names_at, Last, is_directory, GivesNumber, TakesOneMore}
 use Rattle.lfs_model.specs.declared.Kind.TheVariants as kinds
 use Rattle.lfs_model.specs.declared.limits.TheConstants.{MOST_ENTRIES}
 use Rattle.lfs_model.specs.Entry as entries
@@ -14,7 +15,7 @@ use Rattle.lfs_path.specs.Laws.{SaysLast}
 use Rattle.lfs_path.specs.Pieces.{is_dots}
 use Rattle.lfs_path.specs.Seeing.{HasHeader}
 use Rattle.lfs_path.proofs.LastPieces.{last_says}
-use Rattle.lfs_entries.specs.Looking.{IsHolder}
+use Rattle.lfs_entries.specs.Finding.{IsHolder}
 use Rattle.lfs_entries.specs.Sizes.{IsSmall}
 use Rattle.lfs_steps.proofs.calls.Checks.{below, not_below}
 use Rattle.lfs_steps.proofs.volume.Nodes.{IsMapOf, dir_there, no_header_none, node_by_header}
@@ -93,7 +94,7 @@ module _ {N : ℕ} {m : LogMap} {s : State} {p : List ℕ} {d : ℕ} {l : Last} 
     pub full_is : (MOST_ENTRIES - 1) * slot_len head.form < head.size → is_full s.tree d ≡ true
     full_is large = full_directory N m s g.map d dir head there fits_d large
 
-    pub free_is : HasRoom head → is_full s.tree d ≡ false
+    pub free_is : TakesOneMore head → is_full s.tree d ≡ false
     free_is small = free_directory N m s g.map d dir head there fits_d small
 
     -- what a name gives is there
@@ -137,7 +138,7 @@ module _ {N : ℕ} {m : LogMap} {s : State} {p : List ℕ} {d : ℕ} {l : Last} 
   }
 
   -- ---- what the piece gives
-  module _ {head : Header} {found : Option ℕ} (looks : LooksUp m d l.name.now head found) where
+  module _ {head : Header} {found : Option ℕ} (looks : GivesNumber m d l.name.now head found) where
     pub entry_is : entry s.tree d (name p) ≡ found
     entry_is = ap (entry s.tree d) piece_is ∙ entry_in_directory N m s g.map d dir head looks.header l.name.now ∙ sym looks.gives
 
@@ -147,6 +148,6 @@ module _ {N : ℕ} {m : LogMap} {s : State} {p : List ℕ} {d : ℕ} {l : Last} 
     pub target_is : target s.tree d p ≡ unwrap_or found 0
     target_is = ap (λ (o : Option ℕ). unwrap_or o 0) entry_is
 
-  module _ {head : Header} {n : ℕ} (looks : LooksUp m d l.name.now head (Some n)) (h : Header) (at : HasHeader n h m) where
+  module _ {head : Header} {n : ℕ} (looks : GivesNumber m d l.name.now head (Some n)) (h : Header) (at : HasHeader n h m) where
     pub gives_is : gives_dir s.tree d p ≡ is_directory h.kind
     gives_is = ap (λ (q : ℕ). is_dir (node s.tree q)) (target_is looks) ∙ kind_is head looks.header l.name.now (sym looks.gives) h at

@@ -11,7 +11,7 @@ use Rattle.lfs_steps.proofs.Prelude.{sym, ◌∙◌, ap, arith, ◌∷◌, ◌<�
 use Rattle.lfs_steps.proofs.Prelude.{is_none, eq-eqb, nat_tests, is_sorted, AreArguments, Done, Rename, one_if, LogMap, Step, is_there}
 use Rattle.lfs_steps.proofs.Prelude.{let_go, name, target, with_tree, Dir, State, Tree, byte_cmp, form_of, is_dir, links, names, names_in}
 use Rattle.lfs_steps.proofs.Prelude.{node, with_name, without_name, tree_in, dir_at, named_counts, as_header, Last, Object, Source, Target}
-use Rattle.lfs_steps.proofs.Prelude.{is_directory, LooksAt, fewer_links, more_links, GivesName, FitsFound}
+use Rattle.lfs_steps.proofs.Prelude.{is_directory, GivesObject, fewer_links, more_links, GivesName, FitsFound}
 use Rattle.lfs_model.specs.Entry as entry
 use Rattle.lfs_model.specs.Tree.{Names, entry as entry_in}
 use Rattle.lfs_model.proofs.KeepsNames.{rename_keeps}
@@ -52,8 +52,8 @@ pub record IsRename (N : ℕ) (m : LogMap) (s : State) (a b : List ℕ) (l o : L
   pub shaped : IsShaped m
   pub named_a : source.name.now ≡ l.name.now
   pub named_b : dest.name.now ≡ o.name.now
-  pub looks_a : LooksAt m source.directory.value l.name.now source.holder (Some source.object)
-  pub looks_b : LooksAt m dest.directory.value o.name.now dest.holder dest.replaced
+  pub looks_a : GivesObject m source.directory.value l.name.now source.holder (Some source.object)
+  pub looks_b : GivesObject m dest.directory.value o.name.now dest.holder dest.replaced
   pub apart : GivesName dest.replaced source.object.number.value ≡ false
   pub fits : FitsTarget source dest
 
@@ -209,7 +209,7 @@ module _ {N : ℕ} {m : LogMap} {s : State} {a b : List ℕ} {l o : Last} {sourc
     free_moving = record { kept = g.shaped; has_a = holder_a; has_b = holder_b; drafts = drafts }
 
     absent : entry_in s.tree db (name b) ≡ None
-    absent = entry_is g.second (subst (LooksAt m db o.name.now head_b) none looks_b).looks
+    absent = entry_is g.second (subst (GivesObject m db o.name.now head_b) none looks_b).looks
 
     free_named : IsNamed m4 m5 db n (second_after da db head_a head_b la lb) (name b)
     free_named = named_new free_moving new
@@ -265,8 +265,8 @@ module _ {N : ℕ} {m : LogMap} {s : State} {a b : List ℕ} {l o : Last} {sourc
     abbrev h : entry.Header
     h = as_header r.header
 
-    pub looks_o : LooksAt m db o.name.now head_b (Some r)
-    looks_o = subst (LooksAt m db o.name.now head_b) some looks_b
+    pub looks_o : GivesObject m db o.name.now head_b (Some r)
+    looks_o = subst (GivesObject m db o.name.now head_b) some looks_b
 
     there : entry_in s.tree db (name b) ≡ Some old
     there = entry_is g.second looks_o.looks

@@ -1,10 +1,10 @@
 use Rattle.std.proofs.Common.{rules, inr, refl, sym, ◌∙◌, arith}
 use Rattle.lfs_log.proofs.LogReads.{whole_count}
 use Rattle.lfs_cleaner.proofs.Onces.{fails_pass, keeps_due, lacks_pass, once_behind, once_told}
-use Rattle.lfs_cleaner.proofs.Rooms.{halts_at_once}
-use Rattle.lfs_cleaner.proofs.RoomBounds.{fails_after, halts_after, halts_first, lacks_after, lacks_commit, makes_after, makes_none}
-use Rattle.lfs_cleaner.proofs.RoomBounds.{on_success}
-use Rattle.lfs_cleaner.proofs.RoomBounds.{full_else}
+use Rattle.lfs_cleaner.proofs.CleanEnds.{halts_at_once}
+use Rattle.lfs_cleaner.proofs.CleanBounds.{fails_after, halts_after, halts_first, lacks_after, lacks_commit, makes_after, makes_none}
+use Rattle.lfs_cleaner.proofs.CleanBounds.{on_success}
+use Rattle.lfs_cleaner.proofs.CleanBounds.{full_else}
 use Rattle.lfs_cleaner.proofs.once.clean_once.Goals as goal
 
 pub returns-then-has_quarter-clause-done : goal.returns-then-has_quarter-clause-done

@@ -1,18 +1,18 @@
 use Rattle.std.proofs.Common.{ap, inl, inr}
-use Rattle.lfs_recover.proofs.scripts.Used.{err_of, ok_of, told_goes_on}
+use Rattle.lfs_script.proofs.Used.{err_of, ok_of, told_goes_on}
 use Rattle.lfs_command.proofs.commands.play.Goals as goal
 
 pub returns-in-Ok-default-clause-plays : goal.returns-in-Ok-default-clause-plays
 returns-in-Ok-default-clause-plays g c = inl (record {
   end = c.in-Ok-default.used.script;
   printed = _;
-  session = ok_of _ c.in-Ok-default.is-0 c.use_volume_told.ensures.ran;
+  session = ok_of _ c.in-Ok-default.is-0 c.use_volume_noted.ensures.ran;
   kept = c.end_plain-end.ensures.kept;
 })
 
 pub returns-in-Err-default-clause-plays : goal.returns-in-Err-default-clause-plays
 returns-in-Err-default-clause-plays g c =
-    let unused = err_of _ c.in-Err-default.is-0 c.use_volume_told.ensures.refused in
+    let unused = err_of _ c.in-Err-default.is-0 c.use_volume_noted.ensures.refused in
     inr (record {
       fault = c.in-Err-default.fault;
       reason = unused.reason;
@@ -22,11 +22,11 @@ returns-in-Err-default-clause-plays g c =
 
 pub returns-in-Ok-default-clause-saved : goal.returns-in-Ok-default-clause-saved
 returns-in-Ok-default-clause-saved g c =
-    inl (c.in-Ok-default.used.script, _, ok_of _ c.in-Ok-default.is-0 c.use_volume_told.ensures.saved)
+    inl (c.in-Ok-default.used.script, _, ok_of _ c.in-Ok-default.is-0 c.use_volume_noted.ensures.saved)
 
 pub returns-in-Err-default-clause-saved : goal.returns-in-Err-default-clause-saved
 returns-in-Err-default-clause-saved g c =
-    let unused = err_of _ c.in-Err-default.is-0 c.use_volume_told.ensures.refused in
+    let unused = err_of _ c.in-Err-default.is-0 c.use_volume_noted.ensures.refused in
     inr (record {
       fault = c.in-Err-default.fault;
       reason = unused.reason;
@@ -36,4 +36,4 @@ returns-in-Err-default-clause-saved g c =
 
 pub end_plain-end-requires : goal.end_plain-end-requires
 end_plain-end-requires g c =
-    record { plain = λ is. told_goes_on _ _ _ _ _ _ _ _ _ is (ok_of _ c.in-Ok-default.is-0 c.use_volume_told.ensures.ran) }
+    record { plain = λ is. told_goes_on _ _ _ _ _ _ _ _ _ is (ok_of _ c.in-Ok-default.is-0 c.use_volume_noted.ensures.ran) }

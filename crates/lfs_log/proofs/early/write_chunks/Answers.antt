@@ -2,7 +2,7 @@ use Rattle.std.proofs.Common.{rules, ◌<◌, ◌≤◌, inl, inr, length, refl,
 use Rattle.lfs_memory.specs.segments.Table.{clean_in}
 use Rattle.lfs_memory.specs.inodes.Data.{data_count}
 use Rattle.lfs_memory.specs.declared.memory.LogMemory.{LogMemory}
-use Rattle.lfs_memory.proofs.Going.{on_err, stops_then, has_room_still}
+use Rattle.lfs_memory.proofs.Going.{on_err, stops_then, holds_volume_still}
 use Rattle.lfs_log.specs.Early.{full_chunk}
 use Rattle.lfs_log.specs.Thresholds.{reserve_of}
 use Rattle.lfs_log.proofs.EarlyBlocks.{chunks_none, chunks_more}
@@ -20,7 +20,7 @@ write_chunk-requires-clause-memory g c = c.loop-memory.invariant.chunks.goes.1.m
 
 pub write_chunk-requires-clause-size : goal.write_chunk-requires-clause-size
 write_chunk-requires-clause-size g c =
-    has_room_still c.loop-memory.invariant.chunks.goes.1 c.requires.size
+    holds_volume_still c.loop-memory.invariant.chunks.goes.1 c.requires.size
 
 pub write_chunk-requires-clause-closed : goal.write_chunk-requires-clause-closed
 write_chunk-requires-clause-closed g c = c.loop-memory.invariant.chunks.closed

@@ -1,6 +1,6 @@
 use Rattle.std.proofs.Common.{refl, ◌∙◌, arith}
 use Rattle.lfs_log.proofs.placing.save_files.Goals as goal
-use Rattle.lfs_memory.proofs.Going.{has_room_still}
+use Rattle.lfs_memory.proofs.Going.{holds_volume_still}
 use Rattle.lfs_log.proofs.SavedBlocks.{saves_at_most, saves_none, saves_then, saving_at_most, saving_done, saving_failed, stops_behind}
 
 -- src/placing.rt:103:5
@@ -19,7 +19,7 @@ save_block-requires-clause-memory g c = c.loop-key.invariant.saves.goes.memory
 -- src/placing.rt:104:9
 pub save_block-requires-clause-size : goal.save_block-requires-clause-size
 save_block-requires-clause-size g c =
-    has_room_still c.loop-key.invariant.saves.goes c.requires.size
+    holds_volume_still c.loop-key.invariant.saves.goes c.requires.size
 
 -- src/placing.rt:104:9
 pub save_block-requires-clause-room : goal.save_block-requires-clause-room

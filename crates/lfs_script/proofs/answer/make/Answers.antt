@@ -4,8 +4,8 @@ use Rattle.lfs_model.specs.Call as model
 use Rattle.lfs_model.specs.Device.{DeviceState}
 use Rattle.lfs_model.specs.Script.{call_of}
 use Rattle.lfs_fs.specs.Volume.{Mounted, Serves}
-use Rattle.lfs_script.specs.Calls.{line_for}
-use Rattle.lfs_script.specs.declared.call.Call.{Call}
+use Rattle.lfs_lines.specs.Calls.{line_for}
+use Rattle.lfs_lines.specs.declared.call.Call.{Call}
 use Rattle.lfs_script.proofs.answer.make.Goals as goal
 
 -- what serves a call serves the line that is this call

@@ -1,6 +1,6 @@
 use Rattle.std.proofs.Common.{rules, ◌≡◌, Err, inl, refl}
-use Rattle.lfs_script.specs.Calls.{line_for}
-use Rattle.lfs_script.specs.declared.word.WordFault.TheVariants.{Memory, Spelling}
+use Rattle.lfs_lines.specs.Calls.{line_for}
+use Rattle.lfs_words.specs.declared.word.WordFault.TheVariants.{Memory, Spelling}
 use Rattle.lfs_script.proofs.ScriptTurns.{called_text, unknown_is_bad, without_memory}
 use Rattle.lfs_script.proofs.script.answer_line.Goals as goal
 

@@ -6,8 +6,8 @@ returns-then-is_empty g c = finish_none g.D.SectorDevice.state c.args.strict _ _
 
 pub returns-in-Some : goal.returns-in-Some
 returns-in-Some g c = finish_end g.D.SectorDevice.state c.args.strict c.in-Some.end _ _ _ c.args.count _
-    c.if-is_empty.ensures c.in-Some.ensures.turns c.turn.ensures.looks
+    c.if-is_empty.ensures c.in-Some.ensures.turns c.turn.ensures.glances
 
 pub returns-in-None : goal.returns-in-None
 returns-in-None g c = finish_done g.D.SectorDevice.state c.args.strict _ _ _ c.args.count _ c.if-is_empty.ensures
-    c.in-None.ensures.turns c.turn.ensures.looks
+    c.in-None.ensures.turns c.turn.ensures.glances

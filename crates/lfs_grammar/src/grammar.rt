@@ -1,0 +1,566 @@
+//! The command line as `clap` reads it, with its help: a row for each command.
+use clap::builder::ValueParser;
+use clap::{Arg, ArgAction, Command};
+use std::alloc::{AllocError, Global};
+
+/// A command of the program.
+#[derive(Clone, Copy)]
+pub enum Verb {
+    Mkfs,
+    Check,
+    Mount,
+    Run,
+    Sim,
+    Ls,
+    Tree,
+    Cat,
+    Get,
+    Put,
+    Rm,
+    Mv,
+    Mkdir,
+    Clean,
+    Upgrade,
+    Df,
+    Info,
+    Export,
+    Recover,
+}
+
+/// How a parameter is given.
+#[derive(Clone, Copy)]
+enum Form<'a> {
+    /// A word in its place.
+    Word,
+    /// A word in its place, which may be left out.
+    OptionalWord,
+    /// An option with a value, which has to be given.
+    Value,
+    /// An option with a value, which may be left out.
+    OptionalValue,
+    /// An option with one of these values, which has to be given.
+    Choice(&'a [&'a str]),
+    /// An option with one of these values, which may be left out.
+    OptionalChoice(&'a [&'a str]),
+    /// An option without a value.
+    Switch,
+    /// An option without a value that has a letter too, and isn't given beside another one.
+    Letter(char, &'a str),
+    /// An option without a value that has a letter too.
+    Lettered(char),
+}
+
+/// A parameter of a command.
+#[derive(Clone, Copy)]
+struct Parameter<'a> {
+    name: &'a str,
+    form: Form<'a>,
+    /// What help calls its value.
+    value: &'a str,
+    help: &'a str,
+}
+
+/// A command as help shows it.
+#[derive(Clone, Copy)]
+struct Usage<'a> {
+    verb: Verb,
+    name: &'a str,
+    /// A line for the list of commands.
+    about: &'a str,
+    /// What its own help says.
+    details: &'a str,
+    parameters: &'a [Parameter<'a>],
+}
+
+pub const IMAGE: &str = "IMAGE";
+
+pub const PATH: &str = "PATH";
+
+pub const FILE: &str = "FILE";
+
+pub const FOLDER: &str = "FOLDER";
+
+pub const FROM: &str = "FROM";
+
+pub const TO: &str = "TO";
+
+pub const SEGMENTS: &str = "segments";
+
+pub const PASSES: &str = "passes";
+
+pub const FORMAT: &str = "format";
+
+pub const FIRST_FORMAT: &str = "1";
+
+pub const SECOND_FORMAT: &str = "2";
+
+pub const FORCE: &str = "force";
+
+pub const RESERVE: &str = "reserve";
+
+pub const STRICT: &str = "strict";
+
+pub const LONG: &str = "long";
+
+pub const NULL: &str = "null";
+
+pub const STOP: &str = "stop";
+
+pub const LEFT: &str = "left";
+
+pub const VERBOSE: &str = "verbose";
+
+pub const WAIT: &str = "wait";
+
+pub const CHECKPOINT: &str = "checkpoint";
+
+/// The word of the checkpoint before the newest.
+pub const OLDER: &str = "older";
+
+/// The words of the versions of the layout.
+const FORMATS: &[&str] = &[FIRST_FORMAT, SECOND_FORMAT];
+
+const VERSION: &str = "0.1.0";
+
+const ABOUT: &str = "A log-structured file system in an image file or on a block device";
+
+const THE_IMAGE: Parameter = Parameter {
+    name: IMAGE,
+    form: Form::Word,
+    value: IMAGE,
+    help: "The image file or block device that holds the volume",
+};
+
+const THE_PATH: Parameter = Parameter {
+    name: PATH,
+    form: Form::Word,
+    value: PATH,
+    help: "A path in the volume; with a backslash, a script's word",
+};
+
+const A_PATH: Parameter = Parameter {
+    name: PATH,
+    form: Form::OptionalWord,
+    value: PATH,
+    help: "A path in the volume, or else the root",
+};
+
+const FROM_PATH: Parameter = Parameter {
+    name: FROM,
+    form: Form::Word,
+    value: FROM,
+    help: "The path that is there",
+};
+
+const TO_PATH: Parameter = Parameter {
+    name: TO,
+    form: Form::Word,
+    value: TO,
+    help: "The path that it gets, not that of a folder to put it in",
+};
+
+const TO_FILE: Parameter = Parameter {
+    name: FILE,
+    form: Form::OptionalWord,
+    value: FILE,
+    help: "A file to make on the host, or else standard output",
+};
+
+const OF_FILE: Parameter = Parameter {
+    name: FILE,
+    form: Form::OptionalWord,
+    value: FILE,
+    help: "A file of the host, or - for standard input",
+};
+
+const TO_FOLDER: Parameter = Parameter {
+    name: FOLDER,
+    form: Form::Word,
+    value: FOLDER,
+    help: "The folder to make on the host",
+};
+
+const LONG_LINES: Parameter = Parameter {
+    name: LONG,
+    form: Form::Letter('l', NULL),
+    value: "",
+    help: "Print the kind, the size and the links too, and a total",
+};
+
+const RAW_NAMES: Parameter = Parameter {
+    name: NULL,
+    form: Form::Letter('0', LONG),
+    value: "",
+    help: "Print names as they are, a zero byte behind each",
+};
+
+const THE_SEGMENTS: Parameter = Parameter {
+    name: SEGMENTS,
+    form: Form::Value,
+    value: "N",
+    help: "How many segments of 32 KiB: 64 to 1024, a multiple of 8",
+};
+
+const THE_PASSES: Parameter = Parameter {
+    name: PASSES,
+    form: Form::OptionalValue,
+    value: "N",
+    help: "How many passes of the cleaner are made at most",
+};
+
+const THE_FORMAT: Parameter = Parameter {
+    name: FORMAT,
+    form: Form::OptionalChoice(FORMATS),
+    value: "F",
+    help: "The version of its layout, or else 1; in 2 names have up to 123 bytes",
+};
+
+const BY_FORCE: Parameter = Parameter {
+    name: FORCE,
+    form: Form::Switch,
+    value: "",
+    help: "Ask nothing, and format IMAGE also where it is a block device",
+};
+
+const WITH_ROOM: Parameter = Parameter {
+    name: RESERVE,
+    form: Form::Switch,
+    value: "",
+    help: "Write every sector first, so that there is room for it",
+};
+
+const STRICTLY: Parameter = Parameter {
+    name: STRICT,
+    form: Form::Switch,
+    value: "",
+    help: "End with status 3 at the first reply that is `err`",
+};
+
+const THE_STOP: Parameter = Parameter {
+    name: STOP,
+    form: Form::Value,
+    value: "K",
+    help: "The write, from 0, within which the device stops",
+};
+
+const WHAT_IS_LEFT: Parameter = Parameter {
+    name: LEFT,
+    form: Form::Choice(&["old", "new", "bad"]),
+    value: "WHAT",
+    help: "What stays of sectors that aren't synced",
+};
+
+const IN_WORDS: Parameter = Parameter {
+    name: VERBOSE,
+    form: Form::Lettered('v'),
+    value: "",
+    help: "Say in words where the volume is damaged, and what else is odd",
+};
+
+const WAITING: Parameter = Parameter {
+    name: WAIT,
+    form: Form::Switch,
+    value: "",
+    help: "Wait until no other program writes IMAGE",
+};
+
+const WHICH_CHECKPOINT: Parameter = Parameter {
+    name: CHECKPOINT,
+    form: Form::OptionalChoice(&[OLDER]),
+    value: "WHICH",
+    help: "Begin with the checkpoint before the newest",
+};
+
+const VOLUME_USAGES: &[Usage] = &[
+    Usage {
+        verb: Verb::Mkfs,
+        name: "mkfs",
+        about: "Make an empty volume",
+        details: "Make an empty volume. A new file gets its name once it is whole. A file that is\n\
+            there is emptied: at a terminal, if it has bytes, only where the answer to a\n\
+            question is yes, or with --force. A block device keeps its length, and is\n\
+            formatted only with --force, and only while it isn't mounted. An image in a\n\
+            file is sparse without --reserve, so that a full disk shows only as the image\n\
+            is written.",
+        parameters: &[THE_IMAGE, THE_SEGMENTS, THE_FORMAT, BY_FORCE, WITH_ROOM],
+    },
+    Usage {
+        verb: Verb::Check,
+        name: "check",
+        about: "Check the whole volume, and print its segments and space",
+        details: "Check the whole volume, and print `ok N DATA META NEED LIMIT`: its segments, the\n\
+            blocks of data of its files, their inodes and blocks of pointers, the blocks\n\
+            that the tree needs, and the most that it may need. With -v further lines say\n\
+            where a damaged volume fails, and name a slot without a checkpoint and what an\n\
+            unfinished `put` left.",
+        parameters: &[THE_IMAGE, IN_WORDS, WAITING],
+    },
+    Usage {
+        verb: Verb::Mount,
+        name: "mount",
+        about: "Print the tree as a script's reply",
+        details: "Check the whole volume, and print its tree as the reply to the line `tree` of a\n\
+            script. Nothing is written.",
+        parameters: &[THE_IMAGE, WAITING],
+    },
+    Usage {
+        verb: Verb::Run,
+        name: "run",
+        about: "Run the script on standard input, and print a reply to each line",
+        details: "Run the script on standard input, and print a reply to each line. The image is\n\
+            locked meanwhile. What the script doesn't sync may be gone at its end; a last\n\
+            line on standard error says so then.",
+        parameters: &[THE_IMAGE, STRICTLY],
+    },
+    Usage {
+        verb: Verb::Sim,
+        name: "sim",
+        about: "Run a script on a volume in memory that stops, and print what is left",
+        details: "Run the script on standard input on a new volume in memory, whose device stops\n\
+            within write K, and print the number of writes and the tree that a mount finds\n\
+            then.",
+        parameters: &[THE_SEGMENTS, THE_FORMAT, THE_STOP, WHAT_IS_LEFT],
+    },
+    Usage {
+        verb: Verb::Ls,
+        name: "ls",
+        about: "Print the names in a directory, or in the root",
+        details: "Print the names in a directory, one a line, as words of the script language, a\n\
+            directory's with a slash behind it. Of anything else the path itself is printed.\n\
+            With -l the kind, the size in bytes and the number of links stand before the\n\
+            name, and a total behind all. With -0 each name is as it is, with a zero byte\n\
+            behind it, as `xargs -0` takes it.",
+        parameters: &[THE_IMAGE, A_PATH, LONG_LINES, RAW_NAMES, WAITING],
+    },
+    Usage {
+        verb: Verb::Tree,
+        name: "tree",
+        about: "Print the tree for people, with sizes in bytes",
+        details: "Print the tree below PATH for people: a line for each name, indented below its\n\
+            directory, with the size in bytes.",
+        parameters: &[THE_IMAGE, A_PATH, WAITING],
+    },
+    Usage {
+        verb: Verb::Cat,
+        name: "cat",
+        about: "Print the bytes of a file",
+        details: "Print the bytes of a file. Where the device fails behind the first bytes, the\n\
+            command ends with status 1 and prints no line with `err`.",
+        parameters: &[THE_IMAGE, THE_PATH, WAITING],
+    },
+];
+
+/// Commands that bring files in and out, change them, or tell of the volume.
+const FILE_USAGES: &[Usage] = &[
+    Usage {
+        verb: Verb::Get,
+        name: "get",
+        about: "Copy a file out of the volume",
+        details: "Copy the bytes of the file PATH to a new file of the host, and print `ok` and\n\
+            their number. Nothing that is there is written over. The copy stands as\n\
+            FILE.lfs-get until it is whole. Without FILE the bytes are printed, as by `cat`.",
+        parameters: &[THE_IMAGE, THE_PATH, TO_FILE, WAITING],
+    },
+    Usage {
+        verb: Verb::Put,
+        name: "put",
+        about: "Make a file of standard input, or of a file of the host",
+        details: "Make the bytes of FILE, or of standard input, those of the file PATH, and print\n\
+            `ok` and their number. Without FILE standard input has to have a byte and to be\n\
+            no terminal; ./- is a file with the name -. The new file stands as `.lfs-put` in\n\
+            the same directory until it is whole and synced, and then takes the place of the\n\
+            old one: after any stop the old file or the new one is there. What stood as\n\
+            `.lfs-put` is removed. Of a symbolic link the link itself is replaced; a\n\
+            directory is refused.",
+        parameters: &[THE_IMAGE, THE_PATH, OF_FILE],
+    },
+    Usage {
+        verb: Verb::Rm,
+        name: "rm",
+        about: "Remove a file, a link or an empty directory",
+        details: "Remove the file, the symbolic link or the empty directory at PATH, and print\n\
+            `ok` once that is synced. A link that ends PATH is removed itself.",
+        parameters: &[THE_IMAGE, THE_PATH],
+    },
+    Usage {
+        verb: Verb::Mv,
+        name: "mv",
+        about: "Rename a file, a link or a directory",
+        details: "Give what stands at FROM the path TO, and print `ok` once that is synced. What\n\
+            stood at TO is replaced, but for a directory with entries.",
+        parameters: &[THE_IMAGE, FROM_PATH, TO_PATH],
+    },
+    Usage {
+        verb: Verb::Mkdir,
+        name: "mkdir",
+        about: "Make an empty directory",
+        details: "Make an empty directory at PATH, and print `ok` once that is synced.",
+        parameters: &[THE_IMAGE, THE_PATH],
+    },
+    Usage {
+        verb: Verb::Clean,
+        name: "clean",
+        about: "Clean segments until a quarter of them is clean",
+        details: "Clean segments until a quarter of them is clean, and print `ok`. The tree stays\n\
+            as it is, and so does the space that is free. With --passes a smaller part of the\n\
+            segments may be clean at the end.",
+        parameters: &[THE_IMAGE, THE_PASSES],
+    },
+    Usage {
+        verb: Verb::Upgrade,
+        name: "upgrade",
+        about: "Give the volume the layout of format 2",
+        details: "Give the volume the layout of format 2, and print `ok` once that is synced. Its\n\
+            tree stays as it is. In directories that are made from then on names have up to\n\
+            123 bytes; the line `widen` of a script lets an older one have them. A volume of\n\
+            format 2 stays as it is. No command makes one of format 1 of it again.",
+        parameters: &[THE_IMAGE],
+    },
+    Usage {
+        verb: Verb::Df,
+        name: "df",
+        about: "Print how much of the volume is used and free",
+        details: "Print the size of the volume, the bytes of its files, and the bytes of the\n\
+            largest new file that the root has room for.",
+        parameters: &[THE_IMAGE, WAITING],
+    },
+    Usage {
+        verb: Verb::Info,
+        name: "info",
+        about: "Print what the volume is, and how full each segment is",
+        details: "Print the number of the newest checkpoint, the segments and the space, and a\n\
+            picture with a sign for each segment: a dot for one with no live block, else 1\n\
+            to 9 for up to 7 to 63 of them.",
+        parameters: &[THE_IMAGE, WAITING],
+    },
+    Usage {
+        verb: Verb::Export,
+        name: "export",
+        about: "Copy the whole tree out of the volume",
+        details: "Copy the whole tree into a new folder of the host, symbolic links as links, and\n\
+            print `ok`, the number of files and that of their bytes. A name that the host\n\
+            can't have, or that isn't UTF-8, is left out with all that is below it: a line\n\
+            `omitted` names it, and the status is 1. The folder stands as FOLDER.lfs-export\n\
+            until it is whole.",
+        parameters: &[THE_IMAGE, TO_FOLDER, WAITING],
+    },
+    Usage {
+        verb: Verb::Recover,
+        name: "recover",
+        about: "Copy what a damaged volume still holds",
+        details: "Copy what a damaged volume still holds into a new folder of the host.\n\
+            Nothing is written to the volume. A line `part` names a file that lacks blocks,\n\
+            with a line for each behind it. What no name leads to goes to `lost+found`\n\
+            under its number. The last line has how many files are whole, and how many are\n\
+            there in part.",
+        parameters: &[THE_IMAGE, TO_FOLDER, WHICH_CHECKPOINT],
+    },
+];
+
+fn argument<'a>(alloc: Global, parameter: Parameter<'a>) -> Result<Arg<'a>, AllocError> {
+    let argument = Arg::new(alloc, parameter.name).help(parameter.help);
+    match parameter.form {
+        Form::Word => Ok(argument.required(true).action(ArgAction::Set)),
+        Form::OptionalWord => Ok(argument.action(ArgAction::Set)),
+        Form::Value => Ok(
+            argument
+                .long(parameter.name)
+                .value_name(parameter.value)
+                .required(true)
+                .action(ArgAction::Set),
+        ),
+        Form::OptionalValue => Ok(
+            argument
+                .long(parameter.name)
+                .value_name(parameter.value)
+                .action(ArgAction::Set),
+        ),
+        Form::Choice(values) => Ok(
+            argument
+                .long(parameter.name)
+                .value_name(parameter.value)
+                .value_parser(ValueParser::Names(values))
+                .required(true)
+                .action(ArgAction::Set),
+        ),
+        Form::OptionalChoice(values) => Ok(
+            argument
+                .long(parameter.name)
+                .value_name(parameter.value)
+                .value_parser(ValueParser::Names(values))
+                .action(ArgAction::Set),
+        ),
+        Form::Switch => Ok(argument.long(parameter.name).action(ArgAction::SetTrue)),
+        Form::Letter(letter, other) => argument
+            .short(letter)
+            .long(parameter.name)
+            .action(ArgAction::SetTrue)
+            .conflicts_with(other),
+        Form::Lettered(letter) => Ok(
+            argument
+                .short(letter)
+                .long(parameter.name)
+                .action(ArgAction::SetTrue),
+        ),
+    }
+}
+
+fn subcommand<'a>(alloc: Global, usage: Usage<'a>) -> Result<Command<'a>, AllocError> {
+    let mut command = Command::new(alloc, usage.name)
+        .about(usage.about)
+        .long_about(usage.details);
+    for parameter in usage.parameters {
+        command = command.arg(argument(alloc, *parameter)?)?;
+    }
+    Ok(command)
+}
+
+// The program with these commands too.
+fn with_usages<'a>(
+    alloc: Global,
+    mut program: Command<'a>,
+    usages: &'a [Usage<'a>],
+) -> Result<Command<'a>, AllocError> {
+    for usage in usages {
+        program = program.subcommand(subcommand(alloc, *usage)?)?;
+    }
+    Ok(program)
+}
+
+/// The program's command line. Values are taken as words, and read afterwards.
+pub fn program<'a>(alloc: Global) -> Result<Command<'a>, AllocError> {
+    let program = Command::new(alloc, "lfs")
+        .version(VERSION)
+        .about(ABOUT)
+        .subcommand_required(true);
+    let program = with_usages(alloc, program, VOLUME_USAGES)?;
+    with_usages(alloc, program, FILE_USAGES)
+}
+
+/// The command of a name.
+pub fn verb_of(name: &str) -> Option<Verb> {
+    match volume_verb(name) {
+        Some(verb) => Some(verb),
+        None => file_verb(name),
+    }
+}
+
+// Each half of the table is looked through by a function of its own: as one constant it is too large
+// for the prover.
+fn volume_verb(name: &str) -> Option<Verb> {
+    verb_in(VOLUME_USAGES, name)
+}
+
+fn file_verb(name: &str) -> Option<Verb> {
+    verb_in(FILE_USAGES, name)
+}
+
+// The command of a name among these.
+fn verb_in(usages: &[Usage], name: &str) -> Option<Verb> {
+    for usage in usages {
+        if usage.name == name {
+            return Some(usage.verb);
+        }
+    }
+    None
+}

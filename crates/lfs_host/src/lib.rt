@@ -1,0 +1,14 @@
+//! Images of volumes in files and block devices, files of the host, and why a command ends.
+#![tactic(auto)]
+
+mod asking;
+mod cause;
+pub mod fault;
+pub mod foreign;
+pub mod host;
+pub mod image;
+pub mod making;
+mod mounts;
+mod new_image;
+pub mod printing;
+mod reason;

@@ -1,1 +1,0 @@
-pub use Rattle.lfs_script.proofs as scripts

@@ -1,2 +1,0 @@
-pub use Rattle.lfs_script.specs as script
-pub mod Steady

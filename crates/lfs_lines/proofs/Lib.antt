@@ -1,0 +1,3 @@
+pub mod TwoWords
+pub mod LineWords
+pub mod Commands

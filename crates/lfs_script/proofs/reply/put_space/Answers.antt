@@ -1,5 +1,0 @@
-use Rattle.std.proofs.Common.{append_assoc}
-use Rattle.lfs_script.proofs.reply.put_space.Goals as goal
-
-pub returns : goal.returns
-returns g c = simp append_assoc c.put_all.ensures

@@ -1,0 +1,125 @@
+// A whole use of a volume before a witness.
+ghost use Rattle.std.specs.Prelude.{◌≡◌, IfOk, IfErr, OnOk, OnErr};
+ghost use Rattle.lfs_model.specs.Device.{Carries, IsUntouched, Only};
+ghost use Rattle.lfs_device.specs.MemoryDevice.{device_state};
+ghost use Rattle.lfs_script.specs.Saved.{SessionSaved};
+ghost use Rattle.lfs_script.specs.Series.{FromAny, texts_of};
+ghost use Rattle.lfs_script.specs.SeriesNoted.{StopsAtMountNoted, UsesInTurnNoted};
+ghost use Rattle.lfs_script.specs.Session.{SessionNoted};
+ghost use Rattle.lfs_script.specs.Unused.{IsUnused};
+
+use crate::script::{StrictEnd, run_noted};
+use crate::session::StoppedScript;
+use crate::witness::Witness;
+use lfs_device::{Left, MemDevice, SectorDevice};
+use lfs_fs::{Fs, MountFault};
+use std::alloc::Global;
+use std::io::{Read, Write};
+
+/// How a use of a volume ended.
+#[derive(Clone, Copy, Debug, PartialEq, Eq)]
+pub struct UseEnd {
+    pub script: StrictEnd,
+    /// Whether all that was done is saved, as `Fs::is_saved` says it.
+    pub is_saved: bool,
+}
+
+/// As `use_volume` or `use_volume_strict`, before a witness: a stop at any moment since a reply went
+/// out leaves every call that was acknowledged by then. It tells whether all is saved at the end.
+pub fn use_volume_noted<R: Read, W: Write, D: SectorDevice, S: Witness<D, W>>(
+    alloc: Global,
+    strict: bool,
+    reader: &mut R,
+    writer: &mut W,
+    witness: &mut S,
+    device: D,
+) -> (Result<UseEnd, MountFault>, D)
+    ensures ran { IfOk result.0 (λ end. SessionNoted strict end.script (R.remaining reader.old)
+        (R.remaining reader.new) (W.contents writer.old) (W.contents writer.new) (D.state device)
+        (D.state result.1) (S.glances witness.old) (S.glances witness.new)) }
+    ensures saved { IfOk result.0 (λ end. SessionSaved end.is_saved strict end.script
+        (R.remaining reader.old) (R.remaining reader.new) (W.contents writer.old)
+        (W.contents writer.new) (D.state device) (D.state result.1) (S.glances witness.old)
+        (S.glances witness.new)) }
+    ensures refused { IfErr result.0 (IsUnused reader.old reader.new writer.old writer.new
+        (D.state device) (D.state result.1)) }
+    ensures untouched { OnErr result.0 (IsUntouched (D.state device) (D.state result.1)) }
+    ensures unseen { OnErr result.0 (witness.new ≡ witness.old) }
+    ensures carries { Carries (D.state device) (D.state result.1) }
+{
+    match Fs::mount(alloc, device) {
+        Ok(fs) => {
+            let mut fs = fs;
+            let script = run_noted(alloc, strict, reader, writer, witness, &mut fs);
+            let is_saved = fs.is_saved();
+            (Ok(UseEnd { script, is_saved }), fs.into_device())
+        }
+        Err((fault, device)) => (Err(fault), device),
+    }
+}
+
+/// As `use_volume_noted` on a device in memory, which stops then: `left` is what it leaves of each
+/// sector that wasn't synced.
+pub fn use_and_stop_noted<R: Read, W: Write, S: Witness<MemDevice, W>>(
+    alloc: Global,
+    strict: bool,
+    reader: &mut R,
+    writer: &mut W,
+    witness: &mut S,
+    device: MemDevice,
+    left: Left,
+) -> (Result<StrictEnd, MountFault>, MemDevice)
+    ensures ran { IfOk result.0 (λ end. SessionNoted strict end (R.remaining reader.old)
+        (R.remaining reader.new) (W.contents writer.old) (W.contents writer.new)
+        (device_state device) (device_state result.1) (S.glances witness.old)
+        (S.glances witness.new)) }
+    ensures refused { IfErr result.0 (IsUnused reader.old reader.new writer.old writer.new
+        (device_state device) (device_state result.1)) }
+    ensures unseen { OnErr result.0 (witness.new ≡ witness.old) }
+    ensures alone { Only (device_state result.1).content (device_state result.1) }
+    ensures carries { Carries (device_state device) (device_state result.1) }
+{
+    let (end, used) = use_volume_noted(alloc, strict, reader, writer, witness, device);
+    let mut stopped = used;
+    stopped.crash(left);
+    match end {
+        Ok(end) => (Ok(end.script), stopped),
+        Err(fault) => (Err(fault), stopped),
+    }
+}
+
+/// As `use_each`, before a witness: in each use a stop at any moment since a reply went out leaves
+/// every call of it that was acknowledged by then, and the next begins with what the last stop left.
+pub fn use_each_noted<W: Write, S: Witness<MemDevice, W>>(
+    alloc: Global,
+    strict: bool,
+    scripts: &[StoppedScript],
+    writer: &mut W,
+    witness: &mut S,
+    device: MemDevice,
+) -> (Result<(), MountFault>, MemDevice)
+    ensures ran { OnOk result.0 (FromAny device_state (W.contents writer.old) device (λ before.
+        UsesInTurnNoted device_state strict (texts_of scripts.now) before (W.contents writer.new)
+        result.1 (S.glances witness.old) (S.glances witness.new))) }
+    ensures stopped { IfErr result.0 (λ fault. FromAny device_state (W.contents writer.old) device
+        (λ before. StopsAtMountNoted device_state strict (texts_of scripts.now) fault before
+        (W.contents writer.new) result.1 (S.glances witness.old) (S.glances witness.new))) }
+{
+    let mut current = device;
+    for script in scripts {
+        let mut reader = script.script.as_slice();
+        match use_and_stop_noted(
+            alloc,
+            strict,
+            &mut reader,
+            writer,
+            witness,
+            current,
+            script.left,
+        ) {
+            (Ok(_), next) => current = next,
+            (Err(fault), last) => return (Err(fault), last),
+        }
+    }
+    (Ok(()), current)
+}

@@ -1,0 +1,98 @@
+//! What a volume is, for people: its space, and what lives in its segments.
+use crate::free::put_largest;
+use crate::looking::Looked;
+use lfs_device::SectorDevice;
+use lfs_fs::{Fs, FsError, Space};
+use lfs_host::fault::{Fault, Refusal};
+use lfs_host::printing::{print, put, put_counts};
+use lfs_put::largest_new_file;
+use std::io::Write;
+
+/// How many segments a line of the picture has.
+const ROW: u32 = 64;
+
+/// How many live blocks more give the next sign.
+const STEP: u16 = 7;
+
+const SIGNS: &[u8] = b".123456789";
+
+// The sign of a segment with so many live blocks.
+fn sign(live: u16) -> u8 {
+    let steps = live.div_ceil(STEP);
+    match SIGNS.get(usize::from(steps)) {
+        Some(sign) => *sign,
+        None => b'9',
+    }
+}
+
+// Writes a sign for each segment.
+fn put_picture<D: SectorDevice, W: Write>(fs: &Fs<D>, output: &mut W) -> Result<(), Fault> {
+    let usage = fs.usage();
+    for segment in 0..usage.segments() {
+        if segment % ROW == 0 {
+            put(output, b"\n")?;
+        }
+        put(output, &[sign(usage.state(segment).live)])?;
+    }
+    print(output, "\n")
+}
+
+/// What a mounted volume tells of itself.
+#[derive(Clone, Copy)]
+struct Description {
+    /// The version of the volume's layout.
+    format: u32,
+    space: Space,
+    /// The bytes of the largest new file.
+    largest: u64,
+}
+
+// Writes what there is to say in numbers.
+fn put_numbers<D: SectorDevice, W: Write>(
+    fs: &Fs<D>,
+    description: &Description,
+    output: &mut W,
+) -> Result<(), Fault> {
+    let space = &description.space;
+    let usage = fs.usage();
+    let counts = [
+        (b"checkpoint ".as_slice(), fs.checkpoint()),
+        (b"\nformat ", u64::from(description.format)),
+        (b"\nsegments ", u64::from(usage.segments())),
+        (b"\nclean ", u64::from(usage.clean())),
+        (b"\ndata blocks ", space.data_blocks),
+        (b"\nmeta blocks ", space.meta_blocks),
+        (b"\nneed ", space.need),
+        (b"\nlimit ", space.limit),
+    ];
+    put_counts(output, &counts)?;
+    put(output, b"\n")?;
+    put_largest(output, description.largest)?;
+    put(output, b"live blocks of each segment:")
+}
+
+fn description_of<D: SectorDevice>(fs: &mut Fs<D>) -> Result<Description, FsError> {
+    let format = fs.version()?;
+    let space = fs.space()?;
+    let largest = largest_new_file(fs)?;
+    Ok(Description {
+        format,
+        space,
+        largest,
+    })
+}
+
+/// Describes a mounted volume.
+pub fn describe<D: SectorDevice, W: Write>(
+    fs: &mut Fs<D>,
+    output: &mut W,
+) -> Result<Looked, Fault> {
+    match description_of(fs) {
+        Ok(description) => {
+            put_numbers(fs, &description, output)?;
+            put_picture(fs, output)?;
+            Ok(Looked::Done)
+        }
+        Err(refusal) => Ok(Looked::Refused(Refusal::Call(refusal))),
+    }
+}

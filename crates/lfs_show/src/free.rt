@@ -1,0 +1,141 @@
+//! How much of a volume is used and how much is free, for people.
+use crate::looking::Looked;
+use lfs_device::SectorDevice;
+use lfs_fs::{Fs, FsError, TreeRow};
+use lfs_host::fault::{Fault, Refusal};
+use lfs_host::printing::{flush, put, put_count, put_counts};
+use lfs_model::Kind;
+use lfs_model::limits::{
+    CHECKPOINT_SLOTS, FILE_NUMBERS, LEAST_NEED, NEED_OF_META, NEED_OF_SEGMENT, SECTOR_LEN,
+    SEGMENT_SECTORS,
+};
+use lfs_put::largest_new_file;
+use std::io::Write;
+use std::mem;
+
+/// How many numbers objects have, with 0, which is nobody's.
+const NUMBERS: usize = FILE_NUMBERS as usize;
+
+/// The bytes of a block.
+const BLOCK_BYTES: u64 = SECTOR_LEN as u64;
+
+/// The bytes of a segment, and of the sectors before the first one.
+const SEGMENT_BYTES: u64 = BLOCK_BYTES * SEGMENT_SECTORS as u64;
+
+const FRONT_BYTES: u64 = BLOCK_BYTES * CHECKPOINT_SLOTS as u64;
+
+/// The need of a volume that has nothing but its root.
+const EMPTY_NEED: u64 = LEAST_NEED + NEED_OF_META;
+
+/// How much of a volume is used and free.
+#[derive(Clone, Copy)]
+struct Free {
+    segments: u64,
+    files: u64,
+    /// The bytes of all files.
+    bytes: u64,
+    /// The bytes that the tree may need above those of an empty volume, and those that it needs.
+    total: u64,
+    used: u64,
+    /// The bytes of the largest new file.
+    largest: u64,
+}
+
+// Whether a number comes for the first time. It is marked then.
+fn is_first(seen: &mut [bool; NUMBERS], number: u32) -> bool {
+    match seen.get_mut(number as usize) {
+        Some(mark) => !mem::replace(mark, true),
+        None => false,
+    }
+}
+
+// How many files there are, and how many bytes they have.
+fn count_files(rows: &[TreeRow]) -> (u64, u64) {
+    let mut seen = [false; NUMBERS];
+    let mut files: u64 = 0;
+    let mut bytes: u64 = 0;
+    for row in rows {
+        if row.kind == Kind::File && is_first(&mut seen, row.number) {
+            files = files.saturating_add(1);
+            bytes = bytes.saturating_add(row.size);
+        }
+    }
+    (files, bytes)
+}
+
+// The bytes of so many blocks that are needed, above those of an empty volume.
+fn bytes_above_empty(need: u64) -> u64 {
+    need.saturating_sub(EMPTY_NEED).saturating_mul(BLOCK_BYTES)
+}
+
+fn free_of<D: SectorDevice>(fs: &mut Fs<D>) -> Result<Free, FsError> {
+    let space = fs.space()?;
+    let rows = fs.tree()?;
+    let (files, bytes) = count_files(rows.as_slice());
+    let largest = largest_new_file(fs)?;
+    Ok(Free {
+        segments: space.limit / NEED_OF_SEGMENT,
+        files,
+        bytes,
+        total: bytes_above_empty(space.limit),
+        used: bytes_above_empty(space.need),
+        largest,
+    })
+}
+
+// How many hundredths of the total are used, rounded up.
+fn percent(free: &Free) -> u64 {
+    free.used.saturating_mul(100).div_ceil(free.total.max(1))
+}
+
+fn put_numbers<W: Write>(free: &Free, output: &mut W) -> Result<(), Fault> {
+    let size = free
+        .segments
+        .saturating_mul(SEGMENT_BYTES)
+        .saturating_add(FRONT_BYTES);
+    let counts = [
+        (b"size ".as_slice(), size),
+        (b" bytes, segments ", free.segments),
+        (b"\nfiles ", free.files),
+        (b", bytes ", free.bytes),
+        (b"\ntotal ", free.total),
+        (b" bytes\nused ", free.used),
+        (b" bytes, ", percent(free)),
+        (b" %\nfree ", free.total.saturating_sub(free.used)),
+    ];
+    put_counts(output, &counts)?;
+    put(output, b" bytes\n")?;
+    put_largest(output, free.largest)?;
+    flush(output)
+}
+
+/// Writes the line that tells how large a new file may be.
+pub fn put_largest<W: Write>(output: &mut W, bytes: u64) -> Result<(), Fault> {
+    put_count(output, b"one new file takes up to ", bytes)?;
+    put(output, b" bytes\n")
+}
+
+/// The refusal of a change, with the bytes that are free where it is for a lack of space.
+pub fn refusal_of<D: SectorDevice>(fs: &mut Fs<D>, fault: FsError) -> Refusal {
+    if fault != FsError::NoSpace {
+        return Refusal::Call(fault);
+    }
+    match largest_new_file(fs) {
+        Ok(free) => Refusal::Full(free),
+        Err(_) => Refusal::Call(fault),
+    }
+}
+
+/// Prints how much of a volume is used and free.
+pub fn put_free<D: SectorDevice, W: Write>(
+    fs: &mut Fs<D>,
+    output: &mut W,
+) -> Result<Looked, Fault> {
+    match free_of(fs) {
+        Ok(free) => {
+            put_numbers(&free, output)?;
+            Ok(Looked::Done)
+        }
+        Err(fault) => Ok(Looked::Refused(Refusal::Call(fault))),
+    }
+}

@@ -1,0 +1,14 @@
+//! Looks at the volumes of images: what they print, and what they copy to the host.
+#![tactic(auto)]
+
+mod copying;
+mod describing;
+mod exporting;
+pub mod free;
+pub mod listing;
+pub mod looking;
+mod sparse;
+mod steadiness;
+mod unfinished;
+pub mod viewing;
+mod walking;

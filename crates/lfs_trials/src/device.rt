@@ -1,0 +1,61 @@
+//! Devices in memory.
+use anyhow::{Context, Result};
+use lfs_device::{DeviceCall, Left, MemDevice, SectorDevice};
+use lfs_script::fs::format_version;
+use std::alloc::{AllocError, Global};
+
+/// More calls than a run makes of a kind.
+const MANY_CALLS: u64 = 1_000_000;
+
+/// A device without a volume, of so many segments.
+pub fn device_of(alloc: Global, segments: u16) -> Result<MemDevice> {
+    let device = MemDevice::new(alloc, 2 + 64 * u32::from(segments)).ok();
+    device.context("no memory for a device")
+}
+
+/// A device with an empty volume.
+pub fn new_device(alloc: Global, segments: u16, version: u32) -> Result<MemDevice> {
+    let mut device = device_of(alloc, segments)?;
+    format_version(&mut device, u32::from(segments), version)
+        .ok()
+        .context(format_args!("no volume of {segments} segments"))?;
+    Ok(device)
+}
+
+/// Whether one call of this kind goes well. A write is of zeros, to the first sector; a device that
+/// has none reads and writes nothing.
+fn goes(device: &mut MemDevice, call: DeviceCall) -> bool {
+    let mut bytes = [0; 512];
+    let some = device.sectors() > 0;
+    match call {
+        DeviceCall::Read => some && device.read(0, &mut bytes).is_ok(),
+        DeviceCall::Write => some && device.write(0, &bytes).is_ok(),
+        DeviceCall::Sync => device.sync().is_ok(),
+    }
+}
+
+/// How many calls of this kind go well before the first that doesn't.
+pub fn calls_left(device: &mut MemDevice, call: DeviceCall) -> u64 {
+    for made in 0..MANY_CALLS {
+        if !goes(device, call) {
+            return made;
+        }
+    }
+    MANY_CALLS
+}
+
+/// What is left of each of so many sectors, where these are the turns.
+fn in_turns(alloc: Global, turns: &[Left], sectors: u32) -> Result<Vec<Left>, AllocError> {
+    let mut lefts = Vec::new(alloc);
+    for _ in 0..sectors {
+        lefts.extend_from_slice(turns)?;
+    }
+    Ok(lefts)
+}
+
+/// Stops a device. Its sectors that aren't synced are in turn as these say.
+pub fn stop(alloc: Global, device: &mut MemDevice, turns: &[Left]) -> Result<(), AllocError> {
+    let lefts = in_turns(alloc, turns, device.sectors())?;
+    device.crash_each(lefts.as_slice());
+    Ok(())
+}

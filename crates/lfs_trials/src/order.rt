@@ -1,0 +1,74 @@
+//! What a line tells the device.
+use anyhow::{Context, Result, bail};
+use lfs_device::{DeviceCall, Left};
+use std::alloc::Global;
+
+/// What is to be done.
+#[derive(Drop)]
+pub enum Order {
+    New { segments: u16, version: u32 },
+    Fail { call: DeviceCall, nth: u64 },
+    Stop(u64),
+    Use,
+    Crash(Vec<Left>),
+    Rest(DeviceCall),
+    Writes,
+}
+
+/// The kind of call that a word names.
+fn call_of(word: &str) -> Result<DeviceCall> {
+    match word {
+        "read" => Ok(DeviceCall::Read),
+        "write" => Ok(DeviceCall::Write),
+        "sync" => Ok(DeviceCall::Sync),
+        _ => bail!("{word} is no call of a device"),
+    }
+}
+
+fn left_of(word: &str) -> Result<Left> {
+    match word {
+        "old" => Ok(Left::Old),
+        "new" => Ok(Left::New),
+        "bad" => Ok(Left::Bad),
+        _ => bail!("{word} is nothing that a stop leaves"),
+    }
+}
+
+fn lefts_of(alloc: Global, words: &str) -> Result<Vec<Left>> {
+    let mut lefts = Vec::new(alloc);
+    for word in words.split(' ') {
+        lefts.push(left_of(word)?)?;
+    }
+    Ok(lefts)
+}
+
+fn new_volume(words: &str) -> Result<Order> {
+    let (segments, version) = words.split_once(' ').context("segments and a version")?;
+    Ok(Order::New {
+        segments: segments.parse::<u16>().context("segments")?,
+        version: version.parse::<u32>().context("a version")?,
+    })
+}
+
+fn fault(words: &str) -> Result<Order> {
+    let (call, nth) = words.split_once(' ').context("a call and its number")?;
+    Ok(Order::Fail {
+        call: call_of(call)?,
+        nth: nth.parse::<u64>().context("the number of a call")?,
+    })
+}
+
+/// The order of a line, without what it begins with.
+pub fn read_order(alloc: Global, line: &str) -> Result<Order> {
+    let (word, words) = line.split_once(' ').unwrap_or((line, ""));
+    match word {
+        "new" => new_volume(words),
+        "fail" => fault(words),
+        "stop" => Ok(Order::Stop(words.parse::<u64>().context("the number of a write")?)),
+        "use" => Ok(Order::Use),
+        "crash" => Ok(Order::Crash(lefts_of(alloc, words)?)),
+        "rest" => Ok(Order::Rest(call_of(words)?)),
+        "writes" => Ok(Order::Writes),
+        _ => bail!("{line} is no order"),
+    }
+}

@@ -1,0 +1,24 @@
+// Bytes out.
+ghost use Rattle.std.specs.Prelude.{◌≡◌, ℕ, ◌<◌, ◌++◌, take, length};
+ghost use Rattle.lfs_words.specs.Bytes.{Puts};
+
+use std::io::Write;
+
+/// A write failed, or took nothing.
+#[derive(Clone, Copy, Debug, PartialEq, Eq)]
+pub struct Stopped;
+
+/// Writes all the bytes, in as many calls as it takes. After an error a beginning of them went out.
+pub fn put<W: Write>(writer: &mut W, bytes: &[u8]) -> Result<(), Stopped>
+    ensures { Puts (W.contents writer.old) (W.contents writer.new) bytes.now result }
+{
+    let mut at = 0;
+    while at < bytes.len() {
+        match writer.write(&bytes[at..]) {
+            Ok(0) => return Err(Stopped),
+            Ok(n) => at += n,
+            Err(_) => return Err(Stopped),
+        }
+    }
+    Ok(())
+}
