@@ -2,4 +2,3 @@ pub mod Given
 pub mod Runs
 pub mod Tells
 pub mod Tried
-pub mod Values

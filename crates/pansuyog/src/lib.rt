@@ -5,7 +5,6 @@
 mod files;
 mod handle;
 mod listing;
-mod loose;
 mod making;
 mod names;
 mod orders;

@@ -4,7 +4,7 @@ ghost use Rattle.pansuyog_calls.specs.Bytes.{filled};
 ghost use Rattle.pansuyog_calls.specs.Codes.{code_of_count};
 
 /// Puts bytes into C's memory, as many as it has room for, and gives their whole number.
-pub fn put(bytes: &[u8], out: &mut [u8]) -> i32
+pub(crate) fn put(bytes: &[u8], out: &mut [u8]) -> i32
     ensures count { result ≡ code_of_count (length bytes.now) }
     ensures filled { out.new ≡ filled bytes.now out.old }
 {

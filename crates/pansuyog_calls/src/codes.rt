@@ -42,7 +42,7 @@ pub const IN_USE: i32 = -44;
 pub const LOCK_FAILED: i32 = -45;
 
 /// The number of a refusal.
-pub fn code_of(fault: FsError) -> i32
+pub(crate) fn code_of(fault: FsError) -> i32
     ensures { result ≡ code_of_refusal (refusal_of fault) }
 {
     match fault {
@@ -85,7 +85,7 @@ pub fn code_of_mount(fault: MountFault) -> i32
 }
 
 /// The number of a call without a value.
-pub fn done(outcome: Result<(), FsError>) -> i32
+pub(crate) fn done(outcome: Result<(), FsError>) -> i32
     ensures { result ≡ code_of_answer (answer_by (λ _. Done) outcome) }
 {
     match outcome {
@@ -95,7 +95,7 @@ pub fn done(outcome: Result<(), FsError>) -> i32
 }
 
 /// The number of a call whose value is a number.
-pub fn counted(outcome: Result<u32, FsError>) -> i32
+pub(crate) fn counted(outcome: Result<u32, FsError>) -> i32
     ensures handle { result ≡ code_of_answer (answer_by Handle outcome) }
     ensures count { result ≡ code_of_answer (answer_by Count outcome) }
     ensures version { result ≡ code_of_answer (answer_by FormatVersion outcome) }

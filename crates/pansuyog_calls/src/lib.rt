@@ -2,7 +2,7 @@
 #![tactic(auto)]
 
 pub mod access;
-pub mod bytes;
+mod bytes;
 pub mod codes;
 pub mod files;
 pub mod laws;

@@ -16,7 +16,7 @@ use lfs_fs::{Fs, FsError};
 use lfs_model::Kind;
 
 /// The number of a kind.
-pub fn kind_in_c(kind: Kind) -> u32
+pub(crate) fn kind_in_c(kind: Kind) -> u32
     ensures { result ≡ code_of_kind kind }
 {
     match kind {

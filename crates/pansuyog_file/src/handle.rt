@@ -5,9 +5,9 @@ ghost use Rattle.std.specs.contracts.impls.GlobalAllocator.TheImpl.{ghosts};
 ghost use Rattle.pansuyog_file.specs.contracts.handle.Volume.{the_row};
 ghost use Rattle.pansuyog_file.specs.declared.handle.Volume.{Volume};
 
-use crate::loose::Loose;
 use lfs_device::FileDevice;
 use pansuyog_calls::volume::VolumeIn;
+use pansuyog_heap::Loose;
 use std::alloc::Global;
 use std::marker::Model;
 

@@ -31,13 +31,13 @@ use denote.Triple.Table.{framed}
 use Rattle.std_alloc.proofs.BoxSteps.Form as box
 use Rattle.std_alloc.proofs.BoxSteps.Steps.{box_out, box_in}
 use Rattle.std.proofs.raw_atomic.Walks.{proved_at, leaves}
-use Rattle.pansuyog.proofs.Values.{Good, both, Loose, loose_good, loose_out}
+use Rattle.pansuyog_heap.proofs.Values.{Good, both, Loose, loose_good, loose_out}
 use Rattle.std_alloc.specs.contracts.boxed.Box.from_raw as callee
 use Rattle.std_alloc.proofs.boxed.Box.from_raw.Met.{met}
-use Rattle.pansuyog.specs.contracts.loose.Loose.into_box.{ended, clauses}
-use Rattle.pansuyog.specs.contracts.loose.Loose.into_box.Key.{name as #self}
-use Rattle.pansuyog.proofs.loose.Loose.into_box.Statement.{statement}
-use Rattle.pansuyog.proofs.loose.Loose.into_box.Code as code
+use Rattle.pansuyog_heap.specs.contracts.loose.Loose.into_box.{ended, clauses}
+use Rattle.pansuyog_heap.specs.contracts.loose.Loose.into_box.Key.{name as #self}
+use Rattle.pansuyog_heap.proofs.loose.Loose.into_box.Statement.{statement}
+use Rattle.pansuyog_heap.proofs.loose.Loose.into_box.Code as code
 
 pub into_box_spec : {M : Type 1} → statement M
 into_box_spec 𝓤 𝓛 𝓜 𝓡 wired T A L LA g d dx dd allocator glue glued =
