@@ -11,14 +11,14 @@ use Rattle.pansuyog_calls.specs.declared.access.Access.TheVariants.{ReadWrite, R
 use Rattle.pansuyog_calls.specs.declared.volume.VolumeIn.{VolumeIn}
 
 -- the names that were listed last are there still, and the same calls are made
-pub record KeepsRest {D : Type 0} (old new : VolumeIn D) : Type 0 where
+pub record KeepsListingAndAccess {D : Type 0} (old new : VolumeIn D) : Type 0 where
   pub listing : new.listing ≡ old.listing
   pub access : new.access ≡ old.access
 
 -- What an unmounting leaves: the device that was in the volume.
 pub data Unmounts {D : Type 0} (old new : VolumeIn D) (code : ℤ) : Type 0 where
   is_unmounted : (fs : Fs D) → old.fs ≡ Some fs → code ≡ pos 0 → new.fs ≡ None → new.device ≡ Some (seen fs).log.device
-      → KeepsRest old new → Unmounts old new code
+      → KeepsListingAndAccess old new → Unmounts old new code
   is_nothing : old.fs ≡ None → code ≡ not_mounted → new ≡ old → Unmounts old new code
 
 module _ {D : Type 0} (state : D → DeviceState) where
@@ -32,14 +32,14 @@ module _ {D : Type 0} (state : D → DeviceState) where
   -- A mount of the device that a volume holds: it was done or refused there, or a volume is mounted, or none is held.
   pub data MountsFrom (old new : VolumeIn D) (code : ℤ) : Type 0 where
     is_tried : (device : D) → old.fs ≡ None → old.device ≡ Some device → MountsDevice device new.fs new.device code
-        → KeepsRest old new → MountsFrom old new code
+        → KeepsListingAndAccess old new → MountsFrom old new code
     is_mounted : old.fs ≢ None → code ≡ already_mounted → new ≡ old → MountsFrom old new code
     is_nothing : old.fs ≡ None → old.device ≡ None → code ≡ inval → new ≡ old → MountsFrom old new code
 
   -- An empty volume was to be made on the device that a volume holds; or a volume is mounted, none is held, or it is only read.
   pub data MakesFrom (segments version : ℕ) (old new : VolumeIn D) (code : ℤ) : Type 0 where
     was_tried : (device after : D) → old.fs ≡ None → old.access ≡ ReadWrite → old.device ≡ Some device → new.fs ≡ None
-        → new.device ≡ Some after → Makes state segments version device after code → KeepsRest old new
+        → new.device ≡ Some after → Makes state segments version device after code → KeepsListingAndAccess old new
         → MakesFrom segments version old new code
     is_only_read : (device : D) → old.fs ≡ None → old.access ≡ ReadOnly → old.device ≡ Some device → code ≡ read_only → new ≡ old
         → MakesFrom segments version old new code

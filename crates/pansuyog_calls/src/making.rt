@@ -1,7 +1,7 @@
 //! A volume is made, mounted and unmounted.
 ghost use Rattle.std.specs.Prelude.{◌≡◌, None};
 ghost use Rattle.pansuyog_calls.specs.Making.{Makes};
-ghost use Rattle.pansuyog_calls.specs.Volumes.{KeepsRest, MakesFrom, MountsDevice, MountsFrom, Unmounts};
+ghost use Rattle.pansuyog_calls.specs.Volumes.{KeepsListingAndAccess, MakesFrom, MountsDevice, MountsFrom, Unmounts};
 
 use crate::access::Access;
 use crate::codes::{
@@ -44,7 +44,7 @@ fn mount_on<D: SectorDevice + Drop>(alloc: Global, volume: &mut VolumeIn<D>, dev
     requires unmounted { volume.old.fs ≡ None }
     requires nothing { volume.old.device ≡ None }
     ensures mounts { MountsDevice D.state device volume.new.fs volume.new.device result }
-    ensures rest { KeepsRest volume.old volume.new }
+    ensures rest { KeepsListingAndAccess volume.old volume.new }
 {
     match Fs::mount(alloc, device) {
         Ok(fs) => {
@@ -88,7 +88,7 @@ pub fn unmount<D: SectorDevice + Drop>(volume: &mut VolumeIn<D>) -> i32
 pub fn abandon<D: SectorDevice + Drop>(volume: &mut VolumeIn<D>)
     ensures unmounted { volume.new.fs ≡ None }
     ensures nothing { volume.new.device ≡ None }
-    ensures rest { KeepsRest volume.old volume.new }
+    ensures rest { KeepsListingAndAccess volume.old volume.new }
 {
     volume.fs = None;
     volume.device = None;

@@ -1,7 +1,7 @@
 //! A volume is begun, given a file, and given up.
 ghost use Rattle.std.specs.Prelude.{◌≡◌, ◌⊎◌, pos, None};
 ghost use Rattle.pansuyog_calls.specs.Codes.{no_memory};
-ghost use Rattle.pansuyog_calls.specs.Volumes.{KeepsRest};
+ghost use Rattle.pansuyog_calls.specs.Volumes.{KeepsListingAndAccess};
 ghost use Rattle.pansuyog_file.specs.Sources.{Opens};
 ghost use Rattle.pansuyog_file.specs.Serving.{IsUnchanged};
 
@@ -61,7 +61,7 @@ pub extern "C" fn pansuyog_file_errno(volume: &mut Handle) -> i32
 pub extern "C" fn pansuyog_file_abandon(volume: &mut Handle)
     ensures unmounted { volume.new.value.inner.fs ≡ None }
     ensures nothing { volume.new.value.inner.device ≡ None }
-    ensures rest { KeepsRest volume.old.value.inner volume.new.value.inner }
+    ensures rest { KeepsListingAndAccess volume.old.value.inner volume.new.value.inner }
 {
     making::abandon(&mut volume.volume().inner);
 }

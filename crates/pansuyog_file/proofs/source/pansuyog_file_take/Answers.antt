@@ -6,6 +6,6 @@ use Rattle.pansuyog_file.proofs.source.pansuyog_file_take.Goals.{in-0, in-1}
 pub returns : goal.returns
 returns c =
     elim c.match-flags.branch [
-      in-0 w ↦ to_write (search rules) (rw (← w.access-is, ← c.volume.ensures.value) (search rules))
+      | in-0 w ↦ to_write (search rules) (rw (← w.access-is, ← c.volume.ensures.value) (search rules))
       | in-1 w ↦ to_read (search rules) (rw (← w.access-is, ← c.volume.ensures.value) (search rules))
     ]
