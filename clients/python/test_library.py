@@ -102,7 +102,7 @@ class Scripts(unittest.TestCase):
         paths = [os.path.splitext(it)[0] for it in glob.glob(f"{CASES}/*.script")]
         # A bad line is a matter of the language alone.
         paths = [it for it in paths if "bad " not in text_of(f"{it}.replies")]
-        self.assertGreaterEqual(len(paths), 59)
+        self.assertGreaterEqual(len(paths), 67)
         for path in sorted(paths):
             with self.subTest(os.path.basename(path)), tempfile.TemporaryDirectory() as folder:
                 self.carry_out(path, f"{folder}/disk.img")

@@ -220,7 +220,7 @@ fn scripts() -> Vec<PathBuf> {
 #[test]
 fn each_script_has_its_replies() {
     let scripts = scripts();
-    assert!(scripts.len() >= 59);
+    assert!(scripts.len() >= 67);
     let differences: Vec<String> = scripts.iter().filter_map(|it| difference(it)).collect();
     assert_eq!(differences, Vec::<String>::new());
 }

@@ -8,6 +8,6 @@ pub mod passing;
 
 pub use lfs_log as volume_log;
 pub use lfs_log::{Log, LogFault};
+pub use making::{has_quarter, make_clean};
 pub use once::clean_once;
 pub use passing::pass;
-pub use room::{has_quarter, make_clean};

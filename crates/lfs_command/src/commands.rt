@@ -7,14 +7,14 @@ ghost use Rattle.lfs_grammar.specs.Asking.{HasWord, IsStrict};
 ghost use Rattle.lfs_command.specs.Playing.{PlaysToRefusal, Plays, PlaysStrictly, TellsSaved};
 
 use crate::asked::{fault_of, left_of, look_of, patience_of};
-use crate::bad_line::{put_bad_line, reason_of};
 use crate::changing::change_volume;
 use crate::putting::put_into;
-use crate::remembering::LineKeeper;
 use crate::simulation;
 use crate::simulation::{Plan, read_plan};
 use crate::terminals::Terminals;
+use lfs_bad_lines::{LineKeeper, put_bad_line};
 use lfs_device::{FileDeviceIn, Left, MemDevice, SectorDevice, ThisWorld, World};
+use lfs_fs::Fs;
 use lfs_grammar::{Action, Request, read_request};
 use lfs_host::fault::{Ending, Fault, Outcome, Refusal, Said};
 use lfs_host::image;
@@ -298,13 +298,16 @@ fn print_writes<W: Write>(writes: u64, output: &mut W) -> Result<(), Fault> {
     print(output, "\n")
 }
 
+// Prints the tree of a mounted volume.
+fn show_tree<D: SectorDevice, W: Write>(fs: &mut Fs<D>, output: &mut W) -> Result<Ending, Fault> {
+    let shown = show(fs, output)?;
+    end_look(shown, output)
+}
+
 // Prints the tree of what a stop left on a device in memory.
 fn show_left<W: Write>(alloc: Global, device: MemDevice, output: &mut W) -> Result<Ending, Fault> {
     match simulation::mount(alloc, device) {
-        Ok(mut fs) => {
-            let shown = show(&mut fs, output)?;
-            end_look(shown, output)
-        }
+        Ok(mut fs) => show_tree(&mut fs, output),
         Err(refusal) => refuse(output, refusal),
     }
 }
@@ -573,8 +576,7 @@ fn tell<I, E: Write>(alloc: Global, said: Said<'_>, input: &LineKeeper<I>, error
         let _ = errors.writeln(said);
         return;
     };
-    let reason = reason_of(alloc, input.line(number));
-    let _ = put_bad_line(errors, number, reason);
+    let _ = put_bad_line(alloc, errors, number, input.line(number));
 }
 
 // Writes the line that tells people that what a script did on an image isn't all saved.

@@ -2,11 +2,9 @@
 #![tactic(auto)]
 
 mod asked;
-mod bad_line;
 mod changing;
 mod commands;
 mod putting;
-mod remembering;
 mod simulation;
 mod terminals;
 

@@ -47,7 +47,12 @@ fn look_on<Here: World, R: Files<File = File>, W: Write>(
     output: &mut W,
 ) -> Result<Looked, Fault> {
     match image::mount(alloc, device) {
-        Ok(mut fs) => look_by(rt, alloc, &mut fs, number, asked, product, output),
+        Ok(mut fs) => {
+            let looked = look_by(rt, alloc, &mut fs, number, asked, product, output);
+            // Who gives the device back has dropped the rest of the volume.
+            drop(fs.into_device());
+            looked
+        }
         Err(refusal) => Ok(Looked::Refused(refusal)),
     }
 }
@@ -114,7 +119,32 @@ fn look_alone<Here: World, R: Files<File = File>, W: Write>(
     conclude(rt, alloc, looked, &mut product, kept.as_slice(), output)
 }
 
-// Looks once by the checkpoint of a sight. None where that isn't known to be of one moment.
+// Looks once by the checkpoint of a sight, and keeps what there is to print until the look counts.
+// None where it isn't known to be of one moment.
+fn look_and_judge<Here: World, R: Files<File = File>, W: Write>(
+    rt: &R,
+    alloc: Global,
+    watched: &mut FileDeviceIn<Here>,
+    sight: &Sight,
+    device: FileDeviceIn<Here>,
+    asked: Asked<'_>,
+    product: &mut Unfinished<'_>,
+    kept: &mut Vec<u8>,
+    output: &mut W,
+) -> Result<Option<Looked>, Fault> {
+    let number = Some(sight.number());
+    let looked = look_and_keep(rt, alloc, device, number, asked, product, kept)?;
+    let stands = sight.still_stands(alloc, watched);
+    if looked.is_doubtful() || !matches!(stands, Ok(true)) {
+        product.discard(rt, alloc);
+        stands?;
+        return Ok(None);
+    }
+    let looked = conclude(rt, alloc, looked, product, kept.as_slice(), output)?;
+    Ok(Some(looked))
+}
+
+// The same, with nothing made or kept yet.
 fn look_by_sight<Here: World, R: Files<File = File>, W: Write>(
     rt: &R,
     alloc: Global,
@@ -124,18 +154,19 @@ fn look_by_sight<Here: World, R: Files<File = File>, W: Write>(
     asked: Asked<'_>,
     output: &mut W,
 ) -> Result<Option<Looked>, Fault> {
-    let number = Some(sight.number());
     let mut product = Unfinished::of(alloc, asked.look)?;
     let mut kept = Vec::new(alloc);
-    let looked = look_and_keep(rt, alloc, device, number, asked, &mut product, &mut kept)?;
-    let stands = sight.still_stands(alloc, watched);
-    if looked.is_doubtful() || !matches!(stands, Ok(true)) {
-        product.discard(rt, alloc);
-        stands?;
-        return Ok(None);
-    }
-    let looked = conclude(rt, alloc, looked, &mut product, kept.as_slice(), output)?;
-    Ok(Some(looked))
+    look_and_judge(
+        rt,
+        alloc,
+        watched,
+        sight,
+        device,
+        asked,
+        &mut product,
+        &mut kept,
+        output,
+    )
 }
 
 // Looks once beside a writer. None where that isn't known to be of one moment.

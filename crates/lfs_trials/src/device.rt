@@ -7,16 +7,17 @@ use std::alloc::{AllocError, Global};
 /// More calls than a run makes of a kind.
 const MANY_CALLS: u64 = 1_000_000;
 
-/// A device without a volume, of so many segments.
-pub fn device_of(alloc: Global, segments: u16) -> Result<MemDevice> {
-    let device = MemDevice::new(alloc, 2 + 64 * u32::from(segments)).ok();
+/// A device of so many sectors, without a volume.
+pub fn device_of(alloc: Global, sectors: u32) -> Result<MemDevice> {
+    let device = MemDevice::new(alloc, sectors).ok();
     device.context("no memory for a device")
 }
 
 /// A device with an empty volume.
 pub fn new_device(alloc: Global, segments: u16, version: u32) -> Result<MemDevice> {
-    let mut device = device_of(alloc, segments)?;
-    format_version(&mut device, u32::from(segments), version)
+    let segments = u32::from(segments);
+    let mut device = device_of(alloc, 2 + 64 * segments)?;
+    format_version(&mut device, segments, version)
         .ok()
         .context(format_args!("no volume of {segments} segments"))?;
     Ok(device)

@@ -23,7 +23,7 @@ const PLAIN: VolumeKind = VolumeKind {
 const OF_VERSION_2: &str = ".v2";
 
 /// What looks at the tree that a stop leaves.
-const LOOK: [&str; 3] = ["! crash old", "tree", "! use"];
+const LOOK: &str = "! crash old\ntree\n! use\n";
 
 /// The volume that a case's name tells.
 fn kind_of(name: &str) -> Result<VolumeKind> {
@@ -53,14 +53,6 @@ fn text_of<R: Files + AllocGlobal>(rt: &R, name: &str, ending: &str) -> Result<O
 /// The text of a file that has to be there.
 fn needed<R: Files + AllocGlobal>(rt: &R, name: &str, ending: &str) -> Result<String> {
     text_of(rt, name, ending)?.context(format_args!("no {ending} of {name}"))
-}
-
-/// The talk's own lines, one after another.
-fn hear_each(alloc: Global, talk: &mut Talk, lines: &[&str]) -> Result<()> {
-    for line in lines {
-        talk.hear(alloc, line)?;
-    }
-    Ok(())
 }
 
 fn hear_lines(alloc: Global, talk: &mut Talk, text: &str) -> Result<()> {
@@ -102,12 +94,12 @@ fn check_script<R: Files + Print + AllocGlobal>(
     let script = needed(rt, name, "script")?;
     let replies = needed(rt, name, "replies")?;
     let tree = text_of(rt, name, "tree")?;
-    let mut talk = Talk::new(alloc)?;
+    let mut talk = Talk::new(alloc);
     hear_script(alloc, &mut talk, kind_of(name)?, script.as_str())?;
     let mut wanted = end_of(alloc, replies.as_str())?;
     wanted.insert_str(0, replies.as_str())?;
     if let Some(tree) = tree {
-        hear_each(alloc, &mut talk, &LOOK)?;
+        hear_lines(alloc, &mut talk, LOOK)?;
         wanted.push_str(tree.as_str())?;
         wanted.push_str("! Done\n")?;
     }
@@ -127,7 +119,7 @@ fn check_bad_lines<R: Files + Print + AllocGlobal>(
 ) -> Result<()> {
     let lines = needed(rt, name, "bad")?;
     for line in lines.split_terminator('\n') {
-        let mut talk = Talk::new(rt.alloc())?;
+        let mut talk = Talk::new(rt.alloc());
         hear_script(rt.alloc(), &mut talk, PLAIN, line)?;
         let case = Case {
             name: line,
@@ -143,7 +135,7 @@ fn check_bad_lines<R: Files + Print + AllocGlobal>(
 fn check_talk<R: Files + Print + AllocGlobal>(rt: &R, name: &str, tally: &mut Tally) -> Result<()> {
     let text = needed(rt, name, "talk")?;
     let wanted = needed(rt, name, "said")?;
-    let mut talk = Talk::new(rt.alloc())?;
+    let mut talk = Talk::new(rt.alloc());
     hear_lines(rt.alloc(), &mut talk, text.as_str())?;
     let case = Case {
         name,

@@ -4,6 +4,7 @@
 //! A line of standard input that begins with `! ` is an order, and each other line one of the next
 //! script. The orders:
 //!
+//! - `! device N` makes a device of N sectors, without a volume.
 //! - `! new N V` makes a device with an empty volume of N segments, of version V.
 //! - `! fail read N`, `write` or `sync`: the N-th such call from now on, counted from 0, fails once.
 //! - `! stop N`: the N-th write from now on fails, and each later call too, until the device stops.
@@ -49,7 +50,7 @@ fn answer<R: Print + AllocGlobal>(rt: &R, talk: &mut Talk, line: &str) -> Result
 
 fn main(rt: HostRuntime) -> Result<ExitCode> {
     let alloc = rt.alloc();
-    let mut talk = Talk::new(alloc)?;
+    let mut talk = Talk::new(alloc);
     let mut are_well = true;
     for line in BufReader::new(alloc, rt.reader())?.lines(alloc) {
         let line = line?;

@@ -6,6 +6,7 @@ use std::alloc::Global;
 /// What is to be done.
 #[derive(Drop)]
 pub enum Order {
+    Device(u32),
     New { segments: u16, version: u32 },
     Fail { call: DeviceCall, nth: u64 },
     Stop(u64),
@@ -62,6 +63,7 @@ fn fault(words: &str) -> Result<Order> {
 pub fn read_order(alloc: Global, line: &str) -> Result<Order> {
     let (word, words) = line.split_once(' ').unwrap_or((line, ""));
     match word {
+        "device" => Ok(Order::Device(words.parse::<u32>().context("sectors")?)),
         "new" => new_volume(words),
         "fail" => fault(words),
         "stop" => Ok(Order::Stop(words.parse::<u64>().context("the number of a write")?)),

@@ -6,9 +6,6 @@ use lfs_device::MemDevice;
 use lfs_script::use_volume;
 use std::alloc::{AllocError, Global};
 
-/// The segments for which a device has room before it has a volume.
-const SEGMENTS: u16 = 64;
-
 /// A device, the script that the next use of its volume runs, and what was said so far.
 #[derive(Drop)]
 pub struct Talk {
@@ -33,13 +30,13 @@ fn used(
 }
 
 impl Talk {
-    /// A device without a volume, and no script.
-    pub fn new(alloc: Global) -> Result<Talk> {
-        Ok(Talk {
-            device: Some(device_of(alloc, SEGMENTS)?),
+    /// No device, and no script.
+    pub fn new(alloc: Global) -> Talk {
+        Talk {
+            device: None,
             script: String::new(alloc),
             said: Vec::new(alloc),
-        })
+        }
     }
 
     fn device(&mut self) -> Result<&mut MemDevice> {
@@ -67,6 +64,7 @@ impl Talk {
     /// Does what an order says.
     pub fn carry_out(&mut self, alloc: Global, order: Order) -> Result<()> {
         match order {
+            Order::Device(sectors) => self.device = Some(device_of(alloc, sectors)?),
             Order::New { segments, version } => {
                 self.device = Some(new_device(alloc, segments, version)?);
             }

@@ -3,7 +3,7 @@ use Rattle.std.proofs.lemmas.Result.{err_from_is_err_and}
 use Rattle.lfs_path.specs.dirs.Finding.{value_of}
 use Rattle.lfs_entries.specs.Finding.{FindsNumber}
 use Rattle.lfs_entries.proofs.Findings.{object_failed}
-use Rattle.lfs_entries.proofs.looking.find_object.Goals as goal
+use Rattle.lfs_entries.proofs.finding.find_object.Goals as goal
 
 pub returns-in_err-header-clause-refused : goal.returns-in_err-header-clause-refused
 returns-in_err-header-clause-refused g c =

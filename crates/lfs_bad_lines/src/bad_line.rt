@@ -1,9 +1,11 @@
 //! Why a line of a script is bad, for people.
-use lfs_host::fault::Fault;
-use lfs_host::printing::{put, put_count, put_word};
+use lfs_lines::Command;
 use lfs_model::limits::LONGEST_LINE;
-use lfs_script::Command;
-use lfs_words::{WordFault, read_escaped, read_hex, read_u8, read_u32, read_u64};
+use lfs_words::{
+    Stopped, WordFault, Words, put_escaped, put_number, read_escaped, read_hex, read_u8, read_u32,
+    read_u64,
+};
+use memchr::memchr_iter;
 use std::alloc::Global;
 use std::io::Write;
 
@@ -24,7 +26,7 @@ enum Spelling {
 
 /// An argument of a command: the name that the language's page gives it, and how it is spelt.
 #[derive(Clone, Copy)]
-pub struct Argument(&'static str, Spelling);
+struct Argument(&'static str, Spelling);
 
 const H: Argument = Argument("H", Spelling::Short);
 
@@ -66,7 +68,7 @@ fn arguments_of(command: Command) -> &'static [Argument] {
 
 /// Why a line is bad.
 #[derive(Clone, Copy)]
-pub enum Reason<'a> {
+enum Reason<'a> {
     /// Memory to remember the line was refused, so nothing is known of it.
     Lost,
     TooLong,
@@ -108,8 +110,8 @@ impl Argument {
 
 // Why a line is bad that is a row of words.
 fn reason_of_words<'a>(alloc: Global, line: &'a [u8]) -> Reason<'a> {
-    let mut words = line.split(|byte| *byte == b' ');
-    let Some(word) = words.next() else {
+    let mut words = Words::of(line);
+    let Ok(word) = words.next() else {
         return Reason::Empty;
     };
     let Some(command) = Command::of(word) else {
@@ -117,9 +119,9 @@ fn reason_of_words<'a>(alloc: Global, line: &'a [u8]) -> Reason<'a> {
     };
     let arguments = arguments_of(command);
     let takes = arguments.len();
-    let given = line.iter().filter(|byte| **byte == b' ').count();
+    let given = memchr_iter(b' ', line).count();
     for argument in arguments {
-        let Some(text) = words.next() else {
+        let Ok(text) = words.next() else {
             return Reason::Count { word, takes, given };
         };
         if given == takes && !argument.is_spelt(alloc, text) {
@@ -136,8 +138,8 @@ fn reason_of_words<'a>(alloc: Global, line: &'a [u8]) -> Reason<'a> {
     }
 }
 
-/// Why a line is bad, which may not be known.
-pub fn reason_of<'a>(alloc: Global, line: Option<&'a [u8]>) -> Reason<'a> {
+// Why a line is bad, which may not be known.
+fn reason_of<'a>(alloc: Global, line: Option<&'a [u8]>) -> Reason<'a> {
     let Some(line) = line else {
         return Reason::Lost;
     };
@@ -153,13 +155,26 @@ pub fn reason_of<'a>(alloc: Global, line: Option<&'a [u8]>) -> Reason<'a> {
     reason_of_words(alloc, line)
 }
 
+fn put<W: Write>(output: &mut W, bytes: &[u8]) -> Result<(), Stopped> {
+    let Ok(()) = output.write_all(bytes) else {
+        return Err(Stopped);
+    };
+    Ok(())
+}
+
+// Writes a number behind a text.
+fn put_count<W: Write>(output: &mut W, text: &[u8], number: u64) -> Result<(), Stopped> {
+    put(output, text)?;
+    put_number(output, number)
+}
+
 /// The most bytes that are shown of a word.
 const LONGEST_SHOWN: usize = 40;
 
 // Writes the beginning of a word as a word of scripts, in quotes.
-fn put_shown<W: Write>(output: &mut W, word: &[u8]) -> Result<(), Fault> {
+fn put_shown<W: Write>(output: &mut W, word: &[u8]) -> Result<(), Stopped> {
     put(output, b"'")?;
-    put_word(output, &word[..word.len().min(LONGEST_SHOWN)])?;
+    put_escaped(output, &word[..word.len().min(LONGEST_SHOWN)])?;
     if word.len() > LONGEST_SHOWN {
         put(output, b"..")?;
     }
@@ -167,7 +182,7 @@ fn put_shown<W: Write>(output: &mut W, word: &[u8]) -> Result<(), Fault> {
 }
 
 // Writes how many arguments a command takes, and how many there are.
-fn put_arguments<W: Write>(output: &mut W, takes: usize, given: usize) -> Result<(), Fault> {
+fn put_arguments<W: Write>(output: &mut W, takes: usize, given: usize) -> Result<(), Stopped> {
     let noun = if takes == 1 {
         b" argument, ".as_slice()
     } else {
@@ -179,7 +194,7 @@ fn put_arguments<W: Write>(output: &mut W, takes: usize, given: usize) -> Result
 }
 
 // Writes how an argument is to be spelt.
-fn put_spelling<W: Write>(output: &mut W, spelling: Spelling) -> Result<(), Fault> {
+fn put_spelling<W: Write>(output: &mut W, spelling: Spelling) -> Result<(), Stopped> {
     let most = match spelling {
         Spelling::Byte => u64::from(u8::MAX),
         Spelling::Short => u64::from(u32::MAX),
@@ -205,7 +220,7 @@ fn put_spelling<W: Write>(output: &mut W, spelling: Spelling) -> Result<(), Faul
 }
 
 // Writes why a line is bad.
-fn put_reason<W: Write>(output: &mut W, reason: Reason<'_>) -> Result<(), Fault> {
+fn put_reason<W: Write>(output: &mut W, reason: Reason<'_>) -> Result<(), Stopped> {
     match reason {
         Reason::Lost => put(output, b"it is bad"),
         Reason::TooLong => {
@@ -236,12 +251,15 @@ fn put_reason<W: Write>(output: &mut W, reason: Reason<'_>) -> Result<(), Fault>
     }
 }
 
-/// Writes the line that tells people why a line of this number, counted from 1, is bad.
+/// Writes the line that tells people why a line of a script is bad. Its number is counted from 1.
+/// Where the line itself isn't known, only the number is told.
 pub fn put_bad_line<W: Write>(
+    alloc: Global,
     output: &mut W,
     number: u64,
-    reason: Reason<'_>,
-) -> Result<(), Fault> {
+    line: Option<&[u8]>,
+) -> Result<(), Stopped> {
+    let reason = reason_of(alloc, line);
     put_count(output, b"lfs: line ", number)?;
     put(output, b": ")?;
     put_reason(output, reason)?;
