@@ -18,7 +18,7 @@ use Rattle.lfs_queue.specs.Queue.{queue_state, room_of, start_of, told_of}
 use Rattle.lfs_queue.specs.declared.image.Image.{Image as Given}
 use Rattle.lfs_queue.specs.declared.queue.QueueDevice.{QueueDevice}
 use Rattle.lfs_store.specs.log.verify.declared.fault.MountFault.{MountFault}
-use Rattle.pansuyog.specs.Codes.{already_mounted, code_of_format_fault, code_of_mount_fault, inval, no_memory, not_mounted}
+use Rattle.pansuyog_calls.specs.Codes.{already_mounted, code_of_format_fault, code_of_mount_fault, inval, no_memory, not_mounted}
 use Rattle.pansuyog.specs.declared.handle.Source.{Source}
 use Rattle.pansuyog.specs.declared.handle.Source.TheVariants.{Nothing, Image, Device}
 use Rattle.pansuyog.specs.declared.handle.Volume.{Volume}

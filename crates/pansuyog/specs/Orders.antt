@@ -10,7 +10,7 @@ use Rattle.lfs_fs.specs.declared.fs.Fs.{Fs}
 use Rattle.lfs_queue.specs.Numbered.{HasNumber, IsNoneWaiting, as_told}
 use Rattle.lfs_queue.specs.Queue.{IsEmptied, carried_of, queue_state, told_of}
 use Rattle.lfs_queue.specs.declared.queue.QueueDevice.{QueueDevice}
-use Rattle.pansuyog.specs.Codes.{code_of_count, inval, no_order, not_mounted}
+use Rattle.pansuyog_calls.specs.Codes.{code_of_count, inval, no_order, not_mounted}
 use Rattle.pansuyog.specs.declared.handle.Source.{Source}
 use Rattle.pansuyog.specs.declared.handle.Source.TheVariants.{Nothing, Image, Device}
 use Rattle.pansuyog.specs.declared.handle.Volume.{Volume}

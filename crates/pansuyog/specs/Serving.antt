@@ -1,48 +1,27 @@
--- What a call of C makes of a volume: what the model's call makes of it.
-use Rattle.std.specs.Prelude.{◌≡◌, ℕ, ℤ, List, Option, Some, None}
-use Rattle.lfs_model.specs.Call as model
-use Rattle.lfs_model.specs.Call.{Call, Answer}
-use Rattle.lfs_fs.specs.Seen.{seen}
-use Rattle.lfs_fs.specs.Volume.{Serves}
-use Rattle.lfs_fs.specs.declared.fs.Fs.{Fs}
+-- What a call of C makes of a volume: what the model's call makes of it. Every call is made.
+use Rattle.std.specs.Prelude.{◌≡◌, ℕ, ℤ, List}
+use Rattle.lfs_model.specs.Call.{Call}
 use Rattle.lfs_queue.specs.Queue.{queue_state}
-use Rattle.lfs_queue.specs.declared.queue.QueueDevice.{QueueDevice}
-use Rattle.pansuyog.specs.Bytes.{filled}
-use Rattle.pansuyog.specs.Codes.{code_of_answer, not_mounted}
+use Rattle.pansuyog_calls.specs.Serving as calls
+use Rattle.pansuyog_calls.specs.Telling as telling
+use Rattle.pansuyog_calls.specs.declared.rows.Space.{Space}
+use Rattle.pansuyog_calls.specs.declared.rows.Stat.{Stat}
 use Rattle.pansuyog.specs.declared.handle.Volume.{Volume}
 
--- A mounted volume serves a call of the model, and C is told of its answer.
-pub record Answers (old new : Fs QueueDevice) (call : Call) (Tells : Answer → Type 0) : Type 0 where
-  pub answer : Answer
-  pub serves : Serves queue_state (seen old) (seen new) call answer
-  pub tells : Tells answer
-
--- The volume that is mounted serves a call of the model, and is mounted still; or none is mounted, and C is told this.
-abbrev pub ServesIn : Option (Fs QueueDevice) → Option (Fs QueueDevice) → Call → (Answer → Type 0) → Type 0 → Type 0
-ServesIn (Some old) (Some new) call Tells Otherwise = Answers old new call Tells
-ServesIn (Some old) None call Tells Otherwise = ⊥
-ServesIn None new call Tells Otherwise = (new ≡ None) × Otherwise
-
--- C is told the number of the answer alone
-abbrev pub TellsCode : ℤ → Answer → Type 0
-TellsCode code answer = code ≡ code_of_answer answer
-
 abbrev pub ServesCall : Volume → Volume → Call → ℤ → Type 0
-ServesCall old new call code = ServesIn old.fs new.fs call (TellsCode code) (code ≡ not_mounted)
-
--- the bytes of an answer, laid over those that stood in C's memory
-abbrev pub laid_over : Answer → List ℕ → List ℕ
-laid_over (model.Data bytes) before = filled bytes before
-laid_over (model.Text bytes) before = filled bytes before
-laid_over _ before = before
-
--- C is told the number of the answer, and given its bytes
-abbrev pub TellsBytes : ℤ → List ℕ → List ℕ → Answer → Type 0
-TellsBytes code before after answer = (code ≡ code_of_answer answer) × (after ≡ laid_over answer before)
+ServesCall old new call code = calls.ServesCall queue_state old.fs new.fs call code
 
 abbrev pub ServesBytes : Volume → Volume → Call → ℤ → List ℕ → List ℕ → Type 0
-ServesBytes old new call code before after =
-    ServesIn old.fs new.fs call (TellsBytes code before after) ((code ≡ not_mounted) × (after ≡ before))
+ServesBytes old new call code before after = calls.ServesBytes queue_state old.fs new.fs call code before after
+
+abbrev pub ServesStat : Volume → Volume → Call → ℤ → Stat → Stat → Type 0
+ServesStat old new call code before after = telling.ServesStat queue_state old.fs new.fs call code before after
+
+abbrev pub ServesSpace : Volume → Volume → ℤ → Space → Space → Type 0
+ServesSpace old new code before after = telling.ServesSpace queue_state old.fs new.fs code before after
+
+abbrev pub ServesListing : Volume → Volume → Call → ℤ → Type 0
+ServesListing old new call code = telling.ServesListing queue_state old.fs new.fs call code old.listing new.listing
 
 -- the volume is as it was
 abbrev pub IsUnchanged : Volume → Volume → Type 0

@@ -4,7 +4,7 @@ use Rattle.std.specs.Simd.{first_chunks}
 use Rattle.lfs_model.specs.Device.{Cell, SameOutside, cell_at}
 use Rattle.lfs_model.specs.declared.limits.TheConstants.{SECTOR_LEN}
 use Rattle.lfs_queue.specs.Images.{cells_of}
-use Rattle.pansuyog.specs.Codes.{inval, no_memory}
+use Rattle.pansuyog_calls.specs.Codes.{inval, no_memory}
 use Rattle.pansuyog.specs.declared.handle.Source.{Source}
 use Rattle.pansuyog.specs.declared.handle.Source.TheVariants.{Nothing, Image, Device}
 

@@ -5,9 +5,9 @@ ghost use Rattle.std.specs.contracts.impls.GlobalAllocator.TheImpl.{ghosts};
 ghost use Rattle.pansuyog.specs.contracts.handle.Volume.{the_row};
 ghost use Rattle.pansuyog.specs.declared.handle.Volume.{Volume};
 
-use crate::loose::Loose;
 use lfs_fs::{Entry, Fs};
 use lfs_queue::{Image, QueueDevice};
+use pansuyog_heap::Loose;
 use std::alloc::Global;
 use std::marker::Model;
 

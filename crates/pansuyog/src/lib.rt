@@ -2,12 +2,9 @@
 //! gives them, and carries out the writes and syncs that wait.
 #![tactic(auto)]
 
-mod bytes;
-mod codes;
 mod files;
 mod handle;
 mod listing;
-mod loose;
 mod making;
 mod names;
 mod orders;

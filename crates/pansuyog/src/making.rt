@@ -4,12 +4,12 @@ ghost use Rattle.pansuyog.specs.Making.{IsNotTaken, IsTaken, Makes, MakesFrom, M
 ghost use Rattle.pansuyog.specs.Serving.{KeepsListing};
 ghost use Rattle.pansuyog.specs.declared.handle.Source.TheVariants as source_of;
 
-use crate::codes::{
-    ALREADY_MOUNTED, DEVICE, INVAL, NO_MEMORY, NOT_MOUNTED, TOO_SMALL, code_of_mount,
-};
 use crate::handle::{Handle, Source, Volume};
 use lfs_fs::{FormatFault, Fs, format_version};
 use lfs_queue::QueueDevice;
+use pansuyog_calls::codes::{
+    ALREADY_MOUNTED, DEVICE, INVAL, NO_MEMORY, NOT_MOUNTED, TOO_SMALL, code_of_mount,
+};
 use std::alloc::Global;
 use std::mem;
 

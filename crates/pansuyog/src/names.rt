@@ -3,8 +3,9 @@
 ghost use Rattle.lfs_model.specs.Call.{Mkdir, LinkTo, Symlink, Unlink, Rmdir, Rename, Widen};
 ghost use Rattle.pansuyog.specs.Serving.{KeepsRest, ServesCall};
 
-use crate::codes::{NOT_MOUNTED, done};
 use crate::handle::Handle;
+use pansuyog_calls::access::Access;
+use pansuyog_calls::names;
 
 /// Makes an empty directory.
 #[unsafe(no_mangle)]
@@ -12,10 +13,7 @@ pub extern "C" fn pansuyog_mkdir(volume: &mut Handle, path: &[u8]) -> i32
     ensures serves { ServesCall volume.old.value volume.new.value (Mkdir path.now) result }
     ensures rest { KeepsRest volume.old.value volume.new.value }
 {
-    match &mut volume.volume().fs {
-        Some(fs) => done(fs.mkdir(path)),
-        None => NOT_MOUNTED,
-    }
+    names::mkdir(&mut volume.volume().fs, Access::ReadWrite, path)
 }
 
 /// Gives an object a further name.
@@ -24,10 +22,7 @@ pub extern "C" fn pansuyog_link(volume: &mut Handle, from: &[u8], to: &[u8]) -> 
     ensures serves { ServesCall volume.old.value volume.new.value (LinkTo from.now to.now) result }
     ensures rest { KeepsRest volume.old.value volume.new.value }
 {
-    match &mut volume.volume().fs {
-        Some(fs) => done(fs.link(from, to)),
-        None => NOT_MOUNTED,
-    }
+    names::link(&mut volume.volume().fs, Access::ReadWrite, from, to)
 }
 
 /// Makes a symbolic link with a text.
@@ -36,10 +31,7 @@ pub extern "C" fn pansuyog_symlink(volume: &mut Handle, text: &[u8], path: &[u8]
     ensures serves { ServesCall volume.old.value volume.new.value (Symlink text.now path.now) result }
     ensures rest { KeepsRest volume.old.value volume.new.value }
 {
-    match &mut volume.volume().fs {
-        Some(fs) => done(fs.symlink(text, path)),
-        None => NOT_MOUNTED,
-    }
+    names::symlink(&mut volume.volume().fs, Access::ReadWrite, text, path)
 }
 
 /// Takes the name of a file or a link away.
@@ -48,10 +40,7 @@ pub extern "C" fn pansuyog_unlink(volume: &mut Handle, path: &[u8]) -> i32
     ensures serves { ServesCall volume.old.value volume.new.value (Unlink path.now) result }
     ensures rest { KeepsRest volume.old.value volume.new.value }
 {
-    match &mut volume.volume().fs {
-        Some(fs) => done(fs.unlink(path)),
-        None => NOT_MOUNTED,
-    }
+    names::unlink(&mut volume.volume().fs, Access::ReadWrite, path)
 }
 
 /// Takes an empty directory away.
@@ -60,10 +49,7 @@ pub extern "C" fn pansuyog_rmdir(volume: &mut Handle, path: &[u8]) -> i32
     ensures serves { ServesCall volume.old.value volume.new.value (Rmdir path.now) result }
     ensures rest { KeepsRest volume.old.value volume.new.value }
 {
-    match &mut volume.volume().fs {
-        Some(fs) => done(fs.rmdir(path)),
-        None => NOT_MOUNTED,
-    }
+    names::rmdir(&mut volume.volume().fs, Access::ReadWrite, path)
 }
 
 /// Gives an object another name, in one change.
@@ -72,10 +58,7 @@ pub extern "C" fn pansuyog_rename(volume: &mut Handle, from: &[u8], to: &[u8]) -
     ensures serves { ServesCall volume.old.value volume.new.value (Rename from.now to.now) result }
     ensures rest { KeepsRest volume.old.value volume.new.value }
 {
-    match &mut volume.volume().fs {
-        Some(fs) => done(fs.rename(from, to)),
-        None => NOT_MOUNTED,
-    }
+    names::rename(&mut volume.volume().fs, Access::ReadWrite, from, to)
 }
 
 /// Gives a directory the form that takes names of up to 123 bytes.
@@ -84,8 +67,5 @@ pub extern "C" fn pansuyog_widen(volume: &mut Handle, path: &[u8]) -> i32
     ensures serves { ServesCall volume.old.value volume.new.value (Widen path.now) result }
     ensures rest { KeepsRest volume.old.value volume.new.value }
 {
-    match &mut volume.volume().fs {
-        Some(fs) => done(fs.widen(path)),
-        None => NOT_MOUNTED,
-    }
+    names::widen(&mut volume.volume().fs, Access::ReadWrite, path)
 }

@@ -7,10 +7,10 @@ ghost use Rattle.lfs_queue.specs.Queue.{carried_of, told_of};
 ghost use Rattle.pansuyog.specs.Orders.{AreRun, CarriesOut, TellsNumber, TellsOrder, TellsRun, carried_by, device_in, told_by};
 ghost use Rattle.pansuyog.specs.Serving.{IsUnchanged, KeepsListing};
 
-use crate::codes::{INVAL, NO_ORDER, NOT_MOUNTED};
 use crate::handle::{Handle, Source, Volume};
 use lfs_model::Order;
 use lfs_queue::QueueDevice;
+use pansuyog_calls::codes::{INVAL, NO_ORDER, NOT_MOUNTED};
 
 /// The device of a volume, if it has one.
 fn device_of(volume: &Volume) -> Option<&QueueDevice>

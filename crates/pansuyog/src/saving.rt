@@ -1,10 +1,12 @@
 //! Calls on the whole volume (POSIX.1-2017: fsync, sync), and those that the volume has besides.
 ghost use Rattle.lfs_model.specs.Call.{Fsync, Sync, Clean, Version, Upgrade};
-ghost use Rattle.pansuyog.specs.Cleaning.{CleansOnceIn, TellsDue};
+ghost use Rattle.lfs_queue.specs.Queue.{queue_state};
+ghost use Rattle.pansuyog_calls.specs.Cleaning.{CleansOnceIn, TellsDue};
 ghost use Rattle.pansuyog.specs.Serving.{IsUnchanged, KeepsRest, ServesCall};
 
-use crate::codes::{NOT_MOUNTED, counted, done};
 use crate::handle::Handle;
+use pansuyog_calls::access::Access;
+use pansuyog_calls::saving;
 
 /// Saves the whole volume, with the file of a handle.
 #[unsafe(no_mangle)]
@@ -12,10 +14,7 @@ pub extern "C" fn pansuyog_fsync(volume: &mut Handle, file: u32) -> i32
     ensures serves { ServesCall volume.old.value volume.new.value (Fsync file) result }
     ensures rest { KeepsRest volume.old.value volume.new.value }
 {
-    match &mut volume.volume().fs {
-        Some(fs) => done(fs.fsync(file)),
-        None => NOT_MOUNTED,
-    }
+    saving::fsync(&mut volume.volume().fs, Access::ReadWrite, file)
 }
 
 /// Saves the whole volume: once the orders that wait behind `0` are carried out, every call before
@@ -25,10 +24,7 @@ pub extern "C" fn pansuyog_sync(volume: &mut Handle) -> i32
     ensures serves { ServesCall volume.old.value volume.new.value Sync result }
     ensures rest { KeepsRest volume.old.value volume.new.value }
 {
-    match &mut volume.volume().fs {
-        Some(fs) => done(fs.sync()),
-        None => NOT_MOUNTED,
-    }
+    saving::sync(&mut volume.volume().fs, Access::ReadWrite)
 }
 
 /// Cleans segments until a quarter of them is clean.
@@ -37,10 +33,7 @@ pub extern "C" fn pansuyog_clean(volume: &mut Handle) -> i32
     ensures serves { ServesCall volume.old.value volume.new.value Clean result }
     ensures rest { KeepsRest volume.old.value volume.new.value }
 {
-    match &mut volume.volume().fs {
-        Some(fs) => done(fs.clean()),
-        None => NOT_MOUNTED,
-    }
+    saving::clean(&mut volume.volume().fs, Access::ReadWrite)
 }
 
 /// 1 where fewer than a quarter of the segments is clean, so that a cleaning has something to do;
@@ -50,10 +43,7 @@ pub extern "C" fn pansuyog_is_cleaning_due(volume: &mut Handle) -> i32
     ensures tells { TellsDue volume.old.value.fs result }
     ensures same { IsUnchanged volume.old.value volume.new.value }
 {
-    match &volume.volume().fs {
-        Some(fs) => i32::from(fs.is_cleaning_due()),
-        None => NOT_MOUNTED,
-    }
+    saving::is_cleaning_due(&volume.volume().fs)
 }
 
 /// One pass of the cleaner where that is so, and none else. What isn't saved is saved before it. The
@@ -61,13 +51,10 @@ pub extern "C" fn pansuyog_is_cleaning_due(volume: &mut Handle) -> i32
 #[unsafe(no_mangle)]
 pub extern "C" fn pansuyog_clean_once(volume: &mut Handle) -> i32
     ensures serves { ServesCall volume.old.value volume.new.value Clean result }
-    ensures once { CleansOnceIn volume.old.value.fs volume.new.value.fs result }
+    ensures once { CleansOnceIn queue_state volume.old.value.fs volume.new.value.fs result }
     ensures rest { KeepsRest volume.old.value volume.new.value }
 {
-    match &mut volume.volume().fs {
-        Some(fs) => done(fs.clean_once()),
-        None => NOT_MOUNTED,
-    }
+    saving::clean_once(&mut volume.volume().fs, Access::ReadWrite)
 }
 
 /// The version of the volume's layout: 1 or 2.
@@ -76,10 +63,7 @@ pub extern "C" fn pansuyog_version(volume: &mut Handle) -> i32
     ensures serves { ServesCall volume.old.value volume.new.value Version result }
     ensures rest { KeepsRest volume.old.value volume.new.value }
 {
-    match &mut volume.volume().fs {
-        Some(fs) => counted(fs.version()),
-        None => NOT_MOUNTED,
-    }
+    saving::version(&mut volume.volume().fs)
 }
 
 /// Raises the version of the volume's layout to 2.
@@ -88,8 +72,5 @@ pub extern "C" fn pansuyog_upgrade(volume: &mut Handle) -> i32
     ensures serves { ServesCall volume.old.value volume.new.value Upgrade result }
     ensures rest { KeepsRest volume.old.value volume.new.value }
 {
-    match &mut volume.volume().fs {
-        Some(fs) => done(fs.upgrade()),
-        None => NOT_MOUNTED,
-    }
+    saving::upgrade(&mut volume.volume().fs, Access::ReadWrite)
 }

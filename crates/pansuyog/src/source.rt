@@ -1,14 +1,14 @@
 //! A volume is begun, given the sectors of a device, and given up.
 ghost use Rattle.std.specs.Prelude.{◌≡◌, ◌≤◌, ◌+◌, ◌⊎◌, ℕ, pos, None, length, replicate};
 ghost use Rattle.lfs_queue.specs.Images.{cells_of};
-ghost use Rattle.pansuyog.specs.Codes.{no_memory};
+ghost use Rattle.pansuyog_calls.specs.Codes.{no_memory};
 ghost use Rattle.pansuyog.specs.Sources.{AreGiven, Gives, HoldsCells, sectors_in};
 ghost use Rattle.pansuyog.specs.Serving.{KeepsListing};
 ghost use Rattle.pansuyog.specs.declared.handle.Source.TheVariants as source_of;
 
-use crate::codes::{INVAL, NO_MEMORY};
 use crate::handle::{Handle, Source, Volume, expose};
 use lfs_queue::Image;
+use pansuyog_calls::codes::{INVAL, NO_MEMORY};
 use std::alloc::Global;
 
 /// A volume that holds nothing, whose address is put into C's memory.

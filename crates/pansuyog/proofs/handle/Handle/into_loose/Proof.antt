@@ -26,7 +26,7 @@ use Rattle.std.proofs.raw_atomic.Walks.{proved_at, leaves}
 use Rattle.std.specs.contracts.alloc.Global as heap
 use Rattle.std.proofs.alloc.Global.TheLaws as heap_laws
 use Rattle.std.specs.contracts.impls.GlobalAllocator.TheImpl.{ghosts}
-use Rattle.pansuyog.proofs.Values.{both, loose_good, loose_in}
+use Rattle.pansuyog_heap.proofs.Values.{both, loose_good, loose_in}
 use Rattle.pansuyog.specs.contracts.handle.Handle.{the_row as H}
 use Rattle.pansuyog.specs.contracts.handle.Volume.{the_row as V}
 use Rattle.pansuyog.specs.contracts.handle.Handle.into_loose as f

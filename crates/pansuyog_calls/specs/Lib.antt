@@ -1,0 +1,9 @@
+pub mod Bytes
+pub mod Cleaning
+pub mod Codes
+pub mod Laws
+pub mod Making
+pub mod Serving
+pub mod Taking
+pub mod Telling
+pub mod Volumes

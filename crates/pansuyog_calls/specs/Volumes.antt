@@ -1,0 +1,46 @@
+-- What a mount, the making of a volume and an unmounting do to what a volume holds.
+use Rattle.std.specs.Prelude.{◌≡◌, ◌≢◌, ℕ, ℤ, pos, Option, Some, None}
+use Rattle.lfs_model.specs.Device.{DeviceState}
+use Rattle.lfs_fs.specs.Seen.{seen}
+use Rattle.lfs_fs.specs.declared.fs.Fs.{Fs}
+use Rattle.lfs_store.specs.log.verify.declared.fault.MountFault.{MountFault}
+use Rattle.pansuyog_calls.specs.Codes.{already_mounted, code_of_mount_fault, inval, not_mounted, read_only}
+use Rattle.pansuyog_calls.specs.Making.{IsNotMounted, Makes, Mounts}
+use Rattle.pansuyog_calls.specs.declared.access.Access.TheVariants.{ReadWrite, ReadOnly}
+use Rattle.pansuyog_calls.specs.declared.volume.VolumeIn.{VolumeIn}
+
+-- the names that were listed last are there still, and the same calls are made
+pub record KeepsListingAndAccess {D : Type 0} (old new : VolumeIn D) : Type 0 where
+  pub listing : new.listing ≡ old.listing
+  pub access : new.access ≡ old.access
+
+-- What an unmounting leaves: the device that was in the volume.
+pub data Unmounts {D : Type 0} (old new : VolumeIn D) (code : ℤ) : Type 0 where
+  is_unmounted : (fs : Fs D) → old.fs ≡ Some fs → code ≡ pos 0 → new.fs ≡ None → new.device ≡ Some (seen fs).log.device
+      → KeepsListingAndAccess old new → Unmounts old new code
+  is_nothing : old.fs ≡ None → code ≡ not_mounted → new ≡ old → Unmounts old new code
+
+module _ {D : Type 0} (state : D → DeviceState) where
+  -- the device's volume is mounted, or the device is held as before
+  abbrev pub MountsDevice : D → Option (Fs D) → Option D → ℤ → Type 0
+  MountsDevice device (Some fs) None code = (code ≡ pos 0) × Mounts state device fs
+  MountsDevice device None (Some after) code =
+      (fault : MountFault) × (code ≡ code_of_mount_fault fault) × IsNotMounted state device after fault
+  MountsDevice device fs held code = ⊥
+
+  -- A mount of the device that a volume holds: it was done or refused there, or a volume is mounted, or none is held.
+  pub data MountsFrom (old new : VolumeIn D) (code : ℤ) : Type 0 where
+    is_tried : (device : D) → old.fs ≡ None → old.device ≡ Some device → MountsDevice device new.fs new.device code
+        → KeepsListingAndAccess old new → MountsFrom old new code
+    is_mounted : old.fs ≢ None → code ≡ already_mounted → new ≡ old → MountsFrom old new code
+    is_nothing : old.fs ≡ None → old.device ≡ None → code ≡ inval → new ≡ old → MountsFrom old new code
+
+  -- An empty volume was to be made on the device that a volume holds; or a volume is mounted, none is held, or it is only read.
+  pub data MakesFrom (segments version : ℕ) (old new : VolumeIn D) (code : ℤ) : Type 0 where
+    was_tried : (device after : D) → old.fs ≡ None → old.access ≡ ReadWrite → old.device ≡ Some device → new.fs ≡ None
+        → new.device ≡ Some after → Makes state segments version device after code → KeepsListingAndAccess old new
+        → MakesFrom segments version old new code
+    is_only_read : (device : D) → old.fs ≡ None → old.access ≡ ReadOnly → old.device ≡ Some device → code ≡ read_only → new ≡ old
+        → MakesFrom segments version old new code
+    is_mounted : old.fs ≢ None → code ≡ already_mounted → new ≡ old → MakesFrom segments version old new code
+    is_nothing : old.fs ≡ None → old.device ≡ None → code ≡ inval → new ≡ old → MakesFrom segments version old new code

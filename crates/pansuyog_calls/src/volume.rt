@@ -1,0 +1,14 @@
+//! A volume as C has it.
+use crate::access::Access;
+use lfs_device::SectorDevice;
+use lfs_fs::{Entry, Fs};
+
+/// A volume over a device: mounted or not, with the names that were listed last.
+#[derive(Drop)]
+pub struct VolumeIn<D: SectorDevice> {
+    pub fs: Option<Fs<D>>,
+    /// A device on which no volume is mounted.
+    pub device: Option<D>,
+    pub listing: Vec<Entry>,
+    pub access: Access,
+}

@@ -1,0 +1,4 @@
+pub mod Devices
+pub mod Lending
+pub mod Serving
+pub mod Sources

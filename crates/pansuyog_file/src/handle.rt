@@ -1,0 +1,60 @@
+//! What C holds of a volume.
+ghost use Rattle.std.specs.Prelude.{◌≡◌};
+ghost use Rattle.std_alloc.specs.Box.Ownership.{box_owns};
+ghost use Rattle.std.specs.contracts.impls.GlobalAllocator.TheImpl.{ghosts};
+ghost use Rattle.pansuyog_file.specs.contracts.handle.Volume.{the_row};
+ghost use Rattle.pansuyog_file.specs.declared.handle.Volume.{Volume};
+
+use lfs_device::FileDevice;
+use pansuyog_calls::volume::VolumeIn;
+use pansuyog_heap::Loose;
+use std::alloc::Global;
+use std::marker::Model;
+
+/// A volume in a file, as C has it.
+#[derive(Drop)]
+pub struct Volume {
+    pub inner: VolumeIn<FileDevice>,
+}
+
+/// A volume by its address, as C passes it.
+#[repr(C)]
+#[derive(Drop)]
+pub struct Handle {
+    at: *mut u8,
+    alloc: Global,
+    ghost value: { Volume } by { the_row.coded },
+}
+
+impl Model for Handle {
+    ghost also_owns = { λ h. box_owns (ghosts.dealloc_token h.alloc) the_row h.at h.value };
+}
+
+impl Handle {
+    ghost use types.Logic.{sem};
+    ghost use Rattle.pansuyog_file.specs.Lending.{LendsVolume};
+
+    /// The volume itself.
+    pub fn volume(&mut self) -> &mut Volume
+        ensures* writes_back { sem 𝓛 (LendsVolume self.entry result) }
+        ensures value { result.now ≡ self.old.value }
+    {
+        unsafe { &mut *(self.at as *mut Volume) }
+    }
+
+    /// The volume as it lies on the heap, to be freed.
+    pub fn into_loose(self) -> Loose<Volume, Global>
+        ensures { result.value ≡ self.value }
+    {
+        let Handle { at, alloc } = self;
+        Loose {
+            at: at as *mut Volume,
+            alloc,
+        }
+    }
+}
+
+/// The address of a volume. It stays until the volume is freed.
+pub fn expose(volume: Box<Volume>) -> *mut u8 {
+    Box::into_raw(volume) as *mut u8
+}
