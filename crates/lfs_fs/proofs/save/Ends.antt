@@ -2,7 +2,7 @@
 use Rattle.lfs_fs.proofs.Prelude.{◌≡◌, true, false, refl, sym, subst, arith, Done, Refuse, Sync, DeviceState, IsLawful, LogFault}
 use Rattle.lfs_fs.proofs.Prelude.{Store, volume_of, Fs, error_of_log, refusal_of, seen, Serves}
 use Rattle.lfs_files.specs.declared.fault.LogFault.TheVariants as log
-use Rattle.lfs_store.proofs.of_cleaner.Rooms.{halts_at_once}
+use Rattle.lfs_store.proofs.of_cleaner.CleanEnds.{halts_at_once}
 use Rattle.lfs_fs.proofs.calls.AnyDevice.{sync_bounded}
 use Rattle.lfs_fs.proofs.save.Declined.{sync_serves}
 use Rattle.lfs_fs.proofs.Prelude.{Device, Err, LogState, Ok, Result}
