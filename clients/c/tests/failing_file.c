@@ -1,5 +1,5 @@
-/* A file that fails: each write and sync in turn, a read, and calls that are interrupted or short. No record that was told of is gone. It is
- * linked with --wrap=pread, --wrap=pwrite and --wrap=fsync.
+/* A file that fails: each write and sync in turn, a read, and calls that are interrupted or short. No record that was told of is gone. It
+ * is linked with --wrap=pread, --wrap=pwrite and --wrap=fsync.
  *     failing_file IMAGE */
 #define _GNU_SOURCE
 #ifndef OVER_FILE
