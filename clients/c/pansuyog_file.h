@@ -26,7 +26,8 @@
  * Where a write or a sync of the file fails the call answers HALTED, and so does each later one. pansuyog_file_unmount, and mount anew: the
  * file holds what a loss of power may leave. Where a kernel's cache lies between, restart the machine before.
  *
- * Memory. A volume takes 0.7 to 5 MB, however large its file is. A call that is refused memory answers NO_MEMORY and changes nothing. */
+ * Memory. A volume takes 0.7 to 4.7 MB, however large its file is. A call that needs memory which is refused answers NO_MEMORY, and changes
+ * nothing. */
 #ifndef PANSUYOG_FILE_H
 #define PANSUYOG_FILE_H
 
@@ -67,8 +68,8 @@ void pansuyog_file_free(pansuyog_file volume);
  * held is gone. It takes 2 + 64 * segments sectors of 512 bytes, which are there already. INVAL, also where no file was taken; TOO_SMALL,
  * DEVICE, READ_ONLY, ALREADY_MOUNTED. */
 int32_t pansuyog_file_format(pansuyog_file *volume, uint32_t segments, uint32_t version);
-/* Mounts the volume of the file that was taken, with no open handles. It writes nothing. INVAL where no file was taken; NO_MEMORY, DEVICE,
- * TOO_SMALL, NO_CHECKPOINT, DAMAGED, ALREADY_MOUNTED. The file stays taken where it is refused. */
+/* Mounts the volume of the file that was taken, with no open handles. It syncs the file once, and writes nothing. INVAL where no file was
+ * taken; NO_MEMORY, DEVICE, TOO_SMALL, NO_CHECKPOINT, DAMAGED, ALREADY_MOUNTED. The file stays taken where it is refused. */
 int32_t pansuyog_file_mount(pansuyog_file *volume);
 /* Saves nothing: call pansuyog_file_sync before. The file stays taken, and can be mounted again. NOT_MOUNTED. */
 int32_t pansuyog_file_unmount(pansuyog_file *volume);
