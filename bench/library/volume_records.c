@@ -27,7 +27,7 @@ static void finish(pansuyog *volume, int fd, const char *what, double start) {
     double called = now() - start;
     uint32_t writes = writes_due(volume);
     start = now();
-    check(pansuyog_carry(volume, fd) == 0);
+    check(pansuyog_carry(volume, fd, NULL) == 0);
     if (writes > 0) printf("%s %.4f %u\n", what, called + now() - start, writes);
 }
 
@@ -43,10 +43,10 @@ static void fill(pansuyog *volume, int fd, const struct records *records) {
             uint32_t count = records->blocks[file] - block < PART ? records->blocks[file] - block : PART;
             memset(part, (int)(1 + number++ % 255), sizeof part);
             check(pansuyog_pwrite(volume, file, (uint64_t)block * SECTOR, part, count * SECTOR) == (int32_t)(count * SECTOR));
-            if (number % 16 == 0) check(pansuyog_save_fd(volume, fd) == 0);
+            if (number % 16 == 0) check(pansuyog_save_fd(volume, fd, NULL) == 0);
         }
     }
-    check(pansuyog_save_fd(volume, fd) == 0);
+    check(pansuyog_save_fd(volume, fd, NULL) == 0);
 }
 
 static void overwrite(pansuyog *volume, int fd, const struct records *records, uint32_t each) {
@@ -72,7 +72,7 @@ int main(int argc, char **argv) {
     read_records(&records);
     int fd = open(argv[1], O_RDWR | O_CREAT | O_TRUNC, 0600);
     check(fd >= 0 && ftruncate(fd, (off_t)SECTOR * SECTORS(SEGMENTS)) == 0 && pansuyog_new(&volume) == 0);
-    check(pansuyog_format_fd(&volume, fd, SEGMENTS, 1, ROOM) == 0 && pansuyog_mount_fd(&volume, fd, PASS_ORDERS) == 0);
+    check(pansuyog_format_fd(&volume, fd, SEGMENTS, 1, ROOM, NULL) == 0 && pansuyog_mount_fd(&volume, fd, PASS_ORDERS, NULL) == 0);
     fill(&volume, fd, &records);
     overwrite(&volume, fd, &records, (uint32_t)atoi(argv[2]));
     pansuyog_free(volume);

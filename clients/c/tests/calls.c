@@ -1,30 +1,8 @@
 /* Each call of the library, with its answers, and with each bad argument that the header allows.
  *     calls IMAGE */
 #define _GNU_SOURCE
-#include "../pansuyog_fd.h"
-#include "check.h"
+#include "both.h"
 #include <fcntl.h>
-
-/* Every call of a volume where none is mounted. */
-static void unmounted(pansuyog *v) {
-    char bytes[8] = {0};
-    pansuyog_stat_t stat = {0};
-    pansuyog_space_t space = {0};
-    const int32_t none = PANSUYOG_NOT_MOUNTED;
-    check(pansuyog_open(v, PATH("/a")) == none && pansuyog_create(v, PATH("/a")) == none && pansuyog_close(v, 0) == none);
-    check(pansuyog_pread(v, 0, 0, bytes, 8) == none && pansuyog_pwrite(v, 0, 0, bytes, 8) == none && pansuyog_truncate(v, 0, 0) == none);
-    check(pansuyog_mkdir(v, PATH("/a")) == none && pansuyog_rmdir(v, PATH("/a")) == none && pansuyog_unlink(v, PATH("/a")) == none);
-    check(pansuyog_link(v, PATH("/a"), PATH("/b")) == none && pansuyog_rename(v, PATH("/a"), PATH("/b")) == none);
-    check(pansuyog_symlink(v, PATH("/a"), PATH("/b")) == none && pansuyog_readlink(v, PATH("/a"), bytes, 8) == none);
-    check(pansuyog_stat(v, PATH("/a"), &stat) == none && pansuyog_lstat(v, PATH("/a"), &stat) == none);
-    check(pansuyog_list(v, PATH("/")) == none && pansuyog_fsync(v, 0) == none && pansuyog_sync(v) == none && pansuyog_clean(v) == none);
-    check(pansuyog_is_cleaning_due(v) == none && pansuyog_clean_once(v) == none);
-    check(pansuyog_space(v, &space) == none && pansuyog_version(v) == none && pansuyog_upgrade(v) == none);
-    check(pansuyog_widen(v, PATH("/")) == none);
-    check(pansuyog_unmount(v) == none);
-    for (size_t at = 0; at < sizeof bytes; at++) check(bytes[at] == 0);
-    check(stat.number == 0 && space.limit == 0);
-}
 
 /* A volume that holds nothing, and one of which sectors are being given. */
 static void beginning(pansuyog *v) {
@@ -69,79 +47,6 @@ static void making(pansuyog *v, int fd) {
     check(pansuyog_mount(v, ROOM) == 0 && pansuyog_carried(v) == before && pansuyog_told(v) >= before);
     check(pansuyog_mount(v, ROOM) == PANSUYOG_ALREADY_MOUNTED && pansuyog_format(v, 128, 1, ROOM) == PANSUYOG_ALREADY_MOUNTED);
     check(pansuyog_carry(v, fd, NULL) == 0 && pansuyog_carried(v) == pansuyog_told(v));
-}
-
-static void files(pansuyog *v) {
-    static char bytes[65537];
-    check(pansuyog_create(v, PATH("/a")) == 0 && pansuyog_create(v, PATH("/a")) == PANSUYOG_EXIST);
-    check(pansuyog_create(v, PATH("")) == PANSUYOG_NO_ENTRY);
-    check(pansuyog_open(v, PATH("/none")) == PANSUYOG_NO_ENTRY && pansuyog_open(v, PATH("/")) == PANSUYOG_IS_DIR);
-    check(pansuyog_open(v, "/a\0", 3) == PANSUYOG_INVAL);
-    memset(bytes, 'a', sizeof bytes);
-    check(pansuyog_open(v, bytes, 1023) == PANSUYOG_NAME_TOO_LONG && pansuyog_open(v, bytes, sizeof bytes) == PANSUYOG_NAME_TOO_LONG);
-    check(pansuyog_pwrite(v, 0, 10, "hello", 5) == 5 && pansuyog_pwrite(v, 1, 0, "x", 1) == PANSUYOG_BAD_HANDLE);
-    check(pansuyog_pwrite(v, UINT32_MAX, 0, "x", 1) == PANSUYOG_BAD_HANDLE);
-    check(pansuyog_pwrite(v, 0, 0, bytes, 0) == 0 && pansuyog_pwrite(v, 0, 0, bytes, 65537) == PANSUYOG_INVAL);
-    check(pansuyog_pwrite(v, 0, UINT64_MAX, "x", 1) == PANSUYOG_FILE_TOO_BIG);
-    check(pansuyog_pwrite(v, 0, 8511488, "x", 1) == PANSUYOG_FILE_TOO_BIG);
-    memset(bytes, 'z', sizeof bytes);
-    check(pansuyog_pread(v, 0, 8, bytes, 64) == 7 && !memcmp(bytes, "\0\0hellozz", 9));
-    check(pansuyog_pread(v, 0, 10, bytes, 2) == 2 && !memcmp(bytes, "heh", 2) && pansuyog_pread(v, 0, 0, bytes, 0) == 0);
-    check(pansuyog_pread(v, 0, 15, bytes, 8) == 0 && pansuyog_pread(v, 0, UINT64_MAX, bytes, 8) == 0);
-    check(pansuyog_pread(v, 0, 0, bytes, 65537) == PANSUYOG_INVAL && pansuyog_pread(v, 0, 0, bytes, 65536) == 15);
-    check(pansuyog_pread(v, 64, 0, bytes, 8) == PANSUYOG_BAD_HANDLE);
-    check(pansuyog_truncate(v, 0, 12) == 0 && pansuyog_pread(v, 0, 10, bytes, 8) == 2);
-    check(pansuyog_truncate(v, 0, UINT64_MAX) == PANSUYOG_FILE_TOO_BIG && pansuyog_truncate(v, 9, 0) == PANSUYOG_BAD_HANDLE);
-    for (uint32_t handle = 1; handle < 64; handle++) check(pansuyog_open(v, PATH("/a")) == (int32_t)handle);
-    check(pansuyog_open(v, PATH("/a")) == PANSUYOG_TOO_MANY_OPEN && pansuyog_create(v, PATH("/b")) == PANSUYOG_TOO_MANY_OPEN);
-    for (uint32_t handle = 1; handle < 64; handle++) check(pansuyog_close(v, handle) == 0);
-    check(pansuyog_close(v, 1) == PANSUYOG_BAD_HANDLE && pansuyog_close(v, UINT32_MAX) == PANSUYOG_BAD_HANDLE);
-}
-
-static void names(pansuyog *v) {
-    char text[8];
-    memset(text, 'z', sizeof text);
-    check(pansuyog_mkdir(v, PATH("/d")) == 0 && pansuyog_mkdir(v, PATH("/d")) == PANSUYOG_EXIST);
-    check(pansuyog_mkdir(v, PATH("/a/x")) == PANSUYOG_NOT_DIR && pansuyog_mkdir(v, PATH("/")) == PANSUYOG_EXIST);
-    check(pansuyog_link(v, PATH("/a"), PATH("/d/a")) == 0 && pansuyog_link(v, PATH("/d"), PATH("/e")) == PANSUYOG_PERM);
-    check(pansuyog_link(v, PATH("/a"), PATH("/d/a")) == PANSUYOG_EXIST);
-    check(pansuyog_rmdir(v, PATH("/d")) == PANSUYOG_NOT_EMPTY && pansuyog_rmdir(v, PATH("/")) == PANSUYOG_BUSY);
-    check(pansuyog_unlink(v, PATH("/d")) == PANSUYOG_PERM);
-    check(pansuyog_rename(v, PATH("/d/a"), PATH("/d/b")) == 0 && pansuyog_rename(v, PATH("/d"), PATH("/d/e")) == PANSUYOG_INVAL);
-    check(pansuyog_rename(v, PATH("/none"), PATH("/e")) == PANSUYOG_NO_ENTRY);
-    check(pansuyog_symlink(v, PATH("/d/b"), PATH("/l")) == 0 && pansuyog_symlink(v, PATH(""), PATH("/m")) == PANSUYOG_NO_ENTRY);
-    check(pansuyog_readlink(v, PATH("/l"), text, 2) == 4 && !memcmp(text, "/dz", 3) && pansuyog_readlink(v, PATH("/l"), text, 8) == 4);
-    check(!memcmp(text, "/d/bz", 5));
-    check(pansuyog_readlink(v, PATH("/a"), text, 8) == PANSUYOG_INVAL && pansuyog_readlink(v, PATH("/l"), text, 0) == 4);
-    check(pansuyog_symlink(v, PATH("/loop"), PATH("/loop")) == 0 && pansuyog_open(v, PATH("/loop")) == PANSUYOG_LOOP);
-    check(pansuyog_unlink(v, PATH("/loop")) == 0);
-    check(pansuyog_unlink(v, PATH("/none")) == PANSUYOG_NO_ENTRY && pansuyog_rmdir(v, PATH("/a")) == PANSUYOG_NOT_DIR);
-}
-
-static void looks(pansuyog *v) {
-    pansuyog_stat_t stat = {9, 9, 9, 9};
-    pansuyog_space_t space;
-    pansuyog_entry_t entry = {9, 9};
-    char name[128];
-    check(pansuyog_stat(v, PATH("/none"), &stat) == PANSUYOG_NO_ENTRY && stat.size == 9 && stat.links == 9);
-    check(pansuyog_stat(v, PATH("/l"), &stat) == 0 && stat.kind == PANSUYOG_FILE && stat.size == 12 && stat.links == 2);
-    check(pansuyog_lstat(v, PATH("/l"), &stat) == 0 && stat.kind == PANSUYOG_LINK && stat.size == 4 && stat.links == 1);
-    check(pansuyog_stat(v, PATH("/"), &stat) == 0 && stat.kind == PANSUYOG_DIRECTORY && stat.number == 1 && stat.size == 3 * 64);
-    check(pansuyog_entry(v, 0, &entry, name, sizeof name) == 0 && entry.number == 9);
-    check(pansuyog_list(v, PATH("/a")) == PANSUYOG_NOT_DIR && pansuyog_list(v, PATH("/")) == 3);
-    memset(name, 'z', sizeof name);
-    check(pansuyog_entry(v, 0, &entry, name, sizeof name) == 1 && !memcmp(name, "az", 2) && entry.kind == PANSUYOG_FILE);
-    check(entry.number == 2);
-    check(pansuyog_entry(v, 1, &entry, name, 0) == 1 && name[0] == 'a' && entry.kind == PANSUYOG_DIRECTORY);
-    check(pansuyog_list(v, PATH("/none")) == PANSUYOG_NO_ENTRY);
-    check(pansuyog_entry(v, 2, &entry, name, 1) == 1 && name[0] == 'l' && entry.kind == PANSUYOG_LINK);
-    check(pansuyog_entry(v, 3, &entry, name, 1) == 0 && pansuyog_entry(v, SIZE_MAX, &entry, name, 1) == 0 && entry.kind == PANSUYOG_LINK);
-    check(pansuyog_list(v, PATH("/d")) == 1 && pansuyog_entry(v, 1, &entry, name, 1) == 0);
-    check(pansuyog_space(v, &space) == 0 && space.limit == 47 * 128 && space.need == space.data_blocks + 7 * space.meta_blocks + 720);
-    check(pansuyog_version(v) == 1 && pansuyog_widen(v, PATH("/d")) == PANSUYOG_INVAL && pansuyog_upgrade(v) == 0);
-    check(pansuyog_version(v) == 2);
-    check(pansuyog_widen(v, PATH("/d")) == 0 && pansuyog_widen(v, PATH("/a")) == PANSUYOG_NOT_DIR);
-    check(pansuyog_widen(v, PATH("/none")) == PANSUYOG_NO_ENTRY);
 }
 
 /* Runs of writes are the orders that follow one another, and no more than there is room for. */
@@ -255,19 +160,6 @@ static void images(pansuyog *v, const char *image) {
     check(pansuyog_mount_fd(v, fd, ROOM, NULL) == 0 && pansuyog_version(v) == 1);
     pansuyog_abandon(v);
     check(close(fd) == 0 && unlink(made) == 0);
-}
-
-/* Each code says something of its own. */
-static void texts(void) {
-    const char *unknown = pansuyog_text(-50);
-    int known = 0;
-    for (int32_t code = PANSUYOG_NO_ORDER; code <= 0; code++) {
-        const char *text = pansuyog_text(code);
-        if (strcmp(text, unknown) == 0) continue;
-        known++;
-        for (int32_t other = code + 1; other <= 0; other++) check(strcmp(text, pansuyog_text(other)) != 0);
-    }
-    check(known == 28 && strcmp(pansuyog_text(-101), unknown) != 0 && strcmp(pansuyog_text(-101), pansuyog_text(-115)) == 0);
 }
 
 /* What isn't saved goes with an unmount, and numbers of orders go on. */
