@@ -949,7 +949,8 @@ def _loaded(name, path):
 @functools.lru_cache(maxsize=None)
 def _library(name, path):
     """The functions of a library."""
-    c, library, functions = _types(), _loaded(name, path), {}
+    library, functions = _loaded(name, path), {}
+    c = _types()
     for function, taken in _signatures(c, name).items():
         functions[function] = getattr(library, f"{name}_{function}")
         functions[function].argtypes = [c.pointer(c.volume), *taken]

@@ -886,6 +886,13 @@ class Installed(OfTheLibrary):
             subprocess.run([sys.executable, "-c", code], cwd=folder, check=True)
             self.assertEqual(os.path.getsize(f"{folder}/disk.img"), 512 * (2 + 64 * 64))
 
+    def test_the_page_of_the_library_shows_what_runs(self):
+        shown = re.findall(r"^```python\n(.*?)^```", text_of(f"{HERE}/../../docs/LIBRARY.md"), re.M | re.S)
+        self.assertEqual(len(shown), 1)
+        env = {**os.environ, "PYTHONPATH": HERE, "LD_LIBRARY_PATH": os.path.dirname(used().path)}
+        ran = subprocess.run([sys.executable, "-B", "-c", shown[0]], env=env, stdout=subprocess.PIPE, check=True)
+        self.assertEqual(ran.stdout, b"a record\n")
+
     def test_a_wheel_has_the_libraries(self):
         with tempfile.TemporaryDirectory() as folder, mock.patch("building.LIBRARIES", self.libraries()):
             name = building.build_wheel(folder)
