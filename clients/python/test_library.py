@@ -78,12 +78,23 @@ class FilesOnADevice(OnADevice, Files):
     pass
 
 
+FAULTS = f"{HERE}/../c/tests/faults.c"
+NO_LOCKS = """
+#include <errno.h>
+int flock(int fd, int how) {
+    (void)fd, (void)how;
+    errno = ENOLCK;
+    return -1;
+}
+"""
+
+
 @functools.lru_cache(maxsize=None)
-def faults():
-    """What clients/c/tests/faults.c is, to be loaded before a program whose calls of the system are to fail."""
+def preloaded(path):
+    """What is made of a file in C, to be loaded before a program whose calls of the system are to fail."""
     folder = tempfile.mkdtemp()
     atexit.register(shutil.rmtree, folder)
-    subprocess.run(["gcc", "-O2", "-shared", "-fPIC", f"{HERE}/../c/tests/faults.c", "-o", f"{folder}/faults.so", "-ldl"], check=True)
+    subprocess.run(["gcc", "-O2", "-shared", "-fPIC", path, "-o", f"{folder}/faults.so", "-ldl"], check=True)
     return f"{folder}/faults.so"
 
 
@@ -110,9 +121,9 @@ class WhereTheSystemFails(OfTheLibrary):
         self.addCleanup(folder.cleanup)
         self.folder, self.image = folder.name, f"{folder.name}/disk.img"
 
-    def run_with(self, code, fails="", stop=None):
+    def run_with(self, code, fails="", stop=None, faults=FAULTS):
         """Runs a program, some of whose calls fail, or which ends at one of those that change a file: its status and its lines."""
-        env = {**os.environ, "PYTHONPATH": HERE, "LD_PRELOAD": faults(), "FAULTS": fails, **({} if stop is None else {"STOP": str(stop)})}
+        env = {**os.environ, "PYTHONPATH": HERE, "LD_PRELOAD": preloaded(faults), "FAULTS": fails, **({} if stop is None else {"STOP": str(stop)})}
         words = [sys.executable, "-B", "-c", PROGRAM + code, used().path, self.image]
         ran = subprocess.run(words, env=env, stdout=subprocess.PIPE, text=True, check=False)
         return ran.returncode, ran.stdout.splitlines()
@@ -275,7 +286,8 @@ class Sessions(OfTheLibrary, OnAVolume):
         for thread in threads:
             thread.join()
         records = volume.read("/log")
-        self.assertEqual(sorted(int(records[at : at + 8]) for at in range(0, len(records), 8)), [1_000 * number + place for number in range(4) for place in range(25)])
+        found = sorted(int(records[at : at + 8]) for at in range(0, len(records), 8))
+        self.assertEqual(found, [1_000 * number + place for number in range(4) for place in range(25)])
         for number in range(4):
             self.assertEqual(volume.read(f"/{number}"), b"%d" % number * 48_000)
 
@@ -518,6 +530,17 @@ class Making(OfTheLibrary):
         self.assertEqual(os.path.getsize(self.image), 8)
 
 
+# Has a volume until it gets a line.
+HOLDING = """
+import sys
+import pansuyog
+library, image, *reads = sys.argv[1:]
+with pansuyog.Volume(image, library=library, read_only=bool(reads)):
+    print("there", flush=True)
+    input()
+"""
+
+
 class Images(OfTheLibrary, OnAVolume):
     def test_a_damaged_volume_tells_its_stage(self):
         for sector, place, byte, stage in DAMAGES:
@@ -582,9 +605,8 @@ class Images(OfTheLibrary, OnAVolume):
             self.assertIs(volume.is_cleaning_due(), False)
 
     def test_another_process_is_kept_out(self):
-        code = "import sys, pansuyog\nvolume = pansuyog.Volume(sys.argv[2], library=sys.argv[1], read_only=bool(sys.argv[3:]))\nprint('there', flush=True)\ninput()"
         for more in ([], ["reads"]):
-            words = [sys.executable, "-B", "-c", code, used().path, self.image, *more]
+            words = [sys.executable, "-B", "-c", HOLDING, used().path, self.image, *more]
             with subprocess.Popen(words, env={**os.environ, "PYTHONPATH": HERE}, stdin=subprocess.PIPE, stdout=subprocess.PIPE, text=True) as child:
                 self.assertEqual(child.stdout.readline(), "there\n")
                 self.assertRaisesRegex(pansuyog.Image, "it is in use", used().mounted, self.image)
@@ -648,6 +670,11 @@ class Failing(WhereTheSystemFails):
         self.assertEqual((status, lines), (0, [f"saved {number}" for number in range(20)]))
         with used().mounted(self.image) as volume:
             self.assertEqual(volume.read("/log")[80_000:], b"".join(b"%04d" % number for number in range(20)))
+
+    def test_a_file_system_without_locks_is_told(self):
+        put(f"{self.folder}/locks.c", NO_LOCKS.encode())
+        status, lines = self.run_with(APPEND.format(first=0), faults=f"{self.folder}/locks.c")
+        self.assertEqual((status, lines), (0, [f"Image False {self.image}: the system refuses to lock it"]))
 
     def test_a_write_or_a_sync_that_fails_halts_the_volume(self):
         # A sync fails only behind a write, so the mount comes to its end.
