@@ -1399,12 +1399,14 @@ class _OverFile(_Held):
         return _Failure(what, error)
 
     def _is_synced(self):
-        """Whether all that was written since the file was opened is on its medium."""
+        """Whether all that was written since the file was opened is on its medium. The system tells each descriptor of a write that was
+        lost, also once another one was told."""
         try:
-            os.fsync(self._second)
-        except (OSError, TypeError):
+            if self._second is not None:
+                os.fsync(self._second)
+        except OSError:
             return False
-        return True
+        return self._second is not None
 
 
 class _OverDevice(_Held):
@@ -1499,9 +1501,8 @@ class Volume(Files):
     volume: calls are made one at a time, and those that read or write one whole file are made together. `library` is the path of the shared
     object, where it isn't installed. A volume that isn't mounted is refused here.
 
-    The library reads of the image what a call needs, and keeps nothing of it but what the volume itself is: 0.7 to 4.7 MB. With
-    `read_only=True` the image is opened for reading, with the lock of those that look, and nothing is written.
-    """
+    The library reads of the image what a call needs, and takes 0.7 to 4.7 MB of memory for the volume. With `read_only=True` the image is
+    opened for reading, with the lock of those that look, and nothing is written."""
 
     def __init__(self, image, *, library=None, read_only=False):
         functions = _library(_FILES, library)
