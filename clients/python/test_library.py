@@ -87,6 +87,23 @@ int flock(int fd, int how) {
     return -1;
 }
 """
+# No read gives anything while the environment says so.
+BROKEN_READS = """
+#define _GNU_SOURCE
+#include <dlfcn.h>
+#include <errno.h>
+#include <stdlib.h>
+#include <unistd.h>
+
+#define READS(name, offset_type)                                          \\
+    ssize_t name(int fd, void *bytes, size_t count, offset_type offset) { \\
+        errno = EIO;                                                      \\
+        if (getenv("BROKEN") != NULL) return -1;                          \\
+        return ((__typeof__(&name))dlsym(RTLD_NEXT, #name))(fd, bytes, count, offset); \\
+    }
+READS(pread, off_t)
+READS(pread64, off64_t)
+"""
 
 
 @functools.lru_cache(maxsize=None)
@@ -654,6 +671,24 @@ try:
 except pansuyog.Refused as error:
     tell(error)
 """
+# Mounts a volume and reads a file, both first where no read gives anything.
+READ = """
+import os
+
+def tell_broken(call, *arguments):
+    os.environ["BROKEN"] = "yes"
+    try:
+        call(*arguments)
+    except pansuyog.Refused as error:
+        tell(error)
+    del os.environ["BROKEN"]
+
+tell_broken(lambda: pansuyog.Volume(image, library=library))
+with pansuyog.Volume(image, library=library) as volume:
+    handle = volume.open("/f")
+    tell_broken(volume.pread, handle, 60_000, 5)
+    print(volume.pread(handle, 60_000, 5))
+"""
 
 
 class Failing(WhereTheSystemFails):
@@ -670,6 +705,15 @@ class Failing(WhereTheSystemFails):
         self.assertEqual((status, lines), (0, [f"saved {number}" for number in range(20)]))
         with used().mounted(self.image) as volume:
             self.assertEqual(volume.read("/log")[80_000:], b"".join(b"%04d" % number for number in range(20)))
+
+    def test_a_read_that_fails_is_told_and_the_volume_goes_on(self):
+        with used().mounted(self.image) as volume:
+            volume.write_file("/f", b"x" * 70_000)
+        put(f"{self.folder}/reads.c", BROKEN_READS.encode())
+        status, lines = self.run_with(READ, faults=f"{self.folder}/reads.c")
+        mount = f"Device True {self.image}: a read or a sync of it failed: Input/output error"
+        call = f"Device True pread 0 60000 5: a read of {self.image} failed: Input/output error"
+        self.assertEqual((status, lines), (0, [mount, call, "b'xxxxx'"]))
 
     def test_a_file_system_without_locks_is_told(self):
         put(f"{self.folder}/locks.c", NO_LOCKS.encode())
