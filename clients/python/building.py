@@ -1,5 +1,5 @@
-"""Builds the wheel of the client, with the standard library alone, for `pip install` without a network. The library goes into it where
-`./library` built it before."""
+"""Builds the wheel of the client, with the standard library alone, for `pip install` without a network. The two libraries go into it where
+`./library` built them before."""
 import base64
 import hashlib
 import os
@@ -8,25 +8,29 @@ import zipfile
 
 HERE = os.path.dirname(os.path.realpath(__file__))
 MODULE = "pansuyog.py"
-LIBRARY = f"{HERE}/../c/out/libpansuyog.so.0"
+LIBRARIES = [f"{HERE}/../c/out/lib{name}.so.0" for name in ("pansuyog_file", "pansuyog")]
 NAME, VERSION = "pansuyog", "0.1.0"
 INFO = f"{NAME}-{VERSION}.dist-info"
 
 
+def _built():
+    """Those libraries that are there."""
+    return [path for path in LIBRARIES if os.path.exists(path)]
+
+
 def _tag():
-    """For which machines the wheel is: for any without the library."""
+    """For which machines the wheel is: for any without a library."""
     machine = sysconfig.get_platform().replace("-", "_").replace(".", "_")
-    return f"py3-none-{machine if os.path.exists(LIBRARY) else 'any'}"
+    return f"py3-none-{machine if _built() else 'any'}"
 
 
 def _files():
-    for path in (f"{HERE}/{MODULE}", LIBRARY):
-        if os.path.exists(path):
-            with open(path, "rb") as file:
-                yield os.path.basename(path), file.read()
+    for path in (f"{HERE}/{MODULE}", *_built()):
+        with open(path, "rb") as file:
+            yield os.path.basename(path), file.read()
     metadata = f"Metadata-Version: 2.1\nName: {NAME}\nVersion: {VERSION}\nRequires-Python: >=3.8\n"
     yield f"{INFO}/METADATA", metadata.encode()
-    pure = str(not os.path.exists(LIBRARY)).lower()
+    pure = str(not _built()).lower()
     yield f"{INFO}/WHEEL", f"Wheel-Version: 1.0\nGenerator: pansuyog\nRoot-Is-Purelib: {pure}\nTag: {_tag()}\n".encode()
 
 

@@ -19,10 +19,11 @@ Whole files and folders go in and out by the methods of `Files`:
 
 Each other method is one call of the volume (docs/CALLS.md). There are two classes, with the same methods:
 
-- `Volume` is the library `libpansuyog.so` (docs/LIBRARY.md), in this process.
+- `Volume` is the library `libpansuyog_file.so` (docs/LIBRARY.md), in this process. `Volume.over(device)` stands on a device of the caller's
+  own in place of an image, by the library `libpansuyog.so`.
 - `ProcessVolume` is a child process `lfs run IMAGE`, which answers a line of a script (docs/SCRIPT.md) for each call.
 
-Both take `read_only=True`. `make` makes an empty volume, by the library or by the program.
+All take `read_only=True`. `make` makes an empty volume, by the library or by the program, and `make_over` one on a device.
 
 A refusal is an exception of the refusal's name: `NoEntry`, `NoSpace`, `Device` and so on. Its text has the call and the cause. What was
 acknowledged by `sync` stays through any stop of the device or of the process; what wasn't may be gone at the next mount.
@@ -45,7 +46,7 @@ import weakref
 from typing import List, NamedTuple
 
 __all__ = ["Calls", "Files", "Volume", "ProcessVolume", "Refused", "ReadOnly", "ChildDied", "BadLine", "Omitted"]
-__all__ += ["Entry", "Space", "Stat", "TreeRow", "Written", "make"]
+__all__ += ["Entry", "Space", "Stat", "TreeRow", "Written", "make", "make_over"]
 
 # What people are told of a call that is refused, as in crates/lfs_host/src/reason.rt: the reply to a line has the name alone.
 _NO_MEMORY = "there isn't enough memory"
@@ -261,7 +262,7 @@ def make(image, segments, lfs=None, format=1, *, library=None, force=False, rese
     as IMAGE.lfs-make, and what a stop leaves of that the next `make` begins anew. Where a file can't have two names, as on vfat and exFAT, a
     stop may leave an empty file of the image's name too."""
     if lfs is None:
-        Volume._make(image, segments, format, reserve, force, library)
+        _make_by_library(image, segments, format, reserve, force, library)
     else:
         _make_by_program(image, segments, lfs, format, reserve, force)
 
@@ -278,6 +279,13 @@ def _make_by_program(image, segments, lfs, format, reserve, force):
         raise _refusal(reply.split()[1], _cause(errors, reply))
     if child.returncode != 0:
         raise ChildDied(f"lfs mkfs ended with status {child.returncode}: {_cause(errors, reply)}")
+
+
+def make_over(device, segments, format=1, *, library=None):
+    """Makes an empty volume on a device of the caller's own, as `Volume.over` takes it, whatever it holds."""
+    _check_size(_DEVICE_NAME, segments, format)
+    with contextlib.closing(_OverDevice(device, _library(_ORDERS, library))) as made:
+        made.format(segments, format)
 
 
 class Calls:
@@ -463,9 +471,25 @@ def _check_put(it, longest):
         raise _refusal("NameTooLong", f"{shown}: a path has at most {_LONGEST_PATH} bytes, and this one needs {needed}")
 
 
+def _together(method):
+    """A method whose calls belong together: where threads share a volume, no call of another one comes between them."""
+
+    @functools.wraps(method)
+    def made(self, *arguments):
+        with self._alone():
+            return method(self, *arguments)
+
+    return made
+
+
 class Files(Calls):
     """Whole files and folders, over the calls alone."""
 
+    def _alone(self):
+        """Keeps other threads out, where threads may share the volume."""
+        return contextlib.nullcontext()
+
+    @_together
     def read(self, path):
         """All bytes of a file."""
         with self._handle(self.open(path)) as handle:
@@ -474,6 +498,7 @@ class Files(Calls):
                 pieces.append(self.pread(handle, len(pieces) * _LONGEST_TRANSFER, _LONGEST_TRANSFER))
         return b"".join(pieces)
 
+    @_together
     def write_file(self, path, data):
         """Makes these the bytes of a file, synced, as `lfs put` does: after any stop the old file is there or the new one."""
         path, data = _bytes(path), _octets(data)
@@ -485,6 +510,7 @@ class Files(Calls):
             self.rename(unfinished, path)
             self.sync()
 
+    @_together
     def append(self, path, record):
         """Writes a record behind the end of a file, which is made where it isn't there, and syncs: where it began. More than 65,536 bytes are
         refused, as `Inval`."""
@@ -647,6 +673,7 @@ class Files(Calls):
             return _Put("dir", entry.path, path)
         return _Put("file", entry.path, path) if entry.is_file() else None
 
+    @_together
     def _put_file(self, it):
         """Puts a file of the host, and doesn't sync: how many bytes. A stop leaves no later call without those before it."""
         with open(it.source, "rb") as file:
@@ -659,6 +686,7 @@ class Files(Calls):
             self.rename(unfinished, it.path)
         return len(data)
 
+    @_together
     def _put_other(self, it):
         """Makes a directory where it isn't there, or a link, in the place of a file or a link."""
         if it.kind == "dir":
@@ -689,7 +717,7 @@ class ProcessVolume(Files):
         # The image itself, whose lock keeps writers out as long as it is open.
         self._looked_at = _opened_to_look(image) if read_only else None
         try:
-            with _copied(image, self._looked_at) if read_only else contextlib.nullcontext(os.fspath(image)) as path:
+            with _copied(image, self._looked_at.fileno()) if read_only else contextlib.nullcontext(os.fspath(image)) as path:
                 self._child = _started(lfs, ["run", path])
                 self._begin(os.fsdecode(image), os.fsdecode(path))
         except BaseException:
@@ -803,9 +831,10 @@ class ProcessVolume(Files):
         return TreeRow(int(directory), _unescape(name), kind, int(number), int(links), int(size), _head(kind, head))
 
 
-# The library. Its functions are those of clients/c/pansuyog.h, whose names have `pansuyog_` before them.
+# The libraries: that over a file, and that with orders. Their functions are those of clients/c/pansuyog_file.h and clients/c/pansuyog.h,
+# and each function's name begins with its library's.
 
-_LIBRARY = "libpansuyog.so.0"
+_FILES, _ORDERS = "pansuyog_file", "pansuyog"
 _SECTOR = 512
 # Sectors of one read or write.
 _RUN = 128
@@ -818,6 +847,8 @@ _KINDS = {1: "file", 2: "dir", 3: "link"}
 _CODES = {**dict(enumerate(_CALL_TEXTS, 1)), 30: "TooSmall", 31: "NoCheckpoint", **dict.fromkeys(range(101, 116), "Damaged")}
 # Methods whose function has another name.
 _FUNCTION_OF = {"fill": "pwrite", "readdir": "list"}
+# How a device of the caller's own is called in texts.
+_DEVICE_NAME = "the device"
 _VOLUME_TEXTS = {
     "Inval": "a volume has 64 to 1024 segments, a multiple of 8",
     "NoMemory": _NO_MEMORY,
@@ -831,6 +862,10 @@ _VOLUME_TEXTS = {
 def _types():
     """What the functions take, by `ctypes`. It is imported here alone: ProcessVolume has no use for it, and not every Python has it."""
     import ctypes
+
+    # The one that the libraries have too.
+    malloc = ctypes.CDLL(None).malloc
+    malloc.argtypes, malloc.restype = [ctypes.c_size_t], ctypes.c_void_p
 
     class RawVolume(ctypes.Structure):
         _fields_ = [("inside", ctypes.c_void_p)]
@@ -846,6 +881,8 @@ def _types():
 
     return types.SimpleNamespace(
         load=ctypes.CDLL,
+        malloc=malloc,
+        descriptor=ctypes.c_int,
         buffer=ctypes.create_string_buffer,
         pointer=ctypes.POINTER,
         text=ctypes.c_char_p,
@@ -861,19 +898,15 @@ def _types():
     )
 
 
-def _signatures(c):
-    """What each function takes behind the volume."""
+def _signatures(c, name):
+    """What each function of a library takes behind the volume."""
     given, taken = [c.text, c.size], [c.memory, c.size]
-    return {
-        **dict.fromkeys(["new", "abandon", "carried", "told", "done", "sync", "clean", "version", "upgrade"], []),
-        **dict.fromkeys(["is_cleaning_due", "clean_once"], []),
-        **dict.fromkeys(["begin", "mount", "close", "fsync"], [c.u32]),
+    functions = {
+        **dict.fromkeys(["new", "abandon", "sync", "clean", "is_cleaning_due", "clean_once", "version", "upgrade"], []),
+        **dict.fromkeys(["close", "fsync"], [c.u32]),
         **dict.fromkeys(["open", "create", "mkdir", "rmdir", "unlink", "widen", "list"], given),
         **dict.fromkeys(["link", "rename", "symlink"], given * 2),
         **dict.fromkeys(["stat", "lstat"], [*given, c.pointer(c.stat)]),
-        "give": [c.u32, *given],
-        "format": [c.u32] * 3,
-        "run": [c.u64, c.pointer(c.u32), *taken],
         "pread": [c.u32, c.u64, *taken],
         "pwrite": [c.u32, c.u64, *given],
         "truncate": [c.u32, c.u64],
@@ -881,6 +914,11 @@ def _signatures(c):
         "entry": [c.size, c.pointer(c.entry), *taken],
         "space": [c.pointer(c.space)],
     }
+    if name == _FILES:
+        return {**functions, "take": [c.memory, c.u32], "errno": [], "format": [c.u32] * 2, "mount": []}
+    run = [c.u64, c.pointer(c.u32), *taken]
+    orders = {**dict.fromkeys(["carried", "told", "done"], []), "begin": [c.u32], "give": [c.u32, *given], "run": run}
+    return {**functions, **orders, "format": [c.u32] * 3, "mount": [c.u32]}
 
 
 def _no_library(found):
@@ -890,26 +928,34 @@ def _no_library(found):
     )
 
 
-@functools.lru_cache(maxsize=None)
-def _library(path):
-    """The functions of the library at a path, or without one of that which stands beside this module or which the system's loader finds."""
-    beside = os.path.join(os.path.dirname(os.path.realpath(__file__)), _LIBRARY)
-    found = os.path.abspath(path) if path else beside if os.path.exists(beside) else _LIBRARY
-    if found != _LIBRARY and not os.path.exists(found):
+def _loaded(name, path):
+    """The library at a path, or without one that which stands beside this module or which the system's loader finds."""
+    shared = f"lib{name}.so.0"
+    beside = os.path.join(os.path.dirname(os.path.realpath(__file__)), shared)
+    found = os.path.abspath(path) if path else beside if os.path.exists(beside) else shared
+    if found != shared and not os.path.exists(found):
         raise _no_library(found)
-    c = _types()
     try:
-        library = c.load(found)
+        library = _types().load(found)
     except OSError as error:
-        if found != _LIBRARY:
+        if found != shared:
             raise
         raise _no_library(found) from error
-    functions = {}
-    for name, taken in _signatures(c).items():
-        functions[name] = getattr(library, f"pansuyog_{name}")
-        functions[name].argtypes = [c.pointer(c.volume), *taken]
-        functions[name].restype = {"abandon": None, "carried": c.u64, "told": c.u64}.get(name, c.code)
-    functions["free"] = library.pansuyog_free
+    if not hasattr(library, f"{name}_new"):
+        raise ImportError(f"the library {found} is another one: {shared} is wanted", path=found)
+    return library
+
+
+@functools.lru_cache(maxsize=None)
+def _library(name, path):
+    """The functions of a library."""
+    library, functions = _loaded(name, path), {}
+    c = _types()
+    for function, taken in _signatures(c, name).items():
+        functions[function] = getattr(library, f"{name}_{function}")
+        functions[function].argtypes = [c.pointer(c.volume), *taken]
+        functions[function].restype = {"abandon": None, "carried": c.u64, "told": c.u64}.get(function, c.code)
+    functions["free"] = getattr(library, f"{name}_free")
     functions["free"].argtypes, functions["free"].restype = [c.volume], None
     return functions
 
@@ -928,6 +974,10 @@ _PRESENT = "it is there already; make(.., force=True) makes a volume in its plac
 _LOCK_TRIES, _LOCK_PAUSE = 1_000, 0.001
 # How a write fails that finds no room: nothing that was written before is in doubt then.
 _NO_ROOM = (errno.ENOSPC, errno.EDQUOT, errno.EFBIG)
+# How a file system answers that has nothing to sync.
+_NO_SYNC = (errno.EINVAL, errno.EROFS)
+# What the library answers of a file that it doesn't take.
+_TAKING_TEXTS = {-44: _IMAGE_TEXTS[errno.EWOULDBLOCK], -45: "the system refuses to lock it"}
 # How a file system answers that has no second names of a file.
 _NO_LINKS = (errno.EPERM, errno.EOPNOTSUPP, errno.ENOSYS)
 
@@ -950,7 +1000,7 @@ class _Failure(Exception):
 
 @contextlib.contextmanager
 def _failing(what):
-    """Lets an error of the system be told as the failure of a read or a write."""
+    """Lets an error of the system be told as the failure of a read, a write or a sync."""
     try:
         yield
     except OSError as error:
@@ -962,7 +1012,7 @@ def _sync(file, read_only=False):
     try:
         os.fsync(file)
     except OSError as error:
-        if not read_only or error.errno not in (errno.EINVAL, errno.EROFS):
+        if not read_only or error.errno not in _NO_SYNC:
             raise _Failure("sync", error) from error
 
 
@@ -977,6 +1027,23 @@ def _refused_image(image, text):
 
 def _refused_device(image, failure):
     return failure.marked(_refusal("Device", f"{os.fsdecode(image)}: {failure.text('it')}"))
+
+
+def _refused_volume(shown, code, unread=None):
+    """The exception of a volume that isn't made or mounted, and perhaps why not all of it was read."""
+    name = _CODES.get(-code, str(code))
+    cause = _VOLUME_TEXTS.get(name, f"stage {-100 - code} of its check fails")
+    if unread:
+        cause += f", and {unread.text('it')}"
+    return _refusal(name, f"{shown}: {cause}")
+
+
+def _check_size(shown, segments, format):
+    """Refuses a volume that none is made of."""
+    if segments not in range(64, 1_025, 8):
+        raise _refusal("Inval", f"{shown}: {_VOLUME_TEXTS['Inval']}")
+    if format not in (1, 2):
+        raise _refusal("Inval", f"{shown}: a volume has format 1 or 2")
 
 
 @contextlib.contextmanager
@@ -1014,13 +1081,18 @@ def _lock(file, kind):
     raise BlockingIOError(errno.EWOULDBLOCK, "the lock is held")
 
 
-def _opened(image, flags=os.O_RDWR):
-    """The descriptor of an image, with its lock. It isn't one of a standard stream that is closed."""
-    first = os.open(image, flags | os.O_CLOEXEC, 0o666)
+def _open_apart(path, flags):
+    """The descriptor of a file. It isn't one of a standard stream that is closed."""
+    first = os.open(path, flags | os.O_CLOEXEC, 0o666)
     try:
-        file = fcntl.fcntl(first, fcntl.F_DUPFD_CLOEXEC, 3)
+        return fcntl.fcntl(first, fcntl.F_DUPFD_CLOEXEC, 3)
     finally:
         os.close(first)
+
+
+def _opened(image, flags=os.O_RDWR):
+    """The descriptor of an image, with its lock."""
+    file = _open_apart(image, flags)
     try:
         _lock(file, fcntl.LOCK_EX if flags & os.O_RDWR else fcntl.LOCK_SH)
     except BaseException:
@@ -1042,7 +1114,7 @@ def _copied(image, file):
     copy, path = tempfile.mkstemp(prefix="pansuyog-")
     try:
         try:
-            _copy(file.fileno(), copy)
+            _copy(file, copy)
         except _Failure as failure:
             raise _refused_device(image, failure) from failure
         except OSError as error:
@@ -1162,65 +1234,310 @@ def _sync_folder(image, path):
         os.close(folder)
 
 
-def _give_back(functions, raw, file):
+@contextlib.contextmanager
+def _naming(image, path):
+    """Gives a new image its name once it is whole and synced, with its lock. Where that fails nothing is left of it."""
+    place = path + _UNMADE
+    try:
+        yield
+        with _told_of(image):
+            _name(place, path)
+        place = path
+        _sync_folder(image, path)
+    except BaseException:
+        with contextlib.suppress(OSError):
+            os.unlink(place)
+        raise
+
+
+def _make_by_library(image, segments, format, reserve, force, library):
+    functions = _library(_FILES, library)
+    _check_size(os.fsdecode(image), segments, format)
+    path = os.path.realpath(os.fsdecode(image))
+    with _told_of(image):
+        is_over = force and os.path.exists(path)
+        if os.path.exists(path) and stat.S_ISBLK(_look_up(path)):
+            raise _refused_image(image, "it is a block device: lfs mkfs --force makes a volume on one")
+        file = _opened(path) if is_over else _opened_unmade(image, path)
+    made = _OverFile(image, functions, file)
+    with contextlib.closing(made), contextlib.nullcontext() if is_over else _naming(image, path):
+        made.empty(_SECTOR * (2 + 64 * segments), reserve)
+        made.format(segments, format)
+
+
+def _opened_again(file):
+    """Another descriptor of an open file, or none. A sync of it tells whether a write to the file was lost since."""
+    try:
+        return _open_apart(f"/proc/self/fd/{file}", os.O_RDONLY)
+    except OSError:
+        return None
+
+
+def _give_back(functions, raw, files):
     functions["free"](raw)
-    os.close(file)
+    for file in files:
+        os.close(file)
+
+
+class _Held:
+    """A volume as a library has it, mounted or not. All that it holds is given back in the end."""
+
+    def __init__(self, shown, functions):
+        self.shown, self._functions, self._raw = shown, functions, _types().volume()
+        # Descriptors that are closed in the end.
+        self._files = []
+        # Why no call is taken any more.
+        self.halted_by = None
+        if functions["new"](self._raw) < 0:
+            raise _refusal("NoMemory", f"{shown}: {_NO_MEMORY}")
+        self.close = weakref.finalize(self, _give_back, functions, self._raw, self._files)
+        # Another thread may be in a call when the program ends.
+        self.close.atexit = False
+
+
+class _OverFile(_Held):
+    """A volume in an open file, which the library reads, writes and syncs. A call is done once it returns."""
+
+    def __init__(self, image, functions, file):
+        try:
+            super().__init__(os.fsdecode(image), functions)
+        except BaseException:
+            os.close(file)
+            raise
+        self._image, self._file, self._second = image, file, None
+        self._files.append(file)
+
+    def empty(self, size, reserve):
+        """Gives the image this size, with nothing in it. That it may be so long is tried before it is emptied."""
+        try:
+            if os.lseek(self._file, 0, os.SEEK_END) < size:
+                os.ftruncate(self._file, size)
+            os.ftruncate(self._file, 0)
+            os.ftruncate(self._file, size)
+        except OSError as error:
+            raise _refused_image(self._image, f"the file can't have the length of the volume: {_reason(error)}") from error
+        if reserve:
+            self._reserve(size)
+
+    def _reserve(self, size):
+        """Writes each sector, so that there is room for it."""
+        zeros = memoryview(bytes(_RESERVED))
+        try:
+            for offset in range(0, size, _RESERVED):
+                with _failing("write"):
+                    _write_all(self._file, zeros[: size - offset], offset)
+            _sync(self._file)
+        except _Failure as failure:
+            if failure.error.errno in _NO_ROOM:
+                raise _refused_image(self._image, f"there is no room for all of its sectors: {_reason(failure.error)}") from failure
+            raise _refused_device(self._image, failure) from failure
+
+    def format(self, segments, version):
+        self._lend(read_only=False)
+        self._check(self._functions["format"](self._raw, segments, version), "write or a sync")
+
+    def mount(self, read_only):
+        if read_only:
+            self._let_sync()
+        self._lend(read_only)
+        self._check(self._functions["mount"](self._raw), "read or a sync")
+
+    def call(self, name, *given):
+        """The number that a call answers."""
+        code = self._functions[name](self._raw, *given)
+        refusal = _CODES.get(-code)
+        if refusal == "Device":
+            raise self._failure("read")
+        if refusal == "Halted":
+            self.halted_by = self._failure("write or a sync")
+            raise self.halted_by
+        return code
+
+    def _let_sync(self):
+        """Takes a copy where the image is only read and its file system has nothing to sync: the library syncs before it reads. The image
+        stays open, for its lock."""
+        try:
+            with _failing("sync"):
+                os.fsync(self._file)
+        except _Failure as failure:
+            if failure.error.errno not in _NO_SYNC:
+                raise _refused_device(self._image, failure) from failure
+            with _copied(self._image, self._file) as path:
+                self._file = _open_apart(path, os.O_RDONLY)
+            self._files.append(self._file)
+
+    def _lend(self, read_only):
+        """Gives the file to the library, which closes it, also where it doesn't take it."""
+        c = _types()
+        block = c.malloc(4)
+        if not block:
+            raise _refusal("NoMemory", f"{self.shown}: {_NO_MEMORY}")
+        if not read_only:
+            self._second = _opened_again(self._file)
+            self._files += [self._second] * (self._second is not None)
+        c.descriptor.from_address(block).value = self._file
+        self._files.remove(self._file)
+        code = self._functions["take"](self._raw, block, int(read_only))
+        if code < 0:
+            raise _refused_image(self._image, _TAKING_TEXTS.get(code, "the system refuses to tell its length"))
+
+    def _check(self, code, what):
+        """Refuses a volume that the library doesn't make or mount, and says what may have failed of its file."""
+        if _CODES.get(-code) == "Device":
+            failure = self._failure(what)
+            raise _refused_device(self._image, failure) from failure
+        if code < 0:
+            raise _refused_volume(self.shown, code)
+
+    def _failure(self, what):
+        """What failed last of the file. The library tells the system's error, or none where the system did less than it was to."""
+        number = self._functions["errno"](self._raw)
+        less = "no byte was written" if "write" in what else "it ends before that"
+        error = OSError(number, os.strerror(number)) if number else OSError(less)
+        if "write" in what and number in _NO_ROOM and self._is_synced():
+            what = "write"
+        return _Failure(what, error)
+
+    def _is_synced(self):
+        """Whether all that was written since the file was opened is on its medium. The system tells each descriptor of a write that was
+        lost, also once another one was told."""
+        try:
+            if self._second is not None:
+                os.fsync(self._second)
+        except OSError:
+            return False
+        return self._second is not None
+
+
+class _OverDevice(_Held):
+    """A volume on a device of the caller's own. Its orders are carried out behind each call."""
+
+    def __init__(self, device, functions):
+        super().__init__(_DEVICE_NAME, functions)
+        # Why not all was read.
+        self._device, self._unread = device, None
+        self._run = _types().buffer(_RUN * _SECTOR)
+
+    def format(self, segments, version):
+        self._begin("format", segments, version)
+
+    def mount(self, _):
+        self._begin("mount")
+
+    def call(self, name, *given):
+        """The number that a call answers."""
+        code = self._functions[name](self._raw, *given)
+        self._carry()
+        return code
+
+    def _begin(self, name, *numbers):
+        """Reads the device, and makes or mounts its volume."""
+        try:
+            sectors = self._read_all()
+            # Memory is taken for the orders of a pass of the cleaner and of a commit.
+            code = self._functions[name](self._raw, *numbers, 8 * (sectors // 64) + 520)
+            self._carry()
+        except _Failure as failure:
+            raise _refused_device(self.shown, failure) from failure
+        if code < 0:
+            raise _refused_volume(self.shown, code, self._unread)
+
+    def _read_all(self):
+        """Gives the library all sectors that can be read: how many there are."""
+        with _failing("sync"):
+            self._device.sync()
+        with _failing("read"):
+            sectors = min(self._device.sectors(), _MOST_SECTORS)
+        code = self._functions["begin"](self._raw, sectors)
+        if code < 0:
+            raise _refused_volume(self.shown, code)
+        sector = 0
+        while sector < sectors:
+            # Where a run can't be read its first sector is tried alone, and isn't given where that can't be read.
+            sector += self._give(sector, min(_RUN, sectors - sector)) or self._give(sector, 1) or 1
+        return sectors
+
+    def _give(self, first, count):
+        """Gives sectors that follow one another: how many of them could be read."""
+        try:
+            data = _octets(self._device.read(first, count))[: count * _SECTOR]
+        except OSError as error:
+            self._unread = _Failure("read", error)
+            return 0
+        self._functions["give"](self._raw, first, data, len(data))
+        return len(data) // _SECTOR
+
+    def _carry(self):
+        """Carries out the orders that wait. Where the device fails the volume is given up."""
+        number, told = self._functions["carried"](self._raw), self._functions["told"](self._raw)
+        if number == told:
+            return
+        try:
+            while number < told:
+                number += self._carry_run(number)
+        except _Failure as failure:
+            self.halted_by = failure
+            self._functions["abandon"](self._raw)
+            raise
+        self._functions["done"](self._raw)
+
+    def _carry_run(self, number):
+        """Carries out a sync, or writes to sectors that follow one another: how many orders."""
+        first = _types().u32()
+        count = self._functions["run"](self._raw, number, first, self._run, _RUN)
+        if count < 0:
+            raise RuntimeError(f"the library has no order {number}")
+        if count == 0:
+            with _failing("sync"):
+                self._device.sync()
+            return 1
+        with _failing("write"):
+            self._device.write(first.value, self._run[: count * _SECTOR])
+        return count
 
 
 class Volume(Files):
     """A mounted volume in the library. One process at a time may have an image, and not a child that was forked from it. Threads may share a
-    volume: calls are made one at a time. `library` is the path of the shared object, where it isn't installed. A volume that isn't mounted
-    is refused here.
+    volume: calls are made one at a time, and those that read or write one whole file are made together. `library` is the path of the shared
+    object, where it isn't installed. A volume that isn't mounted is refused here.
 
-    The image is read whole, and kept in memory: 2.1 MB for a volume of 64 segments, 33.6 MB for one of 1,024. With `read_only=True` it is
-    opened for reading, with the lock of those that look, and nothing is written.
-    """
+    The library reads of the image what a call needs, and takes 0.7 to 4.7 MB of memory for the volume. With `read_only=True` the image is
+    opened for reading, with the lock of those that look, and nothing is written."""
 
     def __init__(self, image, *, library=None, read_only=False):
-        functions = _library(library)
+        functions = _library(_FILES, library)
         with _told_of(image):
             _look_up(image)
             file = _opened(image, os.O_RDONLY if read_only else os.O_RDWR)
-        self._start(image, functions, file, read_only)
-        try:
-            self._begin("mount")
-        except BaseException:
-            self.close()
-            raise
+        self._start(_OverFile(image, functions, file), read_only)
 
     @classmethod
-    def _make(cls, image, segments, format, reserve, force, library):
-        """Makes an empty volume in a file, of which nothing is mounted."""
-        functions = _library(library)
-        if segments not in range(64, 1_025, 8):
-            raise _refusal("Inval", f"{os.fsdecode(image)}: {_VOLUME_TEXTS['Inval']}")
-        if format not in (1, 2):
-            raise _refusal("Inval", f"{os.fsdecode(image)}: a volume has format 1 or 2")
-        path = os.path.realpath(os.fsdecode(image))
-        with _told_of(image):
-            is_over = force and os.path.exists(path)
-            if os.path.exists(path) and stat.S_ISBLK(_look_up(path)):
-                raise _refused_image(image, "it is a block device: lfs mkfs --force makes a volume on one")
-            file = _opened(path) if is_over else _opened_unmade(image, path)
-        made = cls.__new__(cls)
-        made._start(image, functions, file)
-        with contextlib.closing(made), contextlib.nullcontext() if is_over else made._naming(path):
-            made._empty(_SECTOR * (2 + 64 * segments), reserve)
-            made._begin("format", segments, format)
+    def over(cls, device, *, library=None, read_only=False):
+        """The volume of a device of the caller's own, which has four methods:
 
-    @contextlib.contextmanager
-    def _naming(self, path):
-        """Gives a new image its name once it is whole and synced, with its lock. Where that fails nothing is left of it."""
-        place = path + _UNMADE
+        - `sectors()` tells how many sectors of 512 bytes there are.
+        - `read(first, count)` gives the bytes of sectors that follow one another. Where it raises `OSError` each of them is tried alone.
+        - `write(first, data)` writes as many as the data has, from the first one on.
+        - `sync()` keeps all that was written before, through a loss of power too.
+
+        It is read whole, and kept in memory: 2.1 MB for a volume of 64 segments, 33.6 MB for one of 1,024. Where a write or a sync raises
+        `OSError` the call and all later ones are `Halted`. A sync that failed isn't tried again. This is another library, of which
+        `library` is the path, and nobody else writes to the device meanwhile."""
+        volume = cls.__new__(cls)
+        volume._start(_OverDevice(device, _library(_ORDERS, library)), read_only)
+        return volume
+
+    def _start(self, held, read_only):
+        """Mounts the volume, or gives all back."""
+        self._held, self._is_read_only, self._types = held, read_only, _types()
+        # The thread whose call is under way.
+        self._lock, self._caller = threading.RLock(), None
+        # One byte more than a call takes: so many are refused as any number of them.
+        self._taken = self._types.buffer(_LONGEST_TRANSFER + 1)
         try:
-            yield
-            with _told_of(self._image):
-                _name(place, path)
-            place = path
-            _sync_folder(self._image, path)
+            held.mount(read_only)
         except BaseException:
-            with contextlib.suppress(OSError):
-                os.unlink(place)
+            held.close()
             raise
 
     def __enter__(self):
@@ -1230,9 +1547,9 @@ class Volume(Files):
         self.close()
 
     def close(self):
-        """Gives the image and the memory back. What wasn't synced may be gone."""
+        """Gives the image or the device back, and the memory. What wasn't synced may be gone."""
         with self._one_call():
-            self._finish()
+            self._held.close()
 
     # A stop takes no more away.
     kill = close
@@ -1265,30 +1582,11 @@ class Volume(Files):
     def _head(self, path, kind):
         if kind != "file":
             return self.readlink(path) if kind == "link" else b""
-        handle = self.open(path)
-        try:
+        with self._handle(self.open(path)) as handle:
             return self.pread(handle, 0, 16)
-        finally:
-            self.close_handle(handle)
 
-    def _start(self, image, functions, file, read_only=False):
-        """Holds what a volume has, before it is mounted."""
-        self._image, self._functions, self._file, self._is_read_only = image, functions, file, read_only
-        self._types = _types()
-        self._raw = self._types.volume()
-        # The thread whose call is under way.
-        self._lock, self._caller = threading.RLock(), None
-        # Why no call is taken any more, and why not all was read.
-        self._halted_by, self._unread = None, None
-        self._run = self._types.buffer(_RUN * _SECTOR)
-        # One byte more than a call takes: so many are refused as any number of them.
-        self._taken = self._types.buffer(_LONGEST_TRANSFER + 1)
-        if functions["new"](self._raw) < 0:
-            os.close(file)
-            raise _refusal("NoMemory", f"{os.fsdecode(image)}: {_NO_MEMORY}")
-        self._finish = weakref.finalize(self, _give_back, functions, self._raw, file)
-        # Another thread may be in a call when the program ends.
-        self._finish.atexit = False
+    def _alone(self):
+        return self._lock
 
     @contextlib.contextmanager
     def _one_call(self):
@@ -1302,127 +1600,39 @@ class Volume(Files):
             finally:
                 self._caller = None
 
-    def _empty(self, size, reserve):
-        """Gives the image this size, with nothing in it. That it may be so long is tried before it is emptied."""
-        try:
-            if os.lseek(self._file, 0, os.SEEK_END) < size:
-                os.ftruncate(self._file, size)
-            os.ftruncate(self._file, 0)
-            os.ftruncate(self._file, size)
-        except OSError as error:
-            raise _refused_image(self._image, f"the file can't have the length of the volume: {_reason(error)}") from error
-        if reserve:
-            self._reserve(size)
-
-    def _reserve(self, size):
-        """Writes each sector, so that there is room for it."""
-        zeros = memoryview(bytes(_RESERVED))
-        try:
-            for offset in range(0, size, _RESERVED):
-                with _failing("write"):
-                    _write_all(self._file, zeros[: size - offset], offset)
-            _sync(self._file)
-        except _Failure as failure:
-            if failure.error.errno in _NO_ROOM:
-                raise _refused_image(self._image, f"there is no room for all of its sectors: {_reason(failure.error)}") from failure
-            raise _refused_device(self._image, failure) from failure
-
-    def _begin(self, name, *numbers):
-        """Reads the image, and makes or mounts its volume."""
-        try:
-            sectors = self._read_all()
-            # Memory is taken for the orders of a pass of the cleaner and of a commit.
-            code = self._functions[name](self._raw, *numbers, 8 * (sectors // 64) + 520)
-            self._carry()
-        except _Failure as failure:
-            raise _refused_device(self._image, failure) from failure
-        if code < 0:
-            raise self._refused_volume(_CODES.get(-code), -100 - code)
-
-    def _refused_volume(self, name, stage=0):
-        cause = _VOLUME_TEXTS.get(name, f"stage {stage} of its check fails")
-        if self._unread:
-            cause += f", and {self._unread.text('it')}"
-        return _refusal(name, f"{os.fsdecode(self._image)}: {cause}")
-
-    def _read_all(self):
-        """Gives the library all sectors that can be read: how many there are."""
-        _sync(self._file, self._is_read_only)
-        with _failing("read"):
-            sectors = min(os.lseek(self._file, 0, os.SEEK_END) // _SECTOR, _MOST_SECTORS)
-        if self._functions["begin"](self._raw, sectors) < 0:
-            raise self._refused_volume("NoMemory")
-        sector = 0
-        while sector < sectors:
-            # Where a run can't be read its first sector is tried alone, and isn't given where that can't be read.
-            sector += self._give(sector, min(_RUN, sectors - sector)) or self._give(sector, 1) or 1
-        return sectors
-
-    def _give(self, first, count):
-        """Gives sectors that follow one another: how many of them could be read."""
-        try:
-            data = os.pread(self._file, count * _SECTOR, first * _SECTOR)
-        except OSError as error:
-            self._unread = _Failure("read", error)
-            return 0
-        self._functions["give"](self._raw, first, data, len(data))
-        return len(data) // _SECTOR
-
-    def _carry(self):
-        """Carries out the orders that wait. Where the device fails the volume is given up."""
-        number, told = self._functions["carried"](self._raw), self._functions["told"](self._raw)
-        if number == told:
-            return
-        try:
-            while number < told:
-                number += self._carry_run(number)
-        except _Failure as failure:
-            self._halted_by = failure
-            self._functions["abandon"](self._raw)
-            raise
-        self._functions["done"](self._raw)
-
-    def _carry_run(self, number):
-        """Carries out a sync, or writes to sectors that follow one another: how many orders."""
-        first = self._types.u32()
-        count = self._functions["run"](self._raw, number, first, self._run, _RUN)
-        if count < 0:
-            raise RuntimeError(f"the library has no order {number}")
-        if count == 0:
-            _sync(self._file, self._is_read_only)
-            return 1
-        with _failing("write"):
-            _write_all(self._file, memoryview(self._run)[: count * _SECTOR], first.value * _SECTOR)
-        return count
-
     def _call(self, name, *arguments):
         more = self._MORE.get(name)
         with self._one_call():
-            if not self._finish.alive:
+            if not self._held.close.alive:
                 raise ValueError("the volume is closed")
             if self._is_read_only:
                 _refuse_change(name, arguments)
+                more = self._SAVING.get(name, more)
             return more(self, name, *arguments) if more else self._ask(name, arguments)
 
     def _ask(self, name, arguments, *given):
         """Makes a call with what is given, or else with its arguments, each path with its length: the number that it answers."""
-        if self._halted_by:
-            raise self._halted(name, arguments)
         if not given:
             given = [it for argument in arguments for it in ((argument, len(argument)) if isinstance(argument, bytes) else (argument,))]
-        code = self._functions[_FUNCTION_OF.get(name, name)](self._raw, *given)
+        return self._answer(name, arguments, _FUNCTION_OF.get(name, name), *given)
+
+    def _answer(self, name, arguments, function, *given):
+        """The number that a function answers for a call."""
+        if self._held.halted_by:
+            raise self._failed(name, arguments, self._held.halted_by)
         try:
-            self._carry()
+            code = self._held.call(function, *given)
         except _Failure as failure:
-            raise self._halted(name, arguments) from failure
+            raise self._failed(name, arguments, failure) from failure
         if code < 0:
             raise _refused_call(name, arguments, _CODES.get(-code, str(code)))
         return code
 
-    def _halted(self, name, arguments):
-        """The refusal of a call, since a write or a sync of the image failed in it or before."""
-        failure = self._halted_by
-        return failure.marked(_refused_call(name, arguments, "Halted", f"{_UNWRITABLE}: {failure.text(os.fsdecode(self._image))}"))
+    def _failed(self, name, arguments, failure):
+        """The refusal of a call, since a read of the image failed in it, or a write or a sync in it or before."""
+        text, is_halted = failure.text(self._held.shown), failure is self._held.halted_by
+        refusal, cause = ("Halted", f"{_UNWRITABLE}: {text}") if is_halted else ("Device", text)
+        return failure.marked(_refused_call(name, arguments, refusal, cause))
 
     def _read(self, name, handle, offset, length):
         count = self._ask(name, (handle, offset, length), handle, offset, self._taken, min(length, len(self._taken)))
@@ -1446,13 +1656,18 @@ class Volume(Files):
 
     def _entry(self, place):
         told = self._types.entry()
-        length = self._functions["entry"](self._raw, place, told, self._taken, len(self._taken))
+        length = self._held.call("entry", place, told, self._taken, len(self._taken))
         return Entry(self._taken[:length], told.number, _KINDS[told.kind])
 
     def _measure(self, name):
         told = self._types.space()
         self._ask(name, (), told)
         return Space(told.data, told.meta, told.need, told.limit)
+
+    def _save_nothing(self, name, *arguments):
+        """Saves a volume that is only read, of which there is nothing to save. A handle has to be open."""
+        for handle in arguments:
+            self._answer(name, arguments, "pread", handle, 0, self._taken, 0)
 
     # The calls that answer more than a number, or whose arguments aren't the function's.
     _MORE = {
@@ -1464,3 +1679,5 @@ class Volume(Files):
         "readdir": _entries,
         "space": _measure,
     }
+    # Those that save, where the volume is only read.
+    _SAVING = {"sync": _save_nothing, "fsync": _save_nothing}

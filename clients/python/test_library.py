@@ -1,12 +1,17 @@
-"""Tests of the client over the library: python3 test_library.py LIBRARY. Some need the program too, which LFS of the environment names.
+"""Tests of the client over the libraries: python3 test_library.py LIBRARY. LIBRARY is one of the shared objects, and the other one stands
+beside it. Some need the program too, which LFS of the environment names, or gcc.
 
-Where they are loaded over the program, as `test_pansuyog.py` does, those of the library alone are skipped."""
+Where they are loaded over the program, as `test_pansuyog.py` does, those of the libraries alone are skipped."""
+import atexit
 import contextlib
 import errno
 import fcntl
+import functools
 import glob
 import os
 import random
+import re
+import resource
 import shutil
 import stat
 import subprocess
@@ -27,12 +32,12 @@ RECORDS = int(os.environ.get("PANSUYOG_RECORDS", "3600"))
 
 
 class Library:
-    """Volumes that the library makes and mounts."""
+    """Volumes that the library over a file makes and mounts. The one with orders stands beside it."""
 
     name = "library"
 
     def __init__(self, path):
-        self.path = path
+        self.path, self.orders = (os.path.join(os.path.dirname(path), f"lib{it}.so.0") for it in ("pansuyog_file", "pansuyog"))
 
     def make(self, image, segments, format=1, **how):
         pansuyog.make(image, segments, format=format, library=self.path, **how)
@@ -51,8 +56,94 @@ def used():
 class OfTheLibrary(unittest.TestCase):
     def setUp(self):
         if used().name != Library.name:
-            self.skipTest("of the library alone")
+            self.skipTest("of the libraries alone")
         super().setUp()
+
+
+class OnADevice(OfTheLibrary, OnAVolume):
+    """A volume on a device of the caller's own, which is an image all the same."""
+
+    def mounted(self, device=None, **how):
+        device = device or stopping.Device(self.image, random)
+        volume = pansuyog.Volume.over(device, library=used().orders, **how)
+        self.addCleanup(volume.close)
+        return volume
+
+
+class CallsOnADevice(OnADevice, Calls):
+    pass
+
+
+class FilesOnADevice(OnADevice, Files):
+    pass
+
+
+FAULTS = f"{HERE}/../c/tests/faults.c"
+NO_LOCKS = """
+#include <errno.h>
+int flock(int fd, int how) {
+    (void)fd, (void)how;
+    errno = ENOLCK;
+    return -1;
+}
+"""
+# No read gives anything while the environment says so.
+BROKEN_READS = """
+#define _GNU_SOURCE
+#include <dlfcn.h>
+#include <errno.h>
+#include <stdlib.h>
+#include <unistd.h>
+
+#define READS(name, offset_type)                                          \\
+    ssize_t name(int fd, void *bytes, size_t count, offset_type offset) { \\
+        errno = EIO;                                                      \\
+        if (getenv("BROKEN") != NULL) return -1;                          \\
+        return ((__typeof__(&name))dlsym(RTLD_NEXT, #name))(fd, bytes, count, offset); \\
+    }
+READS(pread, off_t)
+READS(pread64, off64_t)
+"""
+
+
+@functools.lru_cache(maxsize=None)
+def preloaded(path):
+    """What is made of a file in C, to be loaded before a program whose calls of the system are to fail."""
+    folder = tempfile.mkdtemp()
+    atexit.register(shutil.rmtree, folder)
+    subprocess.run(["gcc", "-O2", "-shared", "-fPIC", path, "-o", f"{folder}/faults.so", "-ldl"], check=True)
+    return f"{folder}/faults.so"
+
+
+# What a program begins with that a test runs. Its words are the library and the image, and an exception is told in a line.
+PROGRAM = """
+import sys
+import pansuyog
+library, image = sys.argv[1:]
+
+def tell(error):
+    print(f"{type(error).__name__} {error.needs_restart} {error}", flush=True)
+
+"""
+
+
+class WhereTheSystemFails(OfTheLibrary):
+    """Programs whose calls of the system fail, also those that the library makes."""
+
+    def setUp(self):
+        super().setUp()
+        if shutil.which("gcc") is None:
+            self.skipTest("for want of gcc")
+        folder = tempfile.TemporaryDirectory()
+        self.addCleanup(folder.cleanup)
+        self.folder, self.image = folder.name, f"{folder.name}/disk.img"
+
+    def run_with(self, code, fails="", stop=None, faults=FAULTS):
+        """Runs a program, some of whose calls fail, or which ends at one of those that change a file: its status and its lines."""
+        env = {**os.environ, "PYTHONPATH": HERE, "LD_PRELOAD": preloaded(faults), "FAULTS": fails, **({} if stop is None else {"STOP": str(stop)})}
+        words = [sys.executable, "-B", "-c", PROGRAM + code, used().path, self.image]
+        ran = subprocess.run(words, env=env, stdout=subprocess.PIPE, text=True, check=False)
+        return ran.returncode, ran.stdout.splitlines()
 
 
 def spelt(word, answer):
@@ -107,15 +198,23 @@ class Scripts(unittest.TestCase):
             with self.subTest(os.path.basename(path)), tempfile.TemporaryDirectory() as folder:
                 self.carry_out(path, f"{folder}/disk.img")
 
+    def mounted(self, image):
+        return used().mounted(image)
+
     def carry_out(self, path, image):
         segments = 1024 if ".1024" in path else 64
         used().make(image, segments, 2 if path.endswith(".v2") else 1)
-        with used().mounted(image) as volume:
+        with self.mounted(image) as volume:
             replies = [reply(volume, line) for line in text_of(f"{path}.script").splitlines()]
         self.assertEqual("\n".join(replies).split("\n"), text_of(f"{path}.replies").splitlines() or [""])
         if os.path.exists(f"{path}.tree"):
-            with used().mounted(image) as volume:
+            with self.mounted(image) as volume:
                 self.assertEqual(reply(volume, "tree"), text_of(f"{path}.tree").rstrip("\n"))
+
+
+class ScriptsOnADevice(OfTheLibrary, Scripts):
+    def mounted(self, image):
+        return pansuyog.Volume.over(stopping.Device(image, random), library=used().orders)
 
 
 class Sessions(OfTheLibrary, OnAVolume):
@@ -190,31 +289,63 @@ class Sessions(OfTheLibrary, OnAVolume):
         for number in range(4):
             self.assertEqual(volume.read(f"/{number}"), b"".join(b"%08d" % (1_000 * number + place) for place in range(200)))
 
+    def test_threads_share_files(self):
+        volume = self.mounted()
+
+        def put_some(number):
+            for place in range(25):
+                volume.append("/log", b"%08d" % (1_000 * number + place))
+                volume.write_file(f"/{number}", b"%d" % number * 2_000 * place)
+
+        threads = [threading.Thread(target=put_some, args=(number,)) for number in range(4)]
+        for thread in threads:
+            thread.start()
+        for thread in threads:
+            thread.join()
+        records = volume.read("/log")
+        found = sorted(int(records[at : at + 8]) for at in range(0, len(records), 8))
+        self.assertEqual(found, [1_000 * number + place for number in range(4) for place in range(25)])
+        for number in range(4):
+            self.assertEqual(volume.read(f"/{number}"), b"%d" % number * 48_000)
+
+    def test_both_libraries_serve_one_program(self):
+        with self.mounted() as volume:
+            volume.write_file("/f", b"kept")
+            with tempfile.TemporaryDirectory() as folder:
+                shutil.copy(self.image, f"{folder}/copy")
+                with pansuyog.Volume.over(stopping.Device(f"{folder}/copy", random), library=used().orders) as other:
+                    self.assertIsInstance(other, pansuyog.Volume)
+                    self.assertEqual(other.read("/f"), volume.read("/f"))
+
+    def test_another_library_is_refused(self):
+        with self.assertRaisesRegex(ImportError, "libpansuyog.so.0 is another one: libpansuyog_file.so.0 is wanted$"):
+            pansuyog.Volume(self.image, library=used().orders)
+        with self.assertRaisesRegex(ImportError, "libpansuyog_file.so.0 is another one: libpansuyog.so.0 is wanted$"):
+            pansuyog.Volume.over(stopping.Device(self.image, random), library=used().path)
+
+    def test_no_image_is_read_whole_or_kept(self):
+        used().make(self.image, 1_024, force=True)
+        before, resident = bytes_read(), bytes_resident()
+        with self.mounted() as volume:
+            self.assertLess(bytes_read() - before, 1_000_000)
+            handle = volume.create("/f")
+            for number in range(2_000):
+                volume.pwrite(handle, 512 * (number * 7_919 % 2_000), b"%04d" % number * 128)
+            volume.sync()
+            self.assertLess(bytes_resident() - resident, 8_000_000)
+
+
+def bytes_read():
+    """How many bytes this process has read so far."""
+    return int(re.search(r"^rchar: (\d+)", text_of("/proc/self/io"), re.M).group(1))
+
+
+def bytes_resident():
+    return int(text_of("/proc/self/statm").split()[1]) * resource.getpagesize()
+
 
 # Each byte that makes a new volume of 64 segments a damaged one: its sector, its place, the byte, and the stage that fails.
 DAMAGES = [(5, 8, 1, 1), (2, 0, 4, 2), (1, 32, 5, 3), (4, 4, 0, 3), (3, 16, 1, 4), (3, 32, 5, 7), (2, 8, 2, 8), (5, 2, 2, 9), (3, 8, 3, 13)]
-
-
-class Stop(BaseException):
-    """The process has gone."""
-
-
-def ending(call, left):
-    def made(*arguments):
-        left[0] -= 1
-        if left[0] < 0:
-            raise Stop
-        return call(*arguments)
-
-    return made
-
-
-def noting(call, name, calls):
-    def made(*arguments):
-        calls.append(name)
-        return call(*arguments)
-
-    return made
 
 
 def is_no_link(*_):
@@ -222,48 +353,30 @@ def is_no_link(*_):
     raise OSError(errno.EPERM, os.strerror(errno.EPERM))
 
 
-# What `make` does to the disk.
+# What `make` does to the disk, but for what the library does.
 STEPS = ("open", "ftruncate", "pwrite", "fsync", "link", "rename", "unlink")
+MAKE = """
+try:
+    pansuyog.make(image, 64, library=library, **{how})
+except pansuyog.Refused as error:
+    tell(error)
+"""
 
 
-class Making(OfTheLibrary):
-    """New images, where a file may have two names, and where it can't."""
-
-    def setUp(self):
-        super().setUp()
-        folder = tempfile.TemporaryDirectory()
-        self.addCleanup(folder.cleanup)
-        self.folder, self.image = folder.name, f"{folder.name}/disk.img"
-
-    @contextlib.contextmanager
-    def steps(self, has_links, around):
-        """Lets each step of a `make` go through a function, which is given the call and its name."""
-        with contextlib.ExitStack() as stack:
-            for name in STEPS:
-                call = is_no_link if name == "link" and not has_links else getattr(os, name)
-                stack.enter_context(mock.patch(f"os.{name}", around(call, name)))
-            yield
-
-    def stops_behind(self, good_calls, has_links, **how):
-        """Whether a `make` comes to a step at which all calls fail from there on, as behind a stop."""
-        left = [good_calls]
-        with self.steps(has_links, lambda call, _: ending(call, left)):
-            try:
-                used().make(self.image, 64, **how)
-            except Stop:
-                return True
-        return False
+class Made(WhereTheSystemFails):
+    """New images, where the library's calls of the system fail, or a stop comes."""
 
     def test_a_new_image_is_there_whole_or_not_at_all(self):
-        for has_links in (True, False):
+        for fails in ("", "link"):
             for how in ({}, {"reserve": True}, {"force": True}):
                 stops, empty = 0, 0
-                while self.stops_behind(stops, has_links, **how):
+                while self.run_with(MAKE.format(how=how), fails, stops)[0] == 9:
                     empty += self.is_left_empty()
                     stops += 1
-                self.assertGreaterEqual(stops, 11)
+                # It is cut and made longer; six sectors, and one of them again; three syncs; its name, and the folder.
+                self.assertGreaterEqual(stops, 14)
                 # Where a file can't have two names a stop may come between an empty file of the name and the rename.
-                self.assertEqual(empty, 0 if has_links else 1)
+                self.assertEqual(empty, 1 if fails else 0)
                 self.clear()
 
     def is_left_empty(self):
@@ -288,12 +401,51 @@ class Making(OfTheLibrary):
         self.assertEqual(os.listdir(self.folder), ["disk.img"])
         os.remove(self.image)
 
-    def test_the_name_comes_behind_all_syncs(self):
-        for has_links, wanted in ((True, ["fsync", "link", "unlink", "open", "fsync"]), (False, ["fsync", "link", "open", "rename", "open", "fsync"])):
+    def test_a_failure_of_the_library_is_told_and_leaves_nothing(self):
+        told = {
+            "write": "Device False {}: a write of it failed: No space left on device",
+            "sync": "Device True {}: a write or a sync of it failed: Input/output error",
+        }
+        for fails, text in told.items():
+            self.assertEqual(self.run_with(MAKE.format(how={}), fails), (0, [text.format(self.image)]))
+            self.assertEqual(os.listdir(self.folder), [])
+
+
+class Making(OfTheLibrary):
+    """New images, where a file may have two names, and where it can't."""
+
+    def setUp(self):
+        super().setUp()
+        folder = tempfile.TemporaryDirectory()
+        self.addCleanup(folder.cleanup)
+        self.folder, self.image = folder.name, f"{folder.name}/disk.img"
+
+    @contextlib.contextmanager
+    def steps(self, has_links, around):
+        """Lets each step of a `make` go through a function, which is given the call and its name."""
+        with contextlib.ExitStack() as stack:
+            for name in STEPS:
+                call = is_no_link if name == "link" and not has_links else getattr(os, name)
+                stack.enter_context(mock.patch(f"os.{name}", around(call, name)))
+            yield
+
+    def test_the_name_comes_once_the_volume_is_there(self):
+        for has_links, wanted in ((True, ["link", "unlink", "open", "fsync"]), (False, ["link", "open", "rename", "open", "fsync"])):
             calls = []
-            with self.steps(has_links, lambda call, name: noting(call, name, calls)):
+
+            def looking(call, name):
+                def made(*arguments):
+                    if name == "link":
+                        shutil.copy(f"{self.image}.lfs-make", f"{self.folder}/aside")
+                        used().mounted(f"{self.folder}/aside").close()
+                    calls.append(name)
+                    return call(*arguments)
+
+                return made
+
+            with self.steps(has_links, looking):
                 used().make(self.image, 64)
-            self.assertEqual(calls[-len(wanted) :], wanted)
+            self.assertEqual([it for it in calls if it != "pwrite"][-len(wanted) :], wanted)
             os.remove(self.image)
 
     def test_a_name_that_another_takes_meanwhile_is_refused(self):
@@ -340,16 +492,14 @@ class Making(OfTheLibrary):
     def test_each_failure_is_told_and_leaves_nothing(self):
         full = OSError(errno.ENOSPC, os.strerror(errno.ENOSPC))
         told = {
-            "ftruncate": (pansuyog.Image, "the file can't have the length of the volume"),
-            "pwrite": (pansuyog.Device, "a write of it failed"),
-            "fsync": (pansuyog.Device, "a sync of it failed"),
-            "link": (pansuyog.Image, "the system refuses to open it or to make it"),
+            "ftruncate": "the file can't have the length of the volume",
+            "link": "the system refuses to open it or to make it",
         }
-        for name, (refusal, text) in told.items():
-            with mock.patch(f"os.{name}", side_effect=full), self.assertRaises(refusal) as caught:
+        for name, text in told.items():
+            with mock.patch(f"os.{name}", side_effect=full), self.assertRaises(pansuyog.Image) as caught:
                 used().make(self.image, 64)
             self.assertEqual(str(caught.exception), f"{self.image}: {text}: No space left on device")
-            self.assertIs(caught.exception.needs_restart, name == "fsync")
+            self.assertFalse(caught.exception.needs_restart)
             self.assertEqual(os.listdir(self.folder), [])
         with mock.patch("os.pwrite", side_effect=full):
             with self.assertRaisesRegex(pansuyog.Image, f"^{self.image}: there is no room for all of its sectors: No space left on device$"):
@@ -397,7 +547,18 @@ class Making(OfTheLibrary):
         self.assertEqual(os.path.getsize(self.image), 8)
 
 
-class Devices(OfTheLibrary, OnAVolume):
+# Has a volume until it gets a line.
+HOLDING = """
+import sys
+import pansuyog
+library, image, *reads = sys.argv[1:]
+with pansuyog.Volume(image, library=library, read_only=bool(reads)):
+    print("there", flush=True)
+    input()
+"""
+
+
+class Images(OfTheLibrary, OnAVolume):
     def test_a_damaged_volume_tells_its_stage(self):
         for sector, place, byte, stage in DAMAGES:
             used().make(self.image, 64, force=True)
@@ -419,18 +580,211 @@ class Devices(OfTheLibrary, OnAVolume):
         self.assertRaisesRegex(pansuyog.Image, "neither a regular file", used().make, "/dev/null", 64)
         self.assertRaisesRegex(pansuyog.Inval, "format 1 or 2", used().make, self.image, 64, 3)
 
+    def test_a_disk_that_is_full_halts_a_volume(self):
+        with self.mounted() as volume:
+            handle = volume.create("/f")
+            limits = resource.getrlimit(resource.RLIMIT_FSIZE)
+            resource.setrlimit(resource.RLIMIT_FSIZE, (100, limits[1]))
+            try:
+                with self.assertRaises(pansuyog.Halted) as caught:
+                    volume.append("/f", b"x")
+            finally:
+                resource.setrlimit(resource.RLIMIT_FSIZE, limits)
+            cause = f"it can't be written: a write of {self.image} failed: File too large"
+            self.assertEqual(str(caught.exception), f"sync: {cause}")
+            # A write that finds no room leaves nothing in doubt.
+            self.assertFalse(caught.exception.needs_restart)
+            with self.assertRaises(pansuyog.Halted) as caught:
+                volume.close_handle(handle)
+            self.assertEqual(str(caught.exception), f"close {handle}: {cause}")
+        self.assertEqual(self.mounted().readdir("/"), [])
+
+    def test_an_image_that_is_cut_is_told(self):
+        with self.mounted() as volume:
+            volume.write_file("/f", b"x" * 70_000)
+        with self.mounted() as volume:
+            handle = volume.open("/f")
+            os.truncate(self.image, 4_096)
+            with self.assertRaises(pansuyog.Device) as caught:
+                volume.pread(handle, 0, 5)
+            self.assertEqual(str(caught.exception), f"pread {handle} 0 5: a read of {self.image} failed: it ends before that")
+            os.truncate(self.image, 512 * (2 + 64 * 64))
+            # What it read before is there, and the volume goes on.
+            self.assertEqual(volume.stat("/f").size, 70_000)
+
+    def test_what_is_only_read_is_not_cleaned(self):
+        with self.mounted() as volume:
+            volume.mkdir("/d")
+            volume.write_file("/d/f", b"x")
+        with self.mounted(read_only=True) as volume:
+            for change in [*changes_of(volume), volume.clean_once]:
+                self.assertRaises(pansuyog.ReadOnly, change)
+            self.assertIs(volume.is_cleaning_due(), False)
+
+    def test_another_process_is_kept_out(self):
+        for more in ([], ["reads"]):
+            words = [sys.executable, "-B", "-c", HOLDING, used().path, self.image, *more]
+            with subprocess.Popen(words, env={**os.environ, "PYTHONPATH": HERE}, stdin=subprocess.PIPE, stdout=subprocess.PIPE, text=True) as child:
+                self.assertEqual(child.stdout.readline(), "there\n")
+                self.assertRaisesRegex(pansuyog.Image, "it is in use", used().mounted, self.image)
+                if more:
+                    used().mounted(self.image, read_only=True).close()
+                else:
+                    self.assertRaisesRegex(pansuyog.Image, "it is in use", used().mounted, self.image, read_only=True)
+                child.communicate("\n")
+            self.assertEqual(child.returncode, 0)
+            used().mounted(self.image).close()
+
+    def test_each_descriptor_is_given_back(self):
+        def descriptors():
+            return len(os.listdir("/proc/self/fd"))
+
+        before = descriptors()
+        for how in ({}, {"read_only": True}):
+            used().mounted(self.image, **how).close()
+            self.assertEqual(descriptors(), before)
+        os.truncate(self.image, 512)
+        self.assertRaises(pansuyog.TooSmall, used().mounted, self.image)
+        self.assertEqual(descriptors(), before)
+        with mock.patch("os.fsync", side_effect=OSError(errno.EINVAL, os.strerror(errno.EINVAL))):
+            self.assertRaises(pansuyog.TooSmall, used().mounted, self.image, read_only=True)
+        self.assertEqual(descriptors(), before)
+
+    def test_a_tree_goes_on_past_a_path_that_no_call_takes(self):
+        volume = self.mounted()
+        _, whole = Files.deep(self, volume)
+        with self.assertWarns(pansuyog.Omitted) as caught:
+            rows = volume.tree()
+        self.assertEqual([str(it.message).split(":")[0] for it in caught.warnings], [whole[:1_080].decode()])
+        # Seventeen of eighteen directories, and two of three files.
+        self.assertEqual(len(rows), 19)
+        self.assertIn(b"z", [row.name for row in rows])
+
+
+# Records by records, until the volume refuses one.
+APPEND = """
+try:
+    with pansuyog.Volume(image, library=library) as volume:
+        for number in range({first}, {first} + 20):
+            volume.append("/log", b"%04d" % number)
+            print("saved", number, flush=True)
+except pansuyog.Refused as error:
+    tell(error)
+"""
+# Mounts a volume and reads a file, both first where no read gives anything.
+READ = """
+import os
+
+def tell_broken(call, *arguments):
+    os.environ["BROKEN"] = "yes"
+    try:
+        call(*arguments)
+    except pansuyog.Refused as error:
+        tell(error)
+    del os.environ["BROKEN"]
+
+tell_broken(lambda: pansuyog.Volume(image, library=library))
+with pansuyog.Volume(image, library=library) as volume:
+    handle = volume.open("/f")
+    tell_broken(volume.pread, handle, 60_000, 5)
+    print(volume.pread(handle, 60_000, 5))
+"""
+
+
+class Failing(WhereTheSystemFails):
+    """A volume whose file fails, or whose program is stopped at each call of the system."""
+
+    def setUp(self):
+        super().setUp()
+        used().make(self.image, 64)
+
+    def test_reads_may_be_interrupted_and_short(self):
+        with used().mounted(self.image) as volume:
+            volume.write_file("/log", b"0000" * 20_000)
+        status, lines = self.run_with(APPEND.format(first=0), "read")
+        self.assertEqual((status, lines), (0, [f"saved {number}" for number in range(20)]))
+        with used().mounted(self.image) as volume:
+            self.assertEqual(volume.read("/log")[80_000:], b"".join(b"%04d" % number for number in range(20)))
+
+    def test_a_read_that_fails_is_told_and_the_volume_goes_on(self):
+        with used().mounted(self.image) as volume:
+            volume.write_file("/f", b"x" * 70_000)
+        put(f"{self.folder}/reads.c", BROKEN_READS.encode())
+        status, lines = self.run_with(READ, faults=f"{self.folder}/reads.c")
+        mount = f"Device True {self.image}: a read or a sync of it failed: Input/output error"
+        call = f"Device True pread 0 60000 5: a read of {self.image} failed: Input/output error"
+        self.assertEqual((status, lines), (0, [mount, call, "b'xxxxx'"]))
+
+    def test_a_file_system_without_locks_is_told(self):
+        put(f"{self.folder}/locks.c", NO_LOCKS.encode())
+        status, lines = self.run_with(APPEND.format(first=0), faults=f"{self.folder}/locks.c")
+        self.assertEqual((status, lines), (0, [f"Image False {self.image}: the system refuses to lock it"]))
+
+    def test_a_write_or_a_sync_that_fails_halts_the_volume(self):
+        # A sync fails only behind a write, so the mount comes to its end.
+        told = {
+            "write": "Halted False sync: it can't be written: a write of {} failed: No space left on device",
+            "sync": "Halted True sync: it can't be written: a write or a sync of {} failed: Input/output error",
+            "write sync": "Halted True sync: it can't be written: a write or a sync of {} failed: No space left on device",
+        }
+        for fails, text in told.items():
+            self.assertEqual(self.run_with(APPEND.format(first=0), fails), (0, [text.format(self.image)]))
+        with used().mounted(self.image) as volume:
+            self.assertIn(len(volume.readdir("/")), (0, 1))
+
+    def test_what_was_saved_is_there_behind_a_stop_at_each_call(self):
+        saved, stops = 0, 0
+        while stops < 60:
+            status, lines = self.run_with(APPEND.format(first=saved), stop=stops)
+            self.assertEqual(status, 9)
+            acknowledged = int(lines[-1].split()[1]) + 1 if lines else saved
+            with used().mounted(self.image) as volume:
+                found = volume.read("/log") if volume.readdir("/") else b""
+            self.assertIn(len(found) // 4, (acknowledged, acknowledged + 1))
+            self.assertEqual(found, b"".join(b"%04d" % number for number in range(len(found) // 4)))
+            saved, stops = len(found) // 4, stops + 1
+        self.assertGreater(saved, 60)
+
+
+class Devices(OnADevice):
+    """Devices of the caller's own."""
+
+    def test_an_empty_volume_is_made_on_any_device(self):
+        device = stopping.Device(self.image, random)
+        with self.mounted(device) as volume:
+            volume.create("/f")
+            volume.sync()
+        for format in (1, 2):
+            pansuyog.make_over(device, 64, format, library=used().orders)
+            with self.mounted(device) as volume:
+                self.assertEqual((volume.version(), volume.readdir("/")), (format, []))
+        with self.assertRaisesRegex(pansuyog.TooSmall, "^the device: it is shorter than its volume, or than any volume$"):
+            pansuyog.make_over(device, 72, library=used().orders)
+        for segments, format in ((65, 1), (64, 3), (56, 1), (1_032, 1)):
+            self.assertRaisesRegex(pansuyog.Inval, "^the device: ", pansuyog.make_over, device, segments, format, library=used().orders)
+
+    def test_what_is_no_volume_is_refused(self):
+        put(self.image, bytes(3_000_000))
+        with self.assertRaisesRegex(pansuyog.NoCheckpoint, "^the device: neither of its first two sectors is a checkpoint$"):
+            self.mounted()
+        used().make(self.image, 64, force=True)
+        with open(self.image, "r+b") as file:
+            file.seek(512 * 4 + 4)
+            file.write(b"\0")
+        self.assertRaisesRegex(pansuyog.Damaged, "^the device: stage 3 of its check fails$", self.mounted)
+
     def test_a_sector_that_is_not_needed_need_not_be_read(self):
         device = stopping.Device(self.image, random)
-        with device.put_between():
-            device.unreadable = set(range(10, 4_000))
-            self.mounted().close()
-            # The root's inode.
-            device.unreadable = {3}
-            self.assertRaisesRegex(pansuyog.Damaged, "stage 4", used().mounted, self.image)
+        device.unreadable = set(range(10, 4_000))
+        self.mounted(device).close()
+        # The root's inode.
+        device.unreadable = {3}
+        text = "^the device: stage 4 of its check fails, and a read of it failed: the sector can't be read$"
+        self.assertRaisesRegex(pansuyog.Damaged, text, self.mounted, device)
 
     def test_what_was_synced_is_there_where_the_rest_is_lost(self):
         device = stopping.Device(self.image, random)
-        with device.put_between(), self.mounted() as volume:
+        with self.mounted(device) as volume:
             for number in range(20):
                 volume.append("/log", b"%04d" % number)
             lost = volume.create("/lost")
@@ -438,24 +792,23 @@ class Devices(OfTheLibrary, OnAVolume):
                 volume.pwrite(lost, 65_536 * number, b"x" * 65_536)
             volume.unlink("/log")
         self.assertGreater(device.cut(stopping.OLD), 0)
-        self.assertEqual(self.mounted().read("/log"), b"".join(b"%04d" % number for number in range(20)))
+        self.assertEqual(self.mounted(device).read("/log"), b"".join(b"%04d" % number for number in range(20)))
 
     def test_what_was_synced_is_there_behind_a_stop_at_each_order(self):
         device, acknowledged, stops = stopping.Device(self.image, random.Random(1)), [], 0
-        with device.put_between():
-            while stops < 60:
-                with self.mounted() as volume, contextlib.suppress(stopping.Stopped):
-                    device.stop_behind(stops)
-                    for number in range(len(acknowledged), 1_000):
-                        volume.append("/log", b"%04d" % number)
-                        acknowledged.append(b"%04d" % number)
-                device.cut()
-                with self.mounted() as volume:
-                    found = volume.read("/log") if acknowledged else b""
-                self.assertEqual(found[: 4 * len(acknowledged)], b"".join(acknowledged))
-                self.assertIn(len(found) - 4 * len(acknowledged), (0, 4))
-                acknowledged += [found[4 * len(acknowledged) :]] if len(found) > 4 * len(acknowledged) else []
-                stops += 1
+        while stops < 60:
+            with self.mounted(device) as volume, contextlib.suppress(stopping.Stopped):
+                device.stop_behind(stops)
+                for number in range(len(acknowledged), 1_000):
+                    volume.append("/log", b"%04d" % number)
+                    acknowledged.append(b"%04d" % number)
+            device.cut()
+            with self.mounted(device) as volume:
+                found = volume.read("/log") if acknowledged else b""
+            self.assertEqual(found[: 4 * len(acknowledged)], b"".join(acknowledged))
+            self.assertIn(len(found) - 4 * len(acknowledged), (0, 4))
+            acknowledged += [found[4 * len(acknowledged) :]] if len(found) > 4 * len(acknowledged) else []
+            stops += 1
         self.assertGreater(len(acknowledged), 60)
 
     def test_a_tree_has_whole_files_behind_a_stop_at_each_order(self):
@@ -480,80 +833,68 @@ class Devices(OfTheLibrary, OnAVolume):
         """Whether the power goes, behind so many orders, while a folder is put into a new volume."""
         used().make(self.image, 64, force=True)
         device = stopping.Device(self.image, random.Random(orders))
-        with device.put_between():
-            try:
-                with self.mounted() as volume:
-                    device.stop_behind(orders)
-                    volume.write_tree(folder, sync_each=each)
-                return False
-            except stopping.Stopped:
-                return True
-            finally:
-                device.cut(stopping.NEW if orders % 2 else stopping.OLD)
+        try:
+            with self.mounted(device) as volume:
+                device.stop_behind(orders)
+                volume.write_tree(folder, sync_each=each)
+            return False
+        except stopping.Stopped:
+            return True
+        finally:
+            device.cut(stopping.NEW if orders % 2 else stopping.OLD)
 
     def test_a_tree_of_many_files_has_few_syncs(self):
         with tempfile.TemporaryDirectory() as folder:
             for number in range(200):
                 put(f"{folder}/{number}", b"x" * 100)
             device = stopping.Device(self.image, random)
-            with device.put_between(), self.mounted() as volume:
+            with self.mounted(device) as volume:
                 before = device.syncs
                 volume.write_tree(folder)
                 self.assertLessEqual(device.syncs - before, 20)
 
-    def test_a_failure_tells_the_image_and_the_cause(self):
-        full, broken = ((it, os.strerror(it)) for it in (errno.ENOSPC, errno.EIO))
-        for name, what, error in (("pwrite", "write", full), ("fsync", "sync", full), ("pwrite", "write", broken), ("fsync", "sync", broken)):
-            with self.mounted() as volume:
+    def test_a_failure_tells_the_cause(self):
+        full, broken = (OSError(it, os.strerror(it)) for it in (errno.ENOSPC, errno.EIO))
+        device = stopping.Device(self.image, random)
+        for name, error in (("write", full), ("sync", full), ("write", broken), ("sync", broken)):
+            with self.mounted(device) as volume:
                 handle = volume.create("/f")
-                with mock.patch(f"os.{name}", side_effect=OSError(*error)), self.assertRaises(pansuyog.Halted) as caught:
+                with mock.patch.object(device, name, side_effect=error), self.assertRaises(pansuyog.Halted) as caught:
                     volume.append("/f", b"x")
-                cause = f"it can't be written: a {what} of {self.image} failed: {error[1]}"
+                cause = f"it can't be written: a {name} of the device failed: {error.strerror}"
                 self.assertEqual(str(caught.exception), f"sync: {cause}")
                 # A write that finds no room leaves nothing in doubt.
-                self.assertIs(caught.exception.needs_restart, (name, error) != ("pwrite", full))
+                self.assertIs(caught.exception.needs_restart, (name, error) != ("write", full))
                 with self.assertRaises(pansuyog.Halted) as caught:
                     volume.close_handle(handle)
                 self.assertEqual(str(caught.exception), f"close {handle}: {cause}")
-        with mock.patch("os.fsync", side_effect=OSError(*broken)), self.assertRaises(pansuyog.Device) as caught:
-            self.mounted()
-        self.assertEqual(str(caught.exception), f"{self.image}: a sync of it failed: Input/output error")
+        with mock.patch.object(device, "sync", side_effect=broken), self.assertRaises(pansuyog.Device) as caught:
+            self.mounted(device)
+        self.assertEqual(str(caught.exception), "the device: a sync of it failed: Input/output error")
         self.assertTrue(caught.exception.needs_restart)
-        with mock.patch("os.pread", side_effect=OSError(*broken)), self.assertRaises(pansuyog.NoCheckpoint) as caught:
-            self.mounted()
+        with mock.patch.object(device, "read", side_effect=broken), self.assertRaises(pansuyog.NoCheckpoint) as caught:
+            self.mounted(device)
         self.assertRegex(str(caught.exception), "is a checkpoint, and a read of it failed: Input/output error$")
-
-    def test_a_write_of_no_byte_is_a_failure(self):
-        with self.mounted() as volume, mock.patch("os.pwrite", return_value=0):
-            volume.create("/f")
-            self.assertRaisesRegex(pansuyog.Halted, f"^sync: .* a write of {self.image} failed: no byte was written$", volume.sync)
 
     def test_what_is_only_read_gets_no_write(self):
         device = stopping.Device(self.image, random)
         with self.mounted() as volume:
             volume.mkdir("/d")
             volume.write_file("/d/f", b"x")
-        with device.put_between(), self.mounted(read_only=True) as volume:
+        with self.mounted(device, read_only=True) as volume:
             for change in [*changes_of(volume), volume.clean_once]:
                 self.assertRaises(pansuyog.ReadOnly, change)
             volume.sync()
+            volume.fsync(0)
+            self.assertRaises(pansuyog.BadHandle, volume.fsync, 63)
             self.assertIs(volume.is_cleaning_due(), False)
         self.assertEqual(device.writes, 0)
 
-    def test_a_tree_goes_on_past_a_path_that_no_call_takes(self):
-        volume = self.mounted()
-        _, whole = Files.deep(self, volume)
-        with self.assertWarns(pansuyog.Omitted) as caught:
-            rows = volume.tree()
-        self.assertEqual([str(it.message).split(":")[0] for it in caught.warnings], [whole[:1_080].decode()])
-        # Seventeen of eighteen directories, and two of three files.
-        self.assertEqual(len(rows), 19)
-        self.assertIn(b"z", [row.name for row in rows])
-
     def test_a_call_within_another_is_an_error(self):
-        volume = self.mounted()
+        device = stopping.Device(self.image, random)
+        volume = self.mounted(device)
         volume.create("/f")
-        with mock.patch("os.fsync", lambda _: volume.readdir("/")):
+        with mock.patch.object(device, "sync", lambda: volume.readdir("/")):
             self.assertRaises(RuntimeError, volume.sync)
         self.assertEqual([it.name for it in volume.readdir("/")], [b"f"])
         volume.sync()
@@ -587,9 +928,10 @@ class Devices(OfTheLibrary, OnAVolume):
 
             return made
 
-        with mock.patch("os.pwrite", counted(os.pwrite)), mock.patch("os.fsync", counted(os.fsync)):
+        device = stopping.Device(self.image, random)
+        with mock.patch.object(device, "write", counted(device.write)), mock.patch.object(device, "sync", counted(device.sync)):
             try:
-                volume = used().mounted(self.image)
+                volume = self.mounted(device)
             except pansuyog.Device:
                 return True
             with volume:
@@ -603,20 +945,32 @@ class Devices(OfTheLibrary, OnAVolume):
 
 
 class Installed(OfTheLibrary):
-    def test_a_library_beside_the_module_is_found(self):
+    def libraries(self):
+        return [used().path, used().orders]
+
+    def test_libraries_beside_the_module_are_found(self):
         with tempfile.TemporaryDirectory() as folder:
-            shutil.copy(f"{HERE}/pansuyog.py", folder)
-            shutil.copy(used().path, f"{folder}/libpansuyog.so.0")
+            for path in (f"{HERE}/pansuyog.py", f"{HERE}/stopping.py", *self.libraries()):
+                shutil.copy(path, folder)
             code = "import pansuyog; pansuyog.make('disk.img', 64); pansuyog.Volume('disk.img').sync()"
+            code += "; import stopping; device = stopping.Device('disk.img', None); pansuyog.make_over(device, 64); pansuyog.Volume.over(device).sync()"
             subprocess.run([sys.executable, "-c", code], cwd=folder, check=True)
             self.assertEqual(os.path.getsize(f"{folder}/disk.img"), 512 * (2 + 64 * 64))
 
-    def test_a_wheel_has_the_library(self):
-        with tempfile.TemporaryDirectory() as folder, mock.patch("building.LIBRARY", used().path):
+    def test_the_page_of_the_library_shows_what_runs(self):
+        shown = re.findall(r"^```python\n(.*?)^```", text_of(f"{HERE}/../../docs/LIBRARY.md"), re.M | re.S)
+        self.assertEqual(len(shown), 1)
+        env = {**os.environ, "PYTHONPATH": HERE, "LD_LIBRARY_PATH": os.path.dirname(used().path)}
+        ran = subprocess.run([sys.executable, "-B", "-c", shown[0]], env=env, stdout=subprocess.PIPE, check=True)
+        self.assertEqual(ran.stdout, b"a record\n")
+
+    def test_a_wheel_has_the_libraries(self):
+        with tempfile.TemporaryDirectory() as folder, mock.patch("building.LIBRARIES", self.libraries()):
             name = building.build_wheel(folder)
             self.assertIn("-linux_", name)
             shutil.unpack_archive(f"{folder}/{name}", folder, "zip")
-            self.assertTrue(os.path.exists(f"{folder}/libpansuyog.so.0") and os.path.exists(f"{folder}/pansuyog.py"))
+            for it in ("pansuyog.py", "libpansuyog_file.so.0", "libpansuyog.so.0"):
+                self.assertTrue(os.path.exists(f"{folder}/{it}"))
 
 
 class Recorder(OfTheLibrary, test_pansuyog.Recorder):
