@@ -46,8 +46,9 @@ pub enum Error {
     DirFull,
     /// Memory was refused.
     NoMemory,
-    /// A read of an image failed, or, as its volume is mounted, a sync, with the system's error: the same call may be tried again. Over a
-    /// device of one's own a sector that is needed couldn't be read as the volume was mounted.
+    /// A read of an image failed, with the system's error: the call may be tried again. As the volume was mounted it may have been a sync:
+    /// through the cache of a kernel restart the machine before the next mount. Over a device of one's own a sector that is needed couldn't
+    /// be read as the volume was mounted.
     Device(io::Error),
     /// The volume takes no call any more, since its device failed, or memory for a write was refused. Mount it anew: an image once the
     /// volume is dropped, and a device of your own once [`Volume::into_device`](crate::Volume::into_device) gave it back.

@@ -6,6 +6,8 @@ use pansuyog::{Error, Version, Volume};
 use std::fs::{self, File};
 use std::io::ErrorKind;
 use std::path::Path;
+use std::thread::{self, sleep};
+use std::time::Duration;
 
 /// The kind of the system's error with which an image isn't opened.
 fn kind_of_refusal(path: impl AsRef<Path>) -> ErrorKind {
@@ -78,6 +80,20 @@ fn an_image_is_read_by_several_volumes() {
     assert_eq!(refusal(Volume::mount(image.path())), "InUse");
     drop((first, second));
     assert!(Volume::mount(image.path()).is_ok());
+}
+
+#[test]
+fn who_writes_waits_for_a_look() {
+    let mut image = TemporaryImage::new("waits");
+    drop(image.format(64, Version::Two));
+    let look = Volume::mount_read_only(image.path()).unwrap();
+    thread::scope(|scope| {
+        scope.spawn(move || {
+            sleep(Duration::from_millis(200));
+            drop(look);
+        });
+        assert!(Volume::mount(image.path()).is_ok());
+    });
 }
 
 #[test]
