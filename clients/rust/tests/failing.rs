@@ -1,13 +1,12 @@
 //! Images that can't be read or written while a volume is mounted.
 mod common;
 
-use common::{Ground, TemporaryImage, refusal};
+use common::{Ground, TemporaryImage, in_own_process, own_image, refusal, tell};
 use pansuyog::{Error, Version, Volume};
+use std::error;
 use std::fs::{self, File};
 use std::io::{self, ErrorKind};
 use std::path::Path;
-use std::process::Command;
-use std::{env, error};
 
 /// Where the image ends within the volume its bytes can't be read. The call is refused, and may be tried again.
 #[test]
@@ -31,9 +30,6 @@ fn a_read_that_fails_refuses_the_call_alone() {
     assert_eq!(volume.pread(handle, 0, &mut bytes).unwrap(), 65_536);
     assert!(bytes.iter().all(|it| *it == 7));
 }
-
-/// Names the image for the part of a test that runs below a limit of the system.
-const LIMITED: &str = "PANSUYOG_LIMITED_IMAGE";
 
 /// The sizes, in KiB, that a file may have: a write of a later segment fails.
 const LIMITS: [u32; 3] = [64, 512, 1_024];
@@ -66,28 +62,18 @@ fn append_to_the_limit(image: &Path) -> u64 {
     unreachable!()
 }
 
-/// Makes the test below once more, in a process whose files may have so many KiB: how many records it saved.
-fn saved_below(limit: u32, image: &Path) -> u64 {
-    let script = format!("trap '' XFSZ; ulimit -f {limit}; exec \"$0\" --exact a_write_that_fails_halts_the_volume --nocapture");
-    let mut bash = Command::new("bash");
-    bash.args(["-c", &script]).arg(env::current_exe().unwrap()).env(LIMITED, image);
-    let ran = bash.output().unwrap();
-    let said = String::from_utf8(ran.stdout).unwrap();
-    assert!(ran.status.success(), "{said}{}", String::from_utf8_lossy(&ran.stderr));
-    let (_, behind) = said.split_once("saved ").unwrap();
-    behind.lines().next().unwrap().parse().unwrap()
-}
-
 #[test]
 fn a_write_that_fails_halts_the_volume() {
-    if let Some(image) = env::var_os(LIMITED) {
-        println!("saved {}", append_to_the_limit(Path::new(&image)));
-        return;
+    if let Some(image) = own_image() {
+        return tell(append_to_the_limit(&image));
     }
     for limit in LIMITS {
         let mut image = TemporaryImage::new("limit");
         drop(image.format(64, Version::Two));
-        let saved = saved_below(limit, image.path());
+        let words = format!("trap '' XFSZ; ulimit -f {limit};");
+        let saved: u64 = in_own_process("a_write_that_fails_halts_the_volume", image.path(), &words)
+            .parse()
+            .unwrap();
         assert!(saved > 0);
         let mut volume = image.mount().unwrap();
         let size = volume.stat("/log").map_or(0, |it| it.size);

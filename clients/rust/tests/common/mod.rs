@@ -4,9 +4,11 @@
 
 use pansuyog::{Backend, Device, Error, Image, SECTOR, Sector, Version, Volume, sectors_of};
 use std::collections::{HashMap, HashSet};
+use std::fmt::Display;
 use std::os::unix::fs::FileExt;
 use std::path::{Path, PathBuf};
-use std::{env, fs, io, process};
+use std::process::{self, Command};
+use std::{env, fs, io};
 
 pub struct MemoryDevice {
     pub sectors: Vec<Sector>,
@@ -165,6 +167,33 @@ impl Ground for TemporaryImage {
     fn mount(&mut self) -> Result<Volume, Error> {
         Volume::mount(&self.0)
     }
+}
+
+/// Names the image in the environment of a test that is made once more, in a process of its own.
+const OWN_PROCESS: &str = "PANSUYOG_OWN_PROCESS";
+
+/// The image of a test that is made in a process of its own: what it is to do there is done to this one.
+pub fn own_image() -> Option<PathBuf> {
+    env::var_os(OWN_PROCESS).map(PathBuf::from)
+}
+
+/// Makes a test once more, in a process of its own, behind the words of a shell: what it prints last.
+pub fn in_own_process(test: &str, image: &Path, words: &str) -> String {
+    let mut bash = Command::new("bash");
+    bash.args(["-c", &format!("{words} exec \"$0\" --exact {test} --nocapture")]);
+    let ran = bash.arg(env::current_exe().unwrap()).env(OWN_PROCESS, image).output().unwrap();
+    let said = String::from_utf8(ran.stdout).unwrap();
+    assert!(ran.status.success(), "{said}{}", String::from_utf8_lossy(&ran.stderr));
+    let (_, told) = said.split_once(TOLD).unwrap();
+    told.lines().next().unwrap().to_string()
+}
+
+/// Stands before what a test in a process of its own tells.
+const TOLD: &str = "it tells ";
+
+/// Tells the test that made this process.
+pub fn tell(text: impl Display) {
+    println!("{TOLD}{text}");
 }
 
 /// The refusal of a call, as its name.
