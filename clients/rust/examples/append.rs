@@ -1,7 +1,7 @@
 //! Puts a record behind those of /log, in a volume in a file, and shows them all. Where no file is the volume is made.
 //!
 //!     append FILE RECORD
-use pansuyog::{Error, FileDevice, Handle, Version, Volume};
+use pansuyog::{Error, Handle, Version, Volume};
 use std::env;
 use std::io::{self, Write};
 use std::process::ExitCode;
@@ -9,21 +9,21 @@ use std::process::ExitCode;
 const SEGMENTS: u32 = 64;
 
 /// Opens and locks a volume that is there, or a new one. Nothing else that is there is changed.
-fn opened(path: &str) -> Result<Volume<FileDevice>, Error> {
+fn opened(path: &str) -> Result<Volume, Error> {
     match pansuyog::make(path, SEGMENTS, Version::Two) {
-        Ok(()) | Err(Error::Exist) => Volume::mount(FileDevice::open(path)?),
+        Ok(()) | Err(Error::Exist) => Volume::mount(path),
         Err(error) => Err(error),
     }
 }
 
 /// Once it is `Ok` no loss of power takes the record away.
-fn append(volume: &mut Volume<FileDevice>, log: Handle, record: &str) -> Result<(), Error> {
+fn append(volume: &mut Volume, log: Handle, record: &str) -> Result<(), Error> {
     let end = volume.stat("/log")?.size;
     volume.pwrite(log, end, format!("{record}\n").as_bytes())?;
     volume.sync()
 }
 
-fn show(volume: &mut Volume<FileDevice>, log: Handle) -> Result<(), Error> {
+fn show(volume: &mut Volume, log: Handle) -> Result<(), Error> {
     let (mut bytes, mut at) = (vec![0; 65_536], 0);
     loop {
         let count = volume.pread(log, at, &mut bytes)?;

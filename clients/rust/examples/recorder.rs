@@ -3,7 +3,7 @@
 //!     recorder IMAGE append     appends for ever; prints the number of each record once no loss of power takes it away; where no file is
 //!                               the volume is made
 //!     recorder IMAGE count      prints how many records stand in the file, each whole and in order
-use pansuyog::{Error, FileDevice, Handle, Version, Volume};
+use pansuyog::{Error, Handle, Version, Volume};
 use std::env;
 use std::error;
 use std::io::{self, Write};
@@ -22,7 +22,7 @@ fn record(number: u64) -> Vec<u8> {
 }
 
 /// The records' handle, and how many stand there.
-fn opened(volume: &mut Volume<FileDevice>) -> Result<(Handle, u64)> {
+fn opened(volume: &mut Volume) -> Result<(Handle, u64)> {
     match volume.open(PATH) {
         Ok(handle) => Ok((handle, volume.stat(PATH)?.size / RECORD as u64)),
         Err(Error::NoEntry) => Ok((volume.create(PATH)?, 0)),
@@ -35,7 +35,7 @@ fn append(image: &str) -> Result<()> {
         Ok(()) | Err(Error::Exist) => {}
         Err(error) => return Err(error.into()),
     }
-    let mut volume = Volume::mount(FileDevice::open(image)?)?;
+    let mut volume = Volume::mount(image)?;
     let (handle, first) = opened(&mut volume)?;
     for number in first.. {
         volume.pwrite(handle, RECORD as u64 * number, &record(number))?;
@@ -46,7 +46,7 @@ fn append(image: &str) -> Result<()> {
 }
 
 fn count(image: &str) -> Result<()> {
-    let mut volume = Volume::mount(FileDevice::open_to_look(image)?)?;
+    let mut volume = Volume::mount_read_only(image)?;
     let (handle, records) = opened(&mut volume)?;
     let mut bytes = [0; RECORD];
     for number in 0..records {

@@ -1,10 +1,12 @@
 //! Why a call is refused.
+use crate::library::Refused;
 use std::error;
 use std::fmt::{self, Display, Formatter};
 use std::io;
 
-/// Why a call is refused. After all but [`Error::Halted`], [`Error::Write`] and [`Error::Sync`] the tree and the handles are as before the
-/// call, and the volume goes on. `docs/CALLS.md` of the repository has each call with its refusals, in their order.
+/// Why a call is refused. After all but [`Error::Halted`], [`Error::Write`], [`Error::Sync`] and [`Error::WriteOrSync`] the tree and the
+/// handles are as before the call, and the volume goes on. `docs/CALLS.md` of the repository has each call with its refusals, in their
+/// order.
 #[derive(Debug)]
 #[non_exhaustive]
 pub enum Error {
@@ -44,10 +46,12 @@ pub enum Error {
     DirFull,
     /// Memory was refused.
     NoMemory,
-    /// A sector that is needed couldn't be read as the volume was mounted.
-    Device,
-    /// The volume takes no call any more, since its device failed, or memory for a write was refused. Take the device by
-    /// [`Volume::into_device`](crate::Volume::into_device), and mount it anew.
+    /// A read of an image failed, with the system's error: the call may be tried again. As the volume was mounted it may have been a sync:
+    /// through the cache of a kernel restart the machine before the next mount. Over a device of one's own a sector that is needed couldn't
+    /// be read as the volume was mounted.
+    Device(io::Error),
+    /// The volume takes no call any more, since its device failed, or memory for a write was refused. Mount it anew: an image once the
+    /// volume is dropped, and a device of your own once [`Volume::into_device`](crate::Volume::into_device) gave it back.
     Halted,
     /// Too few segments are clean. It never comes.
     Stuck,
@@ -64,7 +68,15 @@ pub enum Error {
     Write(io::Error),
     /// A sync of the device failed, and then it is as with `Write`.
     Sync(io::Error),
-    /// An image can't be opened, locked or named, or the sectors of a device can't be counted.
+    /// A write or a sync of an image failed, and it isn't known which of the two. Then it is as with `Write`.
+    WriteOrSync(io::Error),
+    /// The volume was mounted to be read alone, and the call may write.
+    ReadOnly,
+    /// Another program has the image.
+    InUse,
+    /// The system can't lock the image, with its error.
+    LockFailed(io::Error),
+    /// An image can't be opened or named, or the sectors of a device can't be counted.
     Io(io::Error),
     /// The library answered a number that this crate doesn't know.
     Unknown(i32),
@@ -72,9 +84,13 @@ pub enum Error {
 
 const DAMAGED: i32 = -100;
 
+fn untold() -> io::Error {
+    io::Error::other("the system told no cause")
+}
+
 impl Error {
-    /// The refusal of a number of `pansuyog.h`.
-    pub(crate) fn of(code: i32) -> Error {
+    /// The refusal of a number of the headers, without what the system told of it.
+    pub(crate) fn of(Refused(code): Refused) -> Error {
         match code {
             -1 => Error::NoEntry,
             -2 => Error::NotDir,
@@ -94,12 +110,15 @@ impl Error {
             -16 => Error::NoNumber,
             -17 => Error::DirFull,
             -18 => Error::NoMemory,
-            -19 => Error::Device,
+            -19 => Error::Device(untold()),
             -20 => Error::Halted,
             -21 => Error::Stuck,
             -22 => Error::Worn,
             -30 => Error::TooSmall,
             -31 => Error::NoCheckpoint,
+            -43 => Error::ReadOnly,
+            -44 => Error::InUse,
+            -45 => Error::LockFailed(untold()),
             -115..=-101 => Error::Damaged((DAMAGED - code) as u8),
             _ => Error::Unknown(code),
         }
@@ -127,15 +146,19 @@ impl Display for Error {
             Error::NoNumber => "the volume has 4095 objects",
             Error::DirFull => "the directory has 1024 entries",
             Error::NoMemory => "there isn't enough memory",
-            Error::Device => "a sector that is needed couldn't be read",
             Error::Halted => "the volume takes no call any more: its device failed, or memory for a write was refused",
             Error::Stuck => "too few segments of the volume are clean",
             Error::Worn => "the volume was changed too often to be changed again",
             Error::TooSmall => "the device is shorter than its volume, or than any volume",
             Error::NoCheckpoint => "the device holds no volume",
+            Error::ReadOnly => "the volume was mounted only to be read",
+            Error::InUse => "it is in use by another program",
+            Error::Device(error) => return write!(out, "the device failed: {error}"),
             Error::Damaged(stage) => return write!(out, "the volume is damaged: it fails stage {stage} of its check"),
             Error::Write(error) => return write!(out, "a write failed: {error}"),
             Error::Sync(error) => return write!(out, "a sync failed: {error}"),
+            Error::WriteOrSync(error) => return write!(out, "a write or a sync failed: {error}"),
+            Error::LockFailed(error) => return write!(out, "it can't be locked: {error}"),
             Error::Io(error) => return write!(out, "{error}"),
             Error::Unknown(code) => return write!(out, "the library answered {code}, which isn't known here"),
         };
@@ -146,7 +169,12 @@ impl Display for Error {
 impl error::Error for Error {
     fn source(&self) -> Option<&(dyn error::Error + 'static)> {
         match self {
-            Error::Write(error) | Error::Sync(error) | Error::Io(error) => Some(error),
+            Error::Device(error)
+            | Error::Write(error)
+            | Error::Sync(error)
+            | Error::WriteOrSync(error)
+            | Error::LockFailed(error)
+            | Error::Io(error) => Some(error),
             _ => None,
         }
     }

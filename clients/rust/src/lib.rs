@@ -1,24 +1,24 @@
 //! Files on a Pansuyog volume: a log-structured file system for a recorder or a small server, in an image file or on a block device, that
 //! survives a loss of power at any moment without a repair, where the device keeps what a sync acknowledged.
 //!
-//! A [`Volume`] stands over any [`Device`], which reads, writes and syncs sectors of 512 bytes. [`FileDevice`] is one in a file, and
-//! [`make`] makes a volume in a new file.
+//! [`Volume::mount`] mounts the volume of an image, which is a file or a block device, and [`make`] makes one in a new file.
+//! [`Volume::over`] mounts that of a [`Device`] of one's own, which reads, writes and syncs sectors of 512 bytes.
 //!
 //! ```
-//! use pansuyog::{Error, FileDevice, Version, Volume};
+//! use pansuyog::{Error, Version, Volume};
 //!
 //! # fn main() -> Result<(), Error> {
 //! # let image = std::env::temp_dir().join(format!("pansuyog-doc-{}.img", std::process::id()));
 //! pansuyog::make(&image, 64, Version::Two)?;
 //!
-//! let mut volume = Volume::mount(FileDevice::open(&image)?)?;
+//! let mut volume = Volume::mount(&image)?;
 //! let log = volume.create("/log")?;
 //! volume.pwrite(log, 0, b"a record\n")?;
 //! volume.sync()?;
 //! // From here on no loss of power takes the record away.
 //! drop(volume);
 //!
-//! let mut volume = Volume::mount(FileDevice::open(&image)?)?;
+//! let mut volume = Volume::mount(&image)?;
 //! let log = volume.open("/log")?;
 //! let mut bytes = [0; 64];
 //! let count = volume.pread(log, 0, &mut bytes)?;
@@ -30,19 +30,24 @@
 //! # }
 //! ```
 //!
-//! The volume itself is the static library `libpansuyog.a`, whose every function is proved to meet its contract; `docs/LIBRARY.md` of the
-//! repository says what the proof covers. This crate is a wrapper that is only tested. It reads the device into memory as it is mounted, so
-//! it takes 514 bytes for each sector: 2.1 MB for a volume of 64 segments, 33.6 MB for one of 1,024.
+//! The volume itself is one of two static libraries, whose every function is proved to meet its contract; `docs/LIBRARY.md` of the
+//! repository says what the proofs cover. This crate is a wrapper that is only tested. `libpansuyog_file.a` reads and writes an image
+//! itself, and keeps little of it in memory. `libpansuyog.a` is for devices of one's own, which are read into memory as they are mounted.
+//! So they take 514 bytes for each sector: 2.1 MB for a volume of 64 segments, 33.6 MB for one of 1,024.
 #![deny(unsafe_code)]
 
+mod backend;
 mod device;
 mod error;
+mod image;
 #[allow(unsafe_code)]
 mod library;
 mod making;
+mod ordered;
 mod volume;
 
-pub use device::{Device, FileDevice, SECTOR, Sector, sectors_of};
+pub use backend::{Backend, Image};
+pub use device::{Device, SECTOR, Sector, sectors_of};
 pub use error::Error;
 pub use making::make;
 pub use volume::{Entry, Handle, Kind, Space, Stat, Version, Volume};

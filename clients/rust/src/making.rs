@@ -1,7 +1,9 @@
 //! Volumes in new files.
-use crate::device::{Device, FileDevice, SECTOR, lock, sectors_of};
+use crate::device::{SECTOR, sectors_of};
 use crate::error::Error;
-use crate::volume::{Version, Volume};
+use crate::image::{InImage, lock};
+use crate::library::Access;
+use crate::volume::Version;
 use std::fs::{self, File};
 use std::io::{self, ErrorKind};
 use std::os::unix::fs::MetadataExt;
@@ -17,8 +19,8 @@ type Result<T> = std::result::Result<T, Error>;
 ///
 /// # Errors
 /// `Exist` where something has the name, be it a link that leads nowhere: that stays as it is. `Inval` for another number of segments,
-/// `NoMemory`, `Write` and `Sync`. `Io` where the file can't be opened or named, of `ErrorKind::WouldBlock` where another program is making
-/// the volume.
+/// `NoMemory`, `Write`, `Sync` and `WriteOrSync`. `InUse` where another program is making the volume, `LockFailed`, and `Io` where the file
+/// can't be opened or named.
 pub fn make(path: impl AsRef<Path>, segments: u32, version: Version) -> Result<()> {
     let path = path.as_ref();
     if !(64..=1_024).step_by(8).any(|it| it == segments) {
@@ -33,8 +35,8 @@ pub fn make(path: impl AsRef<Path>, segments: u32, version: Version) -> Result<(
 fn make_named(path: &Path, segments: u32, version: Version) -> Result<()> {
     let made = made_of(path);
     // It has the lock until it is dropped.
-    let mut device = FileDevice::from(open_made(path, &made)?);
-    let named = fill(&mut device, segments, version).and_then(|()| name(&made, path));
+    let file = open_made(path, &made)?;
+    let named = fill(&file, segments, version).and_then(|()| name(&made, path));
     if named.is_err() {
         let _ = fs::remove_file(&made);
     }
@@ -76,10 +78,11 @@ fn open_made(path: &Path, made: &Path) -> Result<File> {
 }
 
 /// Makes a volume in a file, of which nothing is kept.
-fn fill(device: &mut FileDevice, segments: u32, version: Version) -> Result<()> {
-    device.clear(SECTOR as u64 * sectors_of(segments)).map_err(Error::Write)?;
-    drop(Volume::format(&mut *device, segments, version)?);
-    device.sync().map_err(Error::Sync)
+fn fill(file: &File, segments: u32, version: Version) -> Result<()> {
+    let length = SECTOR as u64 * sectors_of(segments);
+    file.set_len(0).and_then(|()| file.set_len(length)).map_err(Error::Write)?;
+    InImage::take(file.try_clone()?, Access::ReadWrite)?.make(segments, version as u32)?;
+    file.sync_all().map_err(Error::Sync)
 }
 
 /// Gives a file its name, where nothing has it. Not each file system has links: there an empty file takes the name first, and gives way to

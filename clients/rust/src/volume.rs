@@ -1,18 +1,14 @@
 //! Volumes and their calls.
-use crate::device::{Device, SECTOR, Sector};
+use crate::backend::{Backend, Image, Mounted};
+use crate::device::Device;
 use crate::error::Error;
-use crate::library::Library;
+use crate::image::InImage;
+use crate::library::{Access, Library};
+use crate::ordered::OverDevice;
 use std::fmt::{self, Debug, Formatter};
+use std::path::Path;
 
 type Result<T> = std::result::Result<T, Error>;
-
-/// The sectors of a volume of 1,024 segments: what a larger device has behind them isn't read.
-const MOST_SECTORS: u32 = 65_538;
-
-/// The sectors of one read or write.
-const RUN: usize = 128;
-
-const SEGMENT_SECTORS: u32 = 64;
 
 /// An open file, by its number, 0 to 63. It is of the volume that opened it, until it is closed there. A call with a number that isn't open
 /// is refused, as `BadHandle`.
@@ -31,7 +27,7 @@ pub enum Kind {
 }
 
 impl Kind {
-    /// The kind of a number of `pansuyog.h`, of which there are three.
+    /// The kind of a number of the headers, of which there are three.
     pub(crate) fn of(number: u32) -> Kind {
         match number {
             1 => Kind::File,
@@ -87,160 +83,103 @@ pub enum Version {
     Two = 2,
 }
 
-/// A mounted volume over a device.
+/// A mounted volume: in an image, which is a file or a block device, or over a [`Device`] of one's own.
 ///
-/// Each method is one call of a volume. Writes go to the device as calls make them necessary, and what isn't saved may be gone at the next
-/// mount. After a [`sync`](Volume::sync) or [`fsync`](Volume::fsync) that is `Ok` every call before it survives a loss of power. Dropping
-/// the volume saves nothing.
+/// Each method is one call of a volume. Writes go out as calls make them necessary, and what isn't saved may be gone at the next mount.
+/// After a [`sync`](Volume::sync) or [`fsync`](Volume::fsync) that is `Ok` every call before it survives a loss of power. Dropping the
+/// volume saves nothing.
 ///
 /// A path is any bytes, as `"/log"`, `b"/log"` or a `Vec<u8>`, and is walked from the root.
 ///
-/// The refusals of a method stand there. Beside them any may be `NoMemory` where it reads or changes the tree, and `Halted`. One that may
-/// write may be `Worn`, and `Write` or `Sync` where the device fails.
-pub struct Volume<D> {
-    library: Library,
-    device: D,
-    /// The sectors that are under way.
-    run: Vec<Sector>,
-    is_halted: bool,
+/// The refusals of a method stand there. Beside them any may be `NoMemory` where it reads or changes the tree, `Device` where the image
+/// can't be read, and `Halted`. One that may write may be `Worn`, `ReadOnly` where the volume was mounted to be read alone, and `Write`,
+/// `Sync` or `WriteOrSync` where the device fails.
+pub struct Volume<D: Backend = Image> {
+    mounted: D::Mounted,
 }
 
-impl<D> Debug for Volume<D> {
+impl<D: Backend> Debug for Volume<D> {
     fn fmt(&self, out: &mut Formatter<'_>) -> fmt::Result {
         out.debug_struct("Volume")
-            .field("is_halted", &self.is_halted)
+            .field("is_halted", &self.mounted.is_halted())
             .finish_non_exhaustive()
     }
 }
 
-/// Memory for so many orders is taken as a volume is mounted: those of a pass of the cleaner and of a commit behind it.
-fn room_of(sectors: u32) -> u32 {
-    8 * (sectors / SEGMENT_SECTORS) + 520
-}
-
-impl<D: Device> Volume<D> {
-    /// Makes an empty volume of 64 to 1,024 segments, a multiple of 8, and mounts it. It takes [`sectors_of`](crate::sectors_of) sectors, of
-    /// 32 KiB a segment. Whatever the device held is gone: [`make`](crate::make) makes a volume only where no file is.
+/// In an image, which has the lock of the program `lfs` until the volume is dropped.
+impl Volume {
+    /// Mounts the volume of an image that is there, with no open handles, and locks the image against all others. It is synced and read,
+    /// and nothing is written.
     ///
     /// # Errors
-    /// `Inval` for another number of segments, `TooSmall`, `NoMemory`, and `Write`, `Sync` or `Io` where the device fails.
-    pub fn format(device: D, segments: u32, version: Version) -> Result<Volume<D>> {
-        let (mut volume, room) = Volume::begin(device)?;
-        volume.change(|library| library.format(segments, version as u32, room))?;
-        volume.mounted(room)
+    /// `NoCheckpoint` where the image holds no volume, `TooSmall` where it is shorter than its volume, and `Damaged` with the stage of the
+    /// check that fails. `NoMemory`, and `Device` where the image can't be read or synced. `InUse` where another program still has it after
+    /// a second, `LockFailed`, and `Io` where it can't be opened.
+    pub fn mount(path: impl AsRef<Path>) -> Result<Volume> {
+        InImage::mount(path.as_ref(), Access::ReadWrite).map(|mounted| Volume { mounted })
     }
 
-    /// Mounts the volume that a device holds, with no open handles. The device is synced and read whole, and nothing is written. The volume
-    /// is kept in memory, with 514 bytes for each sector.
+    /// Mounts the volume of an image to be read alone, beside others that look at it. Each call that may write is `ReadOnly`.
+    ///
+    /// # Errors
+    /// Those of [`mount`](Volume::mount), with `InUse` at once where a program has the image that may write.
+    pub fn mount_read_only(path: impl AsRef<Path>) -> Result<Volume> {
+        InImage::mount(path.as_ref(), Access::ReadOnly).map(|mounted| Volume { mounted })
+    }
+
+    /// Makes an empty volume of 64 to 1,024 segments, a multiple of 8, in an image that is there, and mounts it. It takes
+    /// [`sectors_of`](crate::sectors_of) sectors, 32 KiB a segment. Whatever the image held is gone: [`make`](crate::make) makes a volume
+    /// only where no file is.
+    ///
+    /// # Errors
+    /// `Inval` for another number of segments, `TooSmall`, `NoMemory`, and `WriteOrSync` or `Device` where the image fails. `InUse`,
+    /// `LockFailed` and `Io` as of [`mount`](Volume::mount).
+    pub fn format(path: impl AsRef<Path>, segments: u32, version: Version) -> Result<Volume> {
+        InImage::format(path.as_ref(), segments, version as u32).map(|mounted| Volume { mounted })
+    }
+}
+
+/// Over a device of one's own, which is kept in memory with 514 bytes for each sector.
+impl<D: Device> Volume<D> {
+    /// Mounts the volume that a device holds, with no open handles. The device is synced and read whole, and nothing is written.
     ///
     /// # Errors
     /// `NoCheckpoint` where the device holds no volume, `TooSmall` where it is shorter than its volume, and `Damaged` with the stage of the
     /// check that fails, also where a sector that is needed couldn't be read. `NoMemory`, `Device`, `Sync` where the device can't be
     /// synced, and `Io` where its sectors can't be counted.
-    pub fn mount(device: D) -> Result<Volume<D>> {
-        let (volume, room) = Volume::begin(device)?;
-        volume.mounted(room)
+    pub fn over(device: D) -> Result<Volume<D>> {
+        OverDevice::mount(device).map(|mounted| Volume { mounted })
     }
 
-    /// A volume to whose library all of a device was given that could be read, and the room for its orders.
-    fn begin(mut device: D) -> Result<(Volume<D>, u32)> {
-        device.sync().map_err(Error::Sync)?;
-        let sectors = u32::try_from(device.sectors()?).unwrap_or(u32::MAX).min(MOST_SECTORS);
-        let mut volume = Volume {
-            library: Library::new()?,
-            device,
-            run: vec![[0; SECTOR]; RUN],
-            is_halted: false,
-        };
-        volume.library.begin(sectors)?;
-        for first in (0..sectors).step_by(RUN) {
-            volume.give(first, sectors)?;
-        }
-        Ok((volume, room_of(sectors)))
-    }
-
-    /// Gives the sectors of one read. Where it fails each of them is read alone, and one that can't be read isn't given.
-    fn give(&mut self, first: u32, sectors: u32) -> Result<()> {
-        let count = RUN.min((sectors - first) as usize);
-        let run = &mut self.run[..count];
-        if self.device.read(first, run).is_ok() {
-            self.library.give(first, run)?;
-            return Ok(());
-        }
-        for (sector, place) in (first..).zip(run.chunks_mut(1)) {
-            if self.device.read(sector, place).is_ok() {
-                self.library.give(sector, place)?;
-            }
-        }
-        Ok(())
-    }
-
-    fn mounted(mut self, room: u32) -> Result<Volume<D>> {
-        self.change(|library| library.mount(room))?;
-        Ok(self)
-    }
-
-    /// Makes a call that changes nothing.
-    fn look<T>(&mut self, call: impl FnOnce(&mut Library) -> Result<T>) -> Result<T> {
-        if self.is_halted {
-            return Err(Error::Halted);
-        }
-        call(&mut self.library)
-    }
-
-    /// Makes a call, and carries out the orders that it gives the device, whatever it answers.
-    fn change<T>(&mut self, call: impl FnOnce(&mut Library) -> Result<T>) -> Result<T> {
-        let answer = self.look(call);
-        if !self.is_halted {
-            self.carry()?;
-        }
-        answer
-    }
-
-    /// Carries out all orders that wait. Where the device fails, or panics, no call is taken any more.
-    fn carry(&mut self) -> Result<()> {
-        let (carried, told) = (self.library.carried(), self.library.told());
-        if carried == told {
-            return Ok(());
-        }
-        self.is_halted = true;
-        let mut number = carried;
-        while number < told {
-            number += self.carry_run(number)?;
-        }
-        self.library.done()?;
-        self.is_halted = false;
-        Ok(())
-    }
-
-    /// Carries out a sync, or writes to sectors that follow one another: how many orders.
-    fn carry_run(&mut self, number: u64) -> Result<u64> {
-        let (first, count) = self.library.run(number, &mut self.run)?;
-        if count == 0 {
-            self.device.sync().map_err(Error::Sync)?;
-            return Ok(1);
-        }
-        self.device.write(first, &self.run[..count.min(RUN)]).map_err(Error::Write)?;
-        Ok(count as u64)
+    /// Makes an empty volume of 64 to 1,024 segments, a multiple of 8, and mounts it. It takes [`sectors_of`](crate::sectors_of) sectors.
+    /// Whatever the device held is gone.
+    ///
+    /// # Errors
+    /// `Inval` for another number of segments, `TooSmall`, `NoMemory`, and `Write`, `Sync` or `Io` where the device fails.
+    pub fn format_over(device: D, segments: u32, version: Version) -> Result<Volume<D>> {
+        OverDevice::format(device, segments, version as u32).map(|mounted| Volume { mounted })
     }
 
     /// The device, as the last call left it. Nothing is saved: call [`sync`](Volume::sync) before.
     pub fn into_device(self) -> D {
-        self.device
+        self.mounted.device
     }
 
     /// The device.
     pub fn device(&self) -> &D {
-        &self.device
+        &self.mounted.device
     }
+}
 
+/// The calls.
+impl<D: Backend> Volume<D> {
     /// Makes an empty file, and opens it.
     ///
     /// # Errors
     /// Those of a new entry (`Exist` where the name is there, `NoEntry`, `NotDir` and others of the path), `TooManyOpen`, `NoNumber`,
     /// `NoSpace`.
     pub fn create(&mut self, path: impl AsRef<[u8]>) -> Result<Handle> {
-        self.change(|library| library.create(path.as_ref())).map(Handle)
+        self.mounted.change(|library| library.create(path.as_ref())).map(Handle)
     }
 
     /// Opens a file, for reading and writing.
@@ -248,7 +187,7 @@ impl<D: Device> Volume<D> {
     /// # Errors
     /// Those of the path, `IsDir`, `TooManyOpen`.
     pub fn open(&mut self, path: impl AsRef<[u8]>) -> Result<Handle> {
-        self.look(|library| library.open(path.as_ref())).map(Handle)
+        self.mounted.look(|library| library.open(path.as_ref())).map(Handle)
     }
 
     /// Gives up a handle. A file without a name goes with its last one.
@@ -256,7 +195,7 @@ impl<D: Device> Volume<D> {
     /// # Errors
     /// `BadHandle`.
     pub fn close(&mut self, handle: Handle) -> Result<()> {
-        self.change(|library| library.close(handle.0)).map(drop)
+        self.mounted.change(|library| library.close(handle.0)).map(drop)
     }
 
     /// Reads bytes of a file from an offset on: how many. They are fewer than there is room for where the file ends, and none past it.
@@ -264,7 +203,8 @@ impl<D: Device> Volume<D> {
     /// # Errors
     /// `BadHandle`, and `Inval` where there is room for more than 65,536 bytes.
     pub fn pread(&mut self, handle: Handle, offset: u64, bytes: &mut [u8]) -> Result<usize> {
-        self.look(|library| library.pread(handle.0, offset, bytes))
+        self.mounted
+            .look(|library| library.pread(handle.0, offset, bytes))
             .map(|count| count as usize)
     }
 
@@ -273,7 +213,8 @@ impl<D: Device> Volume<D> {
     /// # Errors
     /// `BadHandle`, `Inval` for more than 65,536 bytes, `FileTooBig`, `NoSpace`.
     pub fn pwrite(&mut self, handle: Handle, offset: u64, bytes: &[u8]) -> Result<usize> {
-        self.change(|library| library.pwrite(handle.0, offset, bytes))
+        self.mounted
+            .change(|library| library.pwrite(handle.0, offset, bytes))
             .map(|count| count as usize)
     }
 
@@ -282,7 +223,7 @@ impl<D: Device> Volume<D> {
     /// # Errors
     /// `BadHandle`, `FileTooBig`, `NoSpace`.
     pub fn truncate(&mut self, handle: Handle, size: u64) -> Result<()> {
-        self.change(|library| library.truncate(handle.0, size)).map(drop)
+        self.mounted.change(|library| library.truncate(handle.0, size)).map(drop)
     }
 
     /// Makes an empty directory.
@@ -290,7 +231,7 @@ impl<D: Device> Volume<D> {
     /// # Errors
     /// Those of a new entry, `TooManyLinks`, `NoNumber`, `NoSpace`.
     pub fn mkdir(&mut self, path: impl AsRef<[u8]>) -> Result<()> {
-        self.change(|library| library.mkdir(path.as_ref())).map(drop)
+        self.mounted.change(|library| library.mkdir(path.as_ref())).map(drop)
     }
 
     /// Removes an empty directory.
@@ -298,7 +239,7 @@ impl<D: Device> Volume<D> {
     /// # Errors
     /// Those of the path, `Busy` for the root, `NotDir`, `NotEmpty`.
     pub fn rmdir(&mut self, path: impl AsRef<[u8]>) -> Result<()> {
-        self.change(|library| library.rmdir(path.as_ref())).map(drop)
+        self.mounted.change(|library| library.rmdir(path.as_ref())).map(drop)
     }
 
     /// Takes a name of a file or a link away. A file without names stays while a handle is open on it.
@@ -306,7 +247,7 @@ impl<D: Device> Volume<D> {
     /// # Errors
     /// Those of the path, and `Perm` for a directory.
     pub fn unlink(&mut self, path: impl AsRef<[u8]>) -> Result<()> {
-        self.change(|library| library.unlink(path.as_ref())).map(drop)
+        self.mounted.change(|library| library.unlink(path.as_ref())).map(drop)
     }
 
     /// Gives the object of a path another name.
@@ -314,7 +255,7 @@ impl<D: Device> Volume<D> {
     /// # Errors
     /// Those of both paths, `Perm` for a directory, `TooManyLinks`, `NoSpace`.
     pub fn link(&mut self, from: impl AsRef<[u8]>, to: impl AsRef<[u8]>) -> Result<()> {
-        self.change(|library| library.link(from.as_ref(), to.as_ref())).map(drop)
+        self.mounted.change(|library| library.link(from.as_ref(), to.as_ref())).map(drop)
     }
 
     /// Gives the object of a path another name in the place of this one, in one change. What that name gave before loses it.
@@ -322,7 +263,7 @@ impl<D: Device> Volume<D> {
     /// # Errors
     /// Those of both paths, `Busy` for the root, `Inval` where a directory would go into itself, `IsDir`, `NotDir`, `NotEmpty` and others.
     pub fn rename(&mut self, from: impl AsRef<[u8]>, to: impl AsRef<[u8]>) -> Result<()> {
-        self.change(|library| library.rename(from.as_ref(), to.as_ref())).map(drop)
+        self.mounted.change(|library| library.rename(from.as_ref(), to.as_ref())).map(drop)
     }
 
     /// Makes a symbolic link with a text of 1 to 1,023 bytes.
@@ -330,7 +271,9 @@ impl<D: Device> Volume<D> {
     /// # Errors
     /// Those of a new entry, `NameTooLong` and `Inval` for the text, `NoNumber`, `NoSpace`.
     pub fn symlink(&mut self, text: impl AsRef<[u8]>, path: impl AsRef<[u8]>) -> Result<()> {
-        self.change(|library| library.symlink(text.as_ref(), path.as_ref())).map(drop)
+        self.mounted
+            .change(|library| library.symlink(text.as_ref(), path.as_ref()))
+            .map(drop)
     }
 
     /// The text of a symbolic link.
@@ -338,7 +281,7 @@ impl<D: Device> Volume<D> {
     /// # Errors
     /// Those of the path, and `Inval` where it is no link.
     pub fn readlink(&mut self, path: impl AsRef<[u8]>) -> Result<Vec<u8>> {
-        self.look(|library| library.readlink(path.as_ref()))
+        self.mounted.look(|library| library.readlink(path.as_ref()))
     }
 
     /// What stands at a path, whose last link is followed.
@@ -346,7 +289,7 @@ impl<D: Device> Volume<D> {
     /// # Errors
     /// Those of the path.
     pub fn stat(&mut self, path: impl AsRef<[u8]>) -> Result<Stat> {
-        self.look(|library| library.stat(path.as_ref()))
+        self.mounted.look(|library| library.stat(path.as_ref()))
     }
 
     /// What stands at a path, whose last link isn't followed.
@@ -354,7 +297,7 @@ impl<D: Device> Volume<D> {
     /// # Errors
     /// Those of the path.
     pub fn lstat(&mut self, path: impl AsRef<[u8]>) -> Result<Stat> {
-        self.look(|library| library.lstat(path.as_ref()))
+        self.mounted.look(|library| library.lstat(path.as_ref()))
     }
 
     /// The entries of a directory, without dot and dot-dot, ordered by the bytes of their names.
@@ -362,7 +305,7 @@ impl<D: Device> Volume<D> {
     /// # Errors
     /// Those of the path, and `NotDir`.
     pub fn readdir(&mut self, path: impl AsRef<[u8]>) -> Result<Vec<Entry>> {
-        self.look(|library| {
+        self.mounted.look(|library| {
             let count = library.list(path.as_ref())?;
             (0..count as usize).map(|place| library.entry(place)).collect()
         })
@@ -373,7 +316,7 @@ impl<D: Device> Volume<D> {
     /// # Errors
     /// `BadHandle`.
     pub fn fsync(&mut self, handle: Handle) -> Result<()> {
-        self.change(|library| library.fsync(handle.0)).map(drop)
+        self.mounted.change(|library| library.fsync(handle.0)).map(drop)
     }
 
     /// Saves the volume: after `Ok` every call before survives a loss of power.
@@ -381,7 +324,7 @@ impl<D: Device> Volume<D> {
     /// # Errors
     /// None of its own.
     pub fn sync(&mut self) -> Result<()> {
-        self.change(Library::sync).map(drop)
+        self.mounted.change(Library::sync).map(drop)
     }
 
     /// Cleans segments until a quarter of them is clean.
@@ -389,7 +332,7 @@ impl<D: Device> Volume<D> {
     /// # Errors
     /// None of its own.
     pub fn clean(&mut self) -> Result<()> {
-        self.change(Library::clean).map(drop)
+        self.mounted.change(Library::clean).map(drop)
     }
 
     /// Whether fewer than a quarter of the segments is clean, so that the two calls that clean have something to do.
@@ -397,7 +340,7 @@ impl<D: Device> Volume<D> {
     /// # Errors
     /// None of its own.
     pub fn is_cleaning_due(&mut self) -> Result<bool> {
-        Ok(self.look(Library::is_cleaning_due)? == 1)
+        Ok(self.mounted.look(Library::is_cleaning_due)? == 1)
     }
 
     /// Makes one pass of the cleaner where that is so, and nothing else. What isn't saved is saved before. A program that calls it in its
@@ -406,7 +349,7 @@ impl<D: Device> Volume<D> {
     /// # Errors
     /// None of its own.
     pub fn clean_once(&mut self) -> Result<()> {
-        self.change(Library::clean_once).map(drop)
+        self.mounted.change(Library::clean_once).map(drop)
     }
 
     /// What the tree takes, and the most that it may need.
@@ -414,7 +357,7 @@ impl<D: Device> Volume<D> {
     /// # Errors
     /// None of its own.
     pub fn space(&mut self) -> Result<Space> {
-        self.look(Library::space)
+        self.mounted.look(Library::space)
     }
 
     /// The version of the volume's layout.
@@ -422,7 +365,7 @@ impl<D: Device> Volume<D> {
     /// # Errors
     /// None of its own.
     pub fn version(&mut self) -> Result<Version> {
-        let number = self.look(Library::version)?;
+        let number = self.mounted.look(Library::version)?;
         Ok(if number == 1 { Version::One } else { Version::Two })
     }
 
@@ -431,7 +374,7 @@ impl<D: Device> Volume<D> {
     /// # Errors
     /// None of its own.
     pub fn upgrade(&mut self) -> Result<()> {
-        self.change(Library::upgrade).map(drop)
+        self.mounted.change(Library::upgrade).map(drop)
     }
 
     /// Lets a directory of a volume of version 2 take names of up to 123 bytes. It then has twice as many bytes.
@@ -439,6 +382,6 @@ impl<D: Device> Volume<D> {
     /// # Errors
     /// Those of the path, `NotDir`, `Inval` in version 1, `NoSpace`.
     pub fn widen(&mut self, path: impl AsRef<[u8]>) -> Result<()> {
-        self.change(|library| library.widen(path.as_ref())).map(drop)
+        self.mounted.change(|library| library.widen(path.as_ref())).map(drop)
     }
 }

@@ -1,13 +1,17 @@
 //! The scripts of `crates/lfs_trials/data`, line by line as calls of this crate. What they are to answer stands beside them.
 mod common;
 
-use common::MemoryDevice;
-use pansuyog::{Error, Handle, Kind, Stat, Version, Volume};
+use common::Ground;
+use pansuyog::{Backend, Error, Handle, Kind, Stat, Version, Volume};
 use std::fs;
 use std::path::{Path, PathBuf};
 use std::str::from_utf8;
 
 type Result<T> = std::result::Result<T, Error>;
+
+over_both! {
+    each_script_has_its_replies
+}
 
 fn unhex(text: &str) -> Vec<u8> {
     let digits = text.trim_start_matches('-').as_bytes();
@@ -62,11 +66,11 @@ fn told(stat: &Stat) -> String {
 }
 
 /// A volume of which lines are asked.
-struct Script<'a> {
-    volume: Volume<&'a mut MemoryDevice>,
+struct Script<D: Backend> {
+    volume: Volume<D>,
 }
 
-impl Script<'_> {
+impl<D: Backend> Script<D> {
     fn reply(&mut self, line: &str) -> String {
         self.answer(line).unwrap_or_else(|error| format!("err {error:?}"))
     }
@@ -176,13 +180,12 @@ fn text_of(path: &Path, extension: &str) -> Option<String> {
 }
 
 /// The first line in which the replies to a script differ from those that it is to have, or the tree that a mount finds.
-fn difference(path: &Path) -> Option<String> {
+fn difference(path: &Path, ground: &mut impl Ground) -> Option<String> {
     let name = path.file_name().unwrap().to_str().unwrap();
     let segments = if name.contains(".1024.") { 1024 } else { 64 };
     let version = if name.contains(".v2.") { Version::Two } else { Version::One };
-    let mut device = MemoryDevice::new(segments);
     let mut script = Script {
-        volume: Volume::format(&mut device, segments, version).unwrap(),
+        volume: ground.format(segments, version),
     };
     let (lines, replies) = (text_of(path, "script").unwrap(), text_of(path, "replies").unwrap());
     let mut wanted = replies.lines();
@@ -197,13 +200,11 @@ fn difference(path: &Path) -> Option<String> {
     if let Some(more) = wanted.next() {
         return Some(format!("{name}: {more:?} is wanted behind the last line"));
     }
-    drop(script);
-    device.lose_power();
+    let mut script = Script {
+        volume: ground.stopped(script.volume),
+    };
     let tree = text_of(path, "tree")?;
-    let found = Script {
-        volume: Volume::mount(&mut device).unwrap(),
-    }
-    .reply("tree");
+    let found = script.reply("tree");
     (found.trim_end() != tree.trim_end()).then(|| format!("{name}: the tree is {found}"))
 }
 
@@ -217,10 +218,9 @@ fn scripts() -> Vec<PathBuf> {
         .collect()
 }
 
-#[test]
-fn each_script_has_its_replies() {
+fn each_script_has_its_replies(ground: &mut impl Ground) {
     let scripts = scripts();
     assert!(scripts.len() >= 67);
-    let differences: Vec<String> = scripts.iter().filter_map(|it| difference(it)).collect();
+    let differences: Vec<String> = scripts.iter().filter_map(|it| difference(it, ground)).collect();
     assert_eq!(differences, Vec::<String>::new());
 }

@@ -1,5 +1,5 @@
 //! The example programs over images of every kind: `clients/c/tests` has scripts for it, which the example in C has to pass too.
-use pansuyog::{FileDevice, Version, Volume};
+use pansuyog::{Version, Volume};
 use std::path::PathBuf;
 use std::process::{self, Command};
 use std::{env, fs};
@@ -29,7 +29,7 @@ fn a_volume_is_made_where_nothing_is() {
 #[test]
 fn a_large_volume_keeps_its_files() {
     let image = env::temp_dir().join(format!("pansuyog-{}-large.img", process::id()));
-    let mounted = || Volume::mount(FileDevice::open(&image).unwrap()).unwrap();
+    let mounted = || Volume::mount(&image).unwrap();
     pansuyog::make(&image, 1024, Version::Two).unwrap();
     let mut volume = mounted();
     let handle = volume.create("/kept").unwrap();

@@ -1,7 +1,14 @@
-//! A device in memory, which loses what wasn't synced, and fails where it is told.
-use pansuyog::{Device, SECTOR, Sector, sectors_of};
+//! Where tests have their volumes: in a device in memory, which loses what wasn't synced, and fails where it is told; and in an image.
+// No test needs all of it.
+#![allow(dead_code)]
+
+use pansuyog::{Backend, Device, Error, Image, SECTOR, Sector, Version, Volume, sectors_of};
 use std::collections::{HashMap, HashSet};
-use std::io;
+use std::fmt::Display;
+use std::os::unix::fs::FileExt;
+use std::path::{Path, PathBuf};
+use std::process::{self, Command};
+use std::{env, fs, io};
 
 pub struct MemoryDevice {
     pub sectors: Vec<Sector>,
@@ -70,4 +77,146 @@ impl Device for MemoryDevice {
         self.old.clear();
         Ok(())
     }
+}
+
+/// Where a test has its volume.
+pub trait Ground {
+    type Under: Backend;
+
+    /// Makes a volume in the place of what is there.
+    fn format(&mut self, segments: u32, version: Version) -> Volume<Self::Under>;
+
+    /// A stop: what isn't saved is lost.
+    fn stop(&mut self, volume: Volume<Self::Under>);
+
+    /// Changes a byte, while nothing is mounted.
+    fn damage(&mut self, sector: usize, place: usize, byte: u8);
+
+    fn mount(&mut self) -> Result<Volume<Self::Under>, Error>;
+
+    /// The volume as a mount finds it behind a stop.
+    fn stopped(&mut self, volume: Volume<Self::Under>) -> Volume<Self::Under> {
+        self.stop(volume);
+        self.mount().unwrap()
+    }
+}
+
+/// A volume over a device in memory, which is here while nothing is mounted.
+#[derive(Default)]
+pub struct InMemory(Option<MemoryDevice>);
+
+impl Ground for InMemory {
+    type Under = MemoryDevice;
+
+    fn format(&mut self, segments: u32, version: Version) -> Volume<MemoryDevice> {
+        Volume::format_over(MemoryDevice::new(segments), segments, version).unwrap()
+    }
+
+    fn stop(&mut self, volume: Volume<MemoryDevice>) {
+        let mut device = volume.into_device();
+        device.lose_power();
+        self.0 = Some(device);
+    }
+
+    fn damage(&mut self, sector: usize, place: usize, byte: u8) {
+        self.0.as_mut().unwrap().sectors[sector][place] = byte;
+    }
+
+    fn mount(&mut self) -> Result<Volume<MemoryDevice>, Error> {
+        Volume::over(self.0.take().unwrap())
+    }
+}
+
+/// An image that is removed again.
+pub struct TemporaryImage(PathBuf);
+
+impl TemporaryImage {
+    pub fn new(name: &str) -> TemporaryImage {
+        TemporaryImage(env::temp_dir().join(format!("pansuyog-{}-{name}.img", process::id())))
+    }
+
+    pub fn path(&self) -> &Path {
+        &self.0
+    }
+}
+
+impl Drop for TemporaryImage {
+    fn drop(&mut self) {
+        let _ = fs::remove_file(&self.0);
+    }
+}
+
+impl Ground for TemporaryImage {
+    type Under = Image;
+
+    fn format(&mut self, segments: u32, version: Version) -> Volume {
+        let _ = fs::remove_file(&self.0);
+        pansuyog::make(&self.0, segments, version).unwrap();
+        Volume::mount(&self.0).unwrap()
+    }
+
+    fn stop(&mut self, volume: Volume) {
+        drop(volume);
+    }
+
+    fn damage(&mut self, sector: usize, place: usize, byte: u8) {
+        let file = fs::File::options().write(true).open(&self.0).unwrap();
+        file.write_all_at(&[byte], (SECTOR * sector + place) as u64).unwrap();
+    }
+
+    fn mount(&mut self) -> Result<Volume, Error> {
+        Volume::mount(&self.0)
+    }
+}
+
+/// Names the image in the environment of a test that is made once more, in a process of its own.
+const OWN_PROCESS: &str = "PANSUYOG_OWN_PROCESS";
+
+/// The image of a test that is made in a process of its own: what it is to do there is done to this one.
+pub fn own_image() -> Option<PathBuf> {
+    env::var_os(OWN_PROCESS).map(PathBuf::from)
+}
+
+/// Makes a test once more, in a process of its own, behind the words of a shell: what it prints last.
+pub fn in_own_process(test: &str, image: &Path, words: &str) -> String {
+    let mut bash = Command::new("bash");
+    bash.args(["-c", &format!("{words} exec \"$0\" --exact {test} --nocapture")]);
+    let ran = bash.arg(env::current_exe().unwrap()).env(OWN_PROCESS, image).output().unwrap();
+    let said = String::from_utf8(ran.stdout).unwrap();
+    assert!(ran.status.success(), "{said}{}", String::from_utf8_lossy(&ran.stderr));
+    let (_, told) = said.split_once(TOLD).unwrap();
+    told.lines().next().unwrap().to_string()
+}
+
+/// Stands before what a test in a process of its own tells.
+const TOLD: &str = "it tells ";
+
+/// Tells the test that made this process.
+pub fn tell(text: impl Display) {
+    println!("{TOLD}{text}");
+}
+
+/// The refusal of a call, as its name.
+pub fn refusal<T>(outcome: Result<T, Error>) -> String {
+    outcome.err().map_or("none".to_string(), |error| format!("{error:?}"))
+}
+
+/// Makes a test of each of these, which take a ground, in memory and in an image.
+#[macro_export]
+macro_rules! over_both {
+    ($($test:ident)*) => {
+        mod in_memory {
+            $(#[test]
+            fn $test() {
+                super::$test(&mut super::common::InMemory::default());
+            })*
+        }
+
+        mod in_an_image {
+            $(#[test]
+            fn $test() {
+                super::$test(&mut super::common::TemporaryImage::new(stringify!($test)));
+            })*
+        }
+    };
 }
