@@ -1,8 +1,8 @@
 -- Sectors that are given one after another.
-use Rattle.std.proofs.Common.{◌≡◌, ◌≢◌, ◌<◌, ◌≤◌, ◌+◌, ℕ, List, [], length, Some, None, refl, sym, ap, ◌∙◌, subst, arith, ⊎_elim}
+use Rattle.std.proofs.Common.{◌≡◌, ◌≢◌, ◌<◌, ◌+◌, ℕ, List, [], length, Some, None, refl, sym, ap, ◌∙◌, subst, arith, ⊎_elim}
 use Rattle.std.proofs.Common.{length-set, get_or-set_other, get_or-set_same, get_or}
 use Rattle.std.proofs.lemmas.Bool.{cases_lt}
-use Rattle.lfs_model.specs.Device.{Cell, SameOutside, cell_at, put}
+use Rattle.lfs_model.specs.Device.{Cell, cell_at, put}
 use Rattle.pansuyog.specs.Sources.{AreGiven}
 
 pub given_none : (first : ℕ) (sectors : List (List ℕ)) (cells : List Cell) → AreGiven first 0 sectors cells cells

@@ -1,5 +1,5 @@
 -- A volume that was taken from its handle.
-use Rattle.std.proofs.Common.{◌≡◌, ℕ, ℤ, None, sym, ◌∙◌, subst}
+use Rattle.std.proofs.Common.{◌≡◌, ℕ, ℤ, None, sym, subst}
 use Rattle.lfs_queue.specs.declared.queue.QueueDevice.{QueueDevice}
 use Rattle.pansuyog.specs.Making.{IsTaken, Makes, MakesFrom, MakesOn, MountsFrom, MountsOn, is_tried, was_tried}
 use Rattle.pansuyog.specs.declared.handle.Source.TheVariants.{Device}

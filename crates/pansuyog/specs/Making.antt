@@ -1,5 +1,5 @@
 -- What a mount and the making of a volume are of.
-use Rattle.std.specs.Prelude.{◌≡◌, ◌≢◌, ◌<◌, ◌≤◌, ◌+◌, ◌*◌, ℕ, ℤ, pos, List, [], ◌∷◌, Option, Some, None, Result, Ok, Err}
+use Rattle.std.specs.Prelude.{◌≡◌, ◌≢◌, ◌<◌, ◌≤◌, ◌+◌, ◌*◌, ℕ, ℤ, pos, [], ◌∷◌, Option, Some, None, Result, Ok, Err}
 use Rattle.lfs_model.specs.Checkpoint.{IsSegmentCount, IsVersion}
 use Rattle.lfs_model.specs.Device.{Carries, IsUntouched, LeavesOnly, Only}
 use Rattle.lfs_model.specs.Image.{IsNew, new_form}

@@ -7,7 +7,7 @@ use Rattle.lfs_model.specs.declared.limits.TheConstants.{SECTOR_LEN}
 use Rattle.lfs_fs.specs.Seen.{seen}
 use Rattle.lfs_fs.specs.Volume.{IsStill}
 use Rattle.lfs_fs.specs.declared.fs.Fs.{Fs}
-use Rattle.lfs_queue.specs.Numbered.{HasNumber, IsNoneWaiting, as_told}
+use Rattle.lfs_queue.specs.Numbered.{HasNumber, IsNoneWaiting}
 use Rattle.lfs_queue.specs.Queue.{IsEmptied, carried_of, queue_state, told_of}
 use Rattle.lfs_queue.specs.declared.queue.QueueDevice.{QueueDevice}
 use Rattle.pansuyog_calls.specs.Codes.{code_of_count, inval, no_order, not_mounted}

@@ -1,10 +1,10 @@
 -- The sectors that C gives of a device.
-use Rattle.std.specs.Prelude.{◌≡◌, ◌⊎◌, ◌<◌, ◌≤◌, ◌+◌, ◌/◌, ℕ, ℤ, pos, List, Option, Some, None, length, get_or, []}
+use Rattle.std.specs.Prelude.{◌≡◌, ◌⊎◌, ◌<◌, ◌+◌, ◌/◌, ℕ, ℤ, pos, List, Some, length, get_or, []}
 use Rattle.std.specs.Simd.{first_chunks}
 use Rattle.lfs_model.specs.Device.{Cell, SameOutside, cell_at}
 use Rattle.lfs_model.specs.declared.limits.TheConstants.{SECTOR_LEN}
 use Rattle.lfs_queue.specs.Images.{cells_of}
-use Rattle.pansuyog_calls.specs.Codes.{inval, no_memory}
+use Rattle.pansuyog_calls.specs.Codes.{inval}
 use Rattle.pansuyog.specs.declared.handle.Source.{Source}
 use Rattle.pansuyog.specs.declared.handle.Source.TheVariants.{Nothing, Image, Device}
 

@@ -1,6 +1,6 @@
 -- Bytes that are copied to the beginning of others.
-use Rattle.std.proofs.Common.{◌≡◌, ◌≤◌, ℕ, zero, suc, List, [], ◌∷◌, ◌++◌, length, refl, sym, ap, ◌∙◌, arith, inl, inr}
-use Rattle.std.specs.Prelude.{◌⊎◌, take, drop, min}
+use Rattle.std.proofs.Common.{◌≡◌, ◌≤◌, ℕ, zero, suc, List, [], ◌∷◌, ◌++◌, length, refl, ap, arith, inl, inr}
+use Rattle.std.specs.Prelude.{◌⊎◌, take, drop}
 use Rattle.pansuyog_calls.specs.Bytes.{filled}
 
 pub copied : (bytes before : List ℕ) (n : ℕ) → n ≤ length bytes → n ≤ length before → (n ≡ length bytes) ⊎ (n ≡ length before)

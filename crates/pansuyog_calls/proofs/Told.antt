@@ -1,16 +1,14 @@
 -- A call that may not write tells the device nothing.
-use Rattle.std.proofs.Common.{◌≡◌, ◌≤◌, ℕ, List, [], ◌∷◌, length, refl, sym, ap, arith, absurd, inl, inr, Option, Some, None, subst}
+use Rattle.std.proofs.Common.{◌≡◌, ◌≤◌, ℕ, List, [], ◌∷◌, length, refl, sym, ap, arith, inl, inr, Option, Some, None, subst}
 use Rattle.std.specs.Prelude.{false}
-use Rattle.lfs_model.specs.Call.{Answer, Call, may_write}
+use Rattle.lfs_model.specs.Call.{Call, may_write}
 use Rattle.lfs_model.specs.Call.{Open, Close, Pread, Readlink, StatOf, LstatOf, Readdir, Space, Version, ListTree}
-use Rattle.lfs_model.specs.Device.{DeviceState, Grows, IsBeginning}
+use Rattle.lfs_model.specs.Device.{DeviceState, IsBeginning}
 use Rattle.lfs_model.specs.declared.Order.{Order}
 use Rattle.lfs_fs.specs.Seen.{seen}
-use Rattle.lfs_fs.specs.Volume.{Serves, most_orders, segments_of}
+use Rattle.lfs_fs.specs.Volume.{most_orders, segments_of}
 use Rattle.lfs_fs.specs.declared.fs.Fs.{Fs}
 use Rattle.pansuyog_calls.specs.Laws.{LooksTellNothing, RefusalsTellNothing, TellsNothing}
-use Rattle.pansuyog_calls.specs.Serving.{ServesChange}
-use Rattle.pansuyog_calls.specs.declared.access.Access.TheVariants.{ReadOnly}
 
 begins_whole : (told : List Order) → IsBeginning told told
 unfolding IsBeginning

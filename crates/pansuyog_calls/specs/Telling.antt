@@ -1,5 +1,5 @@
 -- What C is told of an object, of the volume, and of the names in a directory.
-use Rattle.std.specs.Prelude.{◌≡◌, ◌≤◌, ℕ, ℤ, pos, List, [], length, map, Option, Some, None, Vec}
+use Rattle.std.specs.Prelude.{◌≡◌, ℕ, ℤ, pos, List, length, map, Option, Some, None, Vec}
 use Rattle.std.specs.declared.alloc.Global.{Global}
 use Rattle.lfs_model.specs.Call as model
 use Rattle.lfs_model.specs.Call.{Answer, Call}

@@ -6,7 +6,6 @@ use Rattle.lfs_fs.specs.declared.fs.Fs.{Fs}
 use Rattle.lfs_store.specs.log.verify.declared.fault.MountFault.{MountFault}
 use Rattle.pansuyog_calls.specs.Codes.{already_mounted, code_of_mount_fault, inval, not_mounted, read_only}
 use Rattle.pansuyog_calls.specs.Making.{IsNotMounted, Makes, Mounts}
-use Rattle.pansuyog_calls.specs.declared.access.Access.{Access}
 use Rattle.pansuyog_calls.specs.declared.access.Access.TheVariants.{ReadWrite, ReadOnly}
 use Rattle.pansuyog_calls.specs.declared.volume.VolumeIn.{VolumeIn}
 

@@ -4,7 +4,6 @@ ghost use Rattle.pansuyog_calls.specs.Laws.{LooksTellNothing, RefusalsTellNothin
 use lfs_device::SectorDevice;
 
 /// A volume that is only read tells its device no write and no sync, by any call.
-#[tactic(auto, using(crate::proofs::Told::looks_tell_nothing, crate::proofs::Told::refusals_tell_nothing))]
 pub fn readers_tell_nothing<D: SectorDevice>()
     ensures looks { LooksTellNothing D.state }
     ensures refused { RefusalsTellNothing D.state }

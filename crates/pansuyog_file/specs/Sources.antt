@@ -2,7 +2,6 @@
 use Rattle.std.specs.Prelude.{◌≡◌, ◌<◌, ℕ, ℤ}
 use Rattle.pansuyog_calls.specs.Codes.{inval}
 use Rattle.pansuyog_calls.specs.Taking.{Takes}
-use Rattle.pansuyog_calls.specs.declared.access.Access.{Access}
 use Rattle.pansuyog_calls.specs.declared.access.Access.TheVariants.{ReadWrite, ReadOnly}
 use Rattle.pansuyog_file.specs.declared.handle.Volume.{Volume}
 

@@ -1,4 +1,4 @@
-use Rattle.std.proofs.Common.{◌≡◌, ◌⊎◌, ◌++◌, ◌≤◌, ℕ, List, length, take, drop, ap, sym, ◌∙◌, arith, rules}
+use Rattle.std.proofs.Common.{◌≡◌, ◌++◌, ℕ, List, take, drop, ap, ◌∙◌, arith, rules}
 use Rattle.pansuyog_calls.proofs.Filled.{copied}
 use Rattle.pansuyog_calls.proofs.bytes.put.Goals as goal
 
