@@ -1,14 +1,14 @@
 -- What is kept of a device through changes of either.
 use Rattle.std.proofs.Common.{◌≡◌, ◌≢◌, ◌⊎◌, ◌<◌, ◌-◌, ℕ, zero, suc, List, [], ◌∷◌, Option, Some, None, nat_eq, true, false, cond, take}
-use Rattle.std.proofs.Common.{refl, sym, ap, ◌∙◌, subst, inl, inr, Bool, is_some, Result, Ok, Err, OnOk, OnErr, length, get_or-set_same}
-use Rattle.std.proofs.Common.{get_or-set_other, slice_get}
+use Rattle.std.proofs.Common.{refl, sym, ap, ◌∙◌, subst, inl, inr, Bool, is_some, Result, Ok, Err, OnOk, OnErr, is_err, length}
+use Rattle.std.proofs.Common.{get_or-set_same, get_or-set_other, slice_get}
 use Rattle.std.specs.Option.{option_map, option_map_or}
 use Rattle.std.specs.Map.{lookup, lookup_entry, remove_entry, set_value}
 use Rattle.std.proofs.lemmas.Bool.{eqb-true, eq-eqb}
 use Rattle.lru.specs.LruCache.{lru_cache, promoted, put_entries}
 use Rattle.lru.proofs.CallerLemmas.{Contains-lookup_entry}
 use Rattle.lru.proofs.Pairs.{lookup-lookup_entry}
-use Rattle.lfs_model.specs.Device.{Cell, DeviceState, cell_at, put, MayWrite, left_old, left_new, left_bad, IsUntouched, Carries}
+use Rattle.lfs_model.specs.Device.{Cell, DeviceState, cell_at, put, IsUntouched, Carries}
 use Rattle.lfs_cache.specs.Kept.{Kept, Agrees, IsLastUsed, KeepsAlso, kept_at, promoted_at, without}
 
 abbrev Entries : Type 0
@@ -140,16 +140,11 @@ agrees-without kept s d none others keeps t w h =
     λ is. let none' : kept_at (without kept s) t ≡ None = subst (λ k. kept_at (without kept s) k ≡ None) (sym is) none in cc in
     others keeps t w apart (sym (lookup-remove_other s t kept.entries apart) ∙ h)
 
--- whatever a write leaves of its sector, the others hold what they held
-pub elsewhere_after_write : (kept : Kept) {s : ℕ} {v : List ℕ} {old new : DeviceState} → Agrees kept old → Carries old new
-    → (new.keeps_model → MayWrite s v old.content new.content) → AgreesElsewhere s kept new
-elsewhere_after_write kept {s} {v} {old} agrees carries may keeps t w apart h =
-    let before = agrees (carries.kept_before keeps) t w h in
-    elim (may keeps) [
-      | left_old same ↦ rw same before
-      | left_new done ↦ rw done (get_or-set_other old.content s t (Some v) None apart ∙ before)
-      | left_bad bad ↦ rw bad (get_or-set_other old.content s t None None apart ∙ before)
-    ]
+-- a write that is done leaves the others as they were
+pub elsewhere_after_write : (kept : Kept) (s : ℕ) (v : List ℕ) {old new : DeviceState} → Agrees kept old → Carries old new
+    → (new.keeps_model → new.content ≡ put old.content s v) → AgreesElsewhere s kept new
+elsewhere_after_write kept s v {old} agrees carries written keeps t w apart h =
+    rw (written keeps) (get_or-set_other old.content s t (Some v) None apart ∙ agrees (carries.kept_before keeps) t w h)
 
 -- a sector that was written holds its bytes
 pub cell_at-put : (content : List Cell) (s : ℕ) (v : List ℕ) → s < length content → cell_at (put content s v) s ≡ Some v
@@ -169,6 +164,11 @@ pub missed : (kept : Kept) {looked : Kept} (s : ℕ) {found : Bool} → looked �
     → found ≡ false
     → looked ≡ kept
 missed kept s is was missing = is ∙ found_or_none kept s (kept_at kept s) refl (sym was ∙ missing)
+
+-- what holds where a call is done
+pub when_done : {A E : Type 0} (r : Result A E) (P : Type 0) {failed : Bool} → failed ≡ is_err r → failed ≡ false → OnOk r P → P
+when_done (Ok x) P is done p = p
+when_done (Err e) P is done p = absurd cc
 
 -- a fact holds at an error too
 pub at_err : {A E : Type 0} (r : Result A E) (P : Type 0) → P → OnErr r P
@@ -190,10 +190,3 @@ last_used kept s n v first same = by_entries kept.entries refl first
         let head : e ≡ (n, v) = cc in
         subst (λ (k : Kept). IsLastUsed k s v) (ap (λ (l : Entries). lru_cache l kept.cap)
         (sym (is ∙ ap (λ (f : ℕ × List ℕ). f ∷ es) head))) (first_entry s n kept.cap v es same)
-
--- what a write may leave, whether it is done or fails
-pub may_write : {A E : Type 0} (r : Result A E) (s : ℕ) (v : List ℕ) (old new : DeviceState)
-    → OnOk r (new.keeps_model → new.content ≡ put old.content s v) → OnErr r (new.keeps_model → MayWrite s v old.content new.content)
-    → new.keeps_model → MayWrite s v old.content new.content
-may_write (Ok x) s v old new written failed keeps = left_new (written keeps)
-may_write (Err e) s v old new written failed keeps = failed keeps

@@ -3,7 +3,8 @@ use Rattle.std.specs.Prelude.{◌≡◌, ◌∷◌, ◌⊎◌, ◌<◌, ℕ, Lis
 use Rattle.std.specs.Map.{lookup, remove_entry}
 use Rattle.lru.specs.LruCache.{LruCache, lru_cache, promoted, put_entries}
 use denote.Ref.{Bor}
-use Rattle.lfs_model.specs.Device.{DeviceState, cell_at, put, MayWrite, CrashWrites, MayTell, IsUntouched, Carries, Elapses}
+use Rattle.lfs_model.specs.Device.{DeviceState, cell_at, put, MayWriteUnit, CrashWritesUnit, MayTell, IsUntouched, Carries, Elapses}
+use Rattle.lfs_model.specs.Device.{BearsAll}
 use Rattle.lfs_model.specs.declared.Order.TheVariants as order
 use Rattle.lfs_device.specs.declared.device.DeviceFault.{DeviceFault}
 use Rattle.lfs_device.specs.declared.device.ReadFault.{ReadFault}
@@ -46,6 +47,8 @@ pub record OnlyReads {A : Type 0} (d d' : DeviceState) (sector : ℕ) (result : 
   pub failed : IsErrOf result fault.Failed → d.failures < d'.failures
   pub no_failure : OnOk result (d'.failures ≡ d.failures)
   pub no_failure_unreadable : IsErrOf result fault.Unreadable → d'.failures ≡ d.failures
+  pub no_order : d'.failed_orders ≡ d.failed_orders
+  pub borne : IsErrOf result fault.Failed → BearsAll d
   pub untouched : IsUntouched d d'
   pub carries : Carries d d'
   pub time : Elapses d d'
@@ -59,9 +62,11 @@ pub record Lends (d d' : DeviceState) (sector : ℕ) (result : Result (Bor (List
 -- A sector was written, or not: all that the trait says of a write.
 pub record PutsSector {A : Type 0} (d d' : DeviceState) (sector : ℕ) (bytes : List ℕ) (result : Result A DeviceFault) : Type 0 where
   pub written : OnOk result (d'.keeps_model → d'.content ≡ put d.content sector bytes)
-  pub failed_write : OnErr result (d'.keeps_model → MayWrite sector bytes d.content d'.content)
-  pub crash : CrashWrites sector bytes d d'
+  pub failed_write : OnErr result (d'.keeps_model → MayWriteUnit d.unit sector bytes d.content d'.content)
+  pub crash : CrashWritesUnit sector bytes d d'
   pub failed : OnErr result (d.failures < d'.failures)
+  pub failed_order : OnErr result (d.failed_orders < d'.failed_orders)
+  pub borne : OnErr result (BearsAll d)
   pub no_failure : OnOk result (d'.failures ≡ d.failures)
   pub carries : Carries d d'
   pub time : Elapses d d'

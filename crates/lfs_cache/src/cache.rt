@@ -2,7 +2,7 @@
 ghost use Rattle.std.specs.Prelude.{◌≡◌, ◌<◌, ◌≤◌, MatchResult};
 
 use crate::sectors::Sectors;
-use lfs_device::{DeviceFault, NoMemory, ReadFault, SectorDevice, TendedDevice};
+use lfs_device::{DeviceFault, NoMemory, ReadFault, SectorDevice, SectorUnits, TendedDevice};
 use std::alloc::Global;
 use std::marker::Model;
 
@@ -107,6 +107,10 @@ impl<D: SectorDevice> SectorDevice for CachedDevice<D> {
     fn sync(&mut self) -> Result<(), DeviceFault> {
         self.sectors.sync()
     }
+}
+
+impl<D: SectorUnits> SectorUnits for CachedDevice<D> {
+    ghost units = { λ c. D.units c };
 }
 
 impl<D: TendedDevice> TendedDevice for CachedDevice<D> {

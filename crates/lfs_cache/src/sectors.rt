@@ -1,7 +1,7 @@
 // A device beside those of its sectors that are kept.
 ghost use Rattle.std.specs.Prelude.{◌≡◌, ◌∷◌, ◌<◌, ◌≤◌, None, Some, [], OnOk, OnErr, IsOk, IsSome, MatchOption, MatchResult, IfOk};
 ghost use Rattle.lru.specs.LruCache.{lru_cache};
-ghost use Rattle.lfs_model.specs.Device.{cell_at, Only, Carries, Elapses, IsUntouched, MayTell};
+ghost use Rattle.lfs_model.specs.Device.{cell_at, Only, Carries, Elapses, IsUntouched, MayTell, BearsAll};
 ghost use Rattle.lfs_model.specs.declared.Order.TheVariants as order;
 ghost use Rattle.lfs_cache.specs.Kept.{Agrees, KeepsAlso, OnlyReads, PutsSector, kept_at, promoted_at, without};
 
@@ -128,14 +128,15 @@ impl<D: SectorDevice> Sectors<D> {
         self.device.read(sector, out)
     }
 
-    /// Writes a sector. Its new bytes are kept, unless memory is refused. Nothing of it is kept
-    /// after a write that fails, which may have left the old bytes, the new ones or neither.
+    /// Writes a sector. Its new bytes are kept, unless memory is refused. Nothing at all is kept
+    /// after a write that fails: other sectors of the unit may be unreadable since, and which sectors
+    /// those are isn't known here.
     pub(crate) fn write(&mut self, sector: u32, bytes: &[u8; 512]) -> Result<(), DeviceFault>
         requires within { sector < (D.state self.old.device).size }
         requires agrees { Agrees self.old.kept (D.state self.old.device) }
         ensures agrees { Agrees self.new.kept (D.state self.new.device) }
         ensures kept { OnOk result (KeepsAlso sector bytes.now self.old.kept self.new.kept) }
-        ensures unkept { OnErr result (self.new.kept ≡ without self.old.kept sector) }
+        ensures unkept { OnErr result (self.new.kept ≡ lru_cache [] self.old.kept.cap) }
         ensures puts { PutsSector (D.state self.old.device) (D.state self.new.device)
             sector bytes.now result }
     {
@@ -145,23 +146,29 @@ impl<D: SectorDevice> Sectors<D> {
                 Ok(())
             }
             Err(fault) => {
-                forget(&mut self.kept, sector);
+                self.kept.clear();
                 Err(fault)
             }
         }
     }
 
-    /// Writes a sector, of which nothing is kept after that.
+    /// Writes a sector. Nothing of it is kept after that, and nothing at all after a write that
+    /// fails, as with `write`.
     pub(crate) fn write_around(&mut self, sector: u32, bytes: &[u8; 512]) -> Result<(), DeviceFault>
         requires within { sector < (D.state self.old.device).size }
         requires agrees { Agrees self.old.kept (D.state self.old.device) }
         ensures agrees { Agrees self.new.kept (D.state self.new.device) }
-        ensures kept { self.new.kept ≡ without self.old.kept sector }
+        ensures kept { OnOk result (self.new.kept ≡ without self.old.kept sector) }
+        ensures unkept { OnErr result (self.new.kept ≡ lru_cache [] self.old.kept.cap) }
         ensures puts { PutsSector (D.state self.old.device) (D.state self.new.device)
             sector bytes.now result }
     {
         forget(&mut self.kept, sector);
-        self.device.write_around(sector, bytes)
+        let written = self.device.write_around(sector, bytes);
+        if written.is_err() {
+            self.kept.clear();
+        }
+        written
     }
 
     /// Makes all contents durable.
@@ -173,6 +180,9 @@ impl<D: SectorDevice> Sectors<D> {
             → Only (D.state self.new.device).content (D.state self.new.device)) }
         ensures failed { OnErr result
             ((D.state self.old.device).failures < (D.state self.new.device).failures) }
+        ensures failed_order { OnErr result
+            ((D.state self.old.device).failed_orders < (D.state self.new.device).failed_orders) }
+        ensures borne { OnErr result (BearsAll (D.state self.old.device)) }
         ensures no_failure { OnOk result ((D.state self.new.device).failures
             ≡ (D.state self.old.device).failures) }
         ensures untouched { IsUntouched (D.state self.old.device) (D.state self.new.device) }

@@ -177,7 +177,11 @@ module _ {D : Type 0} (state : D → DeviceState) where
       halted = two.halted;
       later = (let l = one.later in let l' = two.later in omega (arith, l, l'));
       number = (let n = one.number in let n' = two.number in omega (arith, n, n'));
-      cause = fault_then two.carries two.cause;
+      cause = λ k m0 m keeps is map.
+          let over = one.holds k m0 m (two.carries.kept_before keeps) is map in
+          let rose = two.cause over.checkpoint over.acknowledged m keeps over.holds map in
+          let before = one.carries.failed_orders in
+          omega (arith, rose, before);
       left = λ k m0 m keeps is map.
           let over = one.holds k m0 m (two.carries.kept_before keeps) is map in
           λ content left. saved_still k over _ (two.left over.checkpoint over.acknowledged m keeps over.holds map content left);

@@ -159,7 +159,7 @@ module _ {D : Type 0} (state : D → DeviceState) where
     pub number : h'.number ≤ h.number + most
     pub cause : (k : CheckpointValue) (m0 m : LogMap) → (state h'.device).keeps_model
         → Holds state h k m0 m → IsLogMap (dropped m)
-        → (state h.device).failures < (state h'.device).failures
+        → (state h.device).failed_orders < (state h'.device).failed_orders
     pub left : (k : CheckpointValue) (m0 m : LogMap) → (state h'.device).keeps_model
         → Holds state h k m0 m → IsLogMap (dropped m)
         → AllLeft (state h'.device) (IsSaved state k.segments m0 m)

@@ -1,7 +1,7 @@
 //! The commands, over words and streams that are handed in.
 ghost use Rattle.std.specs.Prelude.{◌≡◌, ◌≢◌, ◌≤◌, Ok, IfOk, OnOk, codes, false, true};
 ghost use Rattle.std.specs.Io.KnownBytes.{Keeps};
-ghost use Rattle.lfs_model.specs.Device.{Carries};
+ghost use Rattle.lfs_model.specs.Device.{Carries, in_sectors};
 ghost use Rattle.lfs_device.specs.MemoryDevice.{device_state};
 ghost use Rattle.lfs_grammar.specs.Asking.{HasWord, IsStrict};
 ghost use Rattle.lfs_command.specs.Playing.{PlaysToRefusal, Plays, PlaysStrictly, TellsSaved};
@@ -118,12 +118,14 @@ fn play<D: SectorDevice, I: Read, W: Write, S: Witness<D, W>>(
     witness: &mut S,
 ) -> (Played<Ending>, D)
     ensures plays { Plays (I.remaining input.old) (I.remaining input.new)
-        (W.contents output.old) (W.contents output.new) (D.state device) (D.state result.1)
+        (W.contents output.old) (W.contents output.new) (in_sectors D.state device)
+        (in_sectors D.state result.1)
         (S.glances witness.old) (S.glances witness.new) }
     ensures saved { TellsSaved result.0.is_saved false (I.remaining input.old)
-        (I.remaining input.new) (W.contents output.old) (D.state device) (D.state result.1)
+        (I.remaining input.new) (W.contents output.old) (in_sectors D.state device)
+        (in_sectors D.state result.1)
         (S.glances witness.old) (S.glances witness.new) }
-    ensures carries { Carries (D.state device) (D.state result.1) }
+    ensures carries { Carries (in_sectors D.state device) (in_sectors D.state result.1) }
 {
     match use_volume_noted(alloc, false, input, output, witness, device) {
         (Ok(used), device) => {
@@ -224,16 +226,19 @@ fn play_strict<D: SectorDevice, I: Read, W: Write, S: Witness<D, W>>(
     witness: &mut S,
 ) -> (Played<Outcome>, D)
     ensures plays { PlaysStrictly (I.remaining input.old) (I.remaining input.new)
-        (W.contents output.old) (W.contents output.new) (D.state device) (D.state result.1)
+        (W.contents output.old) (W.contents output.new) (in_sectors D.state device)
+        (in_sectors D.state result.1)
         (S.glances witness.old) (S.glances witness.new) }
     ensures refused { result.0.end ≡ Ok Outcome.CallRefused
         → PlaysToRefusal (I.remaining input.old) (I.remaining input.new) (W.contents output.old)
-        (W.contents output.new) (D.state device) (D.state result.1) (S.glances witness.old)
+        (W.contents output.new) (in_sectors D.state device) (in_sectors D.state result.1)
+        (S.glances witness.old)
         (S.glances witness.new) }
     ensures saved { TellsSaved result.0.is_saved true (I.remaining input.old)
-        (I.remaining input.new) (W.contents output.old) (D.state device) (D.state result.1)
+        (I.remaining input.new) (W.contents output.old) (in_sectors D.state device)
+        (in_sectors D.state result.1)
         (S.glances witness.old) (S.glances witness.new) }
-    ensures carries { Carries (D.state device) (D.state result.1) }
+    ensures carries { Carries (in_sectors D.state device) (in_sectors D.state result.1) }
 {
     match use_volume_noted(alloc, true, input, output, witness, device) {
         (Ok(used), device) => {
@@ -282,9 +287,9 @@ fn play_and_stop<I: Read, W: Write, S: Witness<MemDevice, W>>(
     witness: &mut S,
 ) -> (Result<Ending, Fault>, MemDevice)
     ensures plays { Plays (I.remaining input.old) (I.remaining input.new) (W.contents output.old)
-        (W.contents output.new) (device_state device) (device_state result.1)
+        (W.contents output.new) (in_sectors device_state device) (in_sectors device_state result.1)
         (S.glances witness.old) (S.glances witness.new) }
-    ensures carries { Carries (device_state device) (device_state result.1) }
+    ensures carries { Carries (in_sectors device_state device) (in_sectors device_state result.1) }
 {
     match use_and_stop_noted(alloc, false, input, output, witness, device, left) {
         (Ok(end), device) => (end_plain(end, output), device),
@@ -480,8 +485,9 @@ fn answer_request<'a, R: Files<File = File> + Clock, I: Read, W: Write, E: Write
             version,
             stop,
             left,
+            unit,
         } => {
-            let plan = read_plan(segments, version, stop, left_of(left));
+            let plan = read_plan(segments, version, stop, left_of(left), unit);
             let said = said(IN_MEMORY, None, sim(alloc, plan, input, output));
             let unsaved = None;
             Answered { said, unsaved }

@@ -10,6 +10,10 @@ use lfs_host::fault::{Fault, Refusal};
 use lfs_layout::is_segment_count;
 use lfs_words::{read_u32, read_u64};
 use std::alloc::Global;
+use std::num::NonZeroU32;
+
+/// The most bytes that a unit may have.
+const LARGEST_UNIT: u32 = 65_536;
 
 /// How a volume in memory comes to its end.
 #[derive(Clone, Copy)]
@@ -22,21 +26,53 @@ pub struct Plan {
     pub stop: u64,
     /// What the stop leaves of each sector that isn't synced.
     pub left: Left,
+    /// How many sectors a unit of the device has.
+    pub unit: NonZeroU32,
 }
 
-/// Reads the words of a plan, for a volume of this version.
-pub fn read_plan(segments: &str, version: u32, stop: &str, left: Left) -> Result<Plan, Fault> {
+// The sectors of a unit that has so many bytes, if a unit may.
+fn sectors_of(bytes: u32) -> Option<NonZeroU32> {
+    if bytes > LARGEST_UNIT || !bytes.is_power_of_two() {
+        return None;
+    }
+    NonZeroU32::new(bytes / 512)
+}
+
+// The sectors of a unit whose bytes this word tells. Without one it is a single sector.
+fn read_unit(word: Option<&str>) -> Result<NonZeroU32, Fault> {
+    let Some(word) = word else {
+        return Ok(NonZeroU32::MIN);
+    };
+    let Some(bytes) = read_u32(word.as_bytes()) else {
+        return Err(Fault::Unit);
+    };
+    match sectors_of(bytes) {
+        Some(unit) => Ok(unit),
+        None => Err(Fault::Unit),
+    }
+}
+
+/// Reads the words of a plan, for a volume of this version. That of a unit may be left out.
+pub fn read_plan(
+    segments: &str,
+    version: u32,
+    stop: &str,
+    left: Left,
+    unit: Option<&str>,
+) -> Result<Plan, Fault> {
     let Some(segments) = read_u32(segments.as_bytes()) else {
         return Err(Fault::Segments);
     };
     let Some(stop) = read_u64(stop.as_bytes()) else {
         return Err(Fault::Stop);
     };
+    let unit = read_unit(unit)?;
     Ok(Plan {
         segments,
         version,
         stop,
         left,
+        unit,
     })
 }
 
@@ -48,7 +84,7 @@ pub fn start(alloc: Global, plan: Plan) -> Result<MemDevice, Refusal>
     if !is_segment_count(plan.segments) {
         return Err(Refusal::Inval);
     }
-    let Ok(mut device) = MemDevice::new(alloc, 2 + 64 * plan.segments) else {
+    let Ok(mut device) = MemDevice::with_unit(alloc, 2 + 64 * plan.segments, plan.unit, 0) else {
         return Err(Refusal::Call(FsError::NoMemory));
     };
     if let Err(refusal) = format_version(&mut device, plan.segments, plan.version) {

@@ -1,5 +1,10 @@
+pub mod Bearing
 pub mod Carried
+pub mod Made
+pub mod SectorStops
+pub mod Spoiling
 pub mod Stops
 pub mod Syncs
+pub mod UnitBounds
 pub mod UnsyncedLists
 pub mod Whole

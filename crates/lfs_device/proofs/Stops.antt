@@ -1,15 +1,18 @@
 -- What a write and a sync make of what a stop may leave.
-use Rattle.std.proofs.Common.{◌≡◌, ◌⊎◌, inl, inr, ℕ, zero, suc, ◌+◌, Some, None, List, [], ◌∷◌, length, map, drop, replicate, Bool, true}
-use Rattle.std.proofs.Common.{false, refl, sym, ◌∙◌, ap, subst, arith}
-use Rattle.std.specs.Prelude.{slice_set, slice_index_or, IsSome, is_none, if◌then◌else◌}
-use Rattle.lfs_model.specs.Device.{Cell, lose, MayWrite, left_old, left_new, left_bad}
+use Rattle.std.proofs.Common.{◌≡◌, ◌⊎◌, ◌<◌, ◌≤◌, inl, inr, ℕ, zero, suc, Some, None, List, [], ◌∷◌, length, map, replicate, refl, sym, ◌∙◌}
+use Rattle.std.proofs.Common.{ap, subst, arith, length-set, get_or-set_same, get_or-set_other}
+use Rattle.std.specs.Prelude.{slice_set, slice_index_or, IsSome}
+use Rattle.std.specs.List.{AllByRecursion, range_with_len}
+use Rattle.std.proofs.lemmas.Bool.{cases_eq, cases_lt, false≢true}
+use Rattle.std.proofs.lemmas.List.{ext_get_or, get_or_default, get_or_past, length-map, set-get_or, set-set}
+use Rattle.std.proofs.lemmas.List.FromFn.{get_or-map-range_with_len, length-map-range_with_len}
+use Rattle.lfs_model.specs.Device.{Cell, MayWriteUnit, cell_at, lose}
 use Rattle.lfs_device.specs.declared.rows.Row.{Row}
-use Rattle.lfs_device.specs.declared.rows.Left.{Left}
-use Rattle.lfs_device.specs.declared.rows.Left.TheVariants.{Old, New, Bad}
-use Rattle.lfs_device.specs.Rows.{AreSectorRows, CellLeft, CanLeave, After, PassedThrough, present_of, stands_at, settled, chosen, first_or}
-use Rattle.lfs_device.specs.Rows.{stopped}
-use Rattle.std.specs.List.{AllByRecursion}
-use Rattle.lfs_device.specs.Memory.{present}
+use Rattle.lfs_device.specs.Memory.{present, present_at}
+use Rattle.lfs_device.specs.Rows.{After, AreSectorRows, CanLeave, CellLeft, IsTouched, PassedThrough, present_of, row_at, settled}
+use Rattle.lfs_device.specs.Rows.{stands_at, left_synced, left_present, left_spoilt, left_written, left_before}
+use Rattle.lfs_device.specs.Unsynced.{IsSyncedAt}
+use Rattle.lfs_device.proofs.UnsyncedLists.{each_new, each_settled}
 
 -- a row whose sector is written, done or failed
 pub record Wrote (bytes : List ℕ) (old new : Row) : Type 0 where
@@ -17,166 +20,296 @@ pub record Wrote (bytes : List ℕ) (old new : Row) : Type 0 where
   pub written : new.written ≡ Some bytes
   pub present : (new.present ≡ old.present) ⊎ (new.present ≡ Some bytes)
 
-cell_write : {bytes : List ℕ} {old new : Row} (Before : Cell → Type 0) (x : Cell) → Wrote bytes old new
-    → CellLeft new (CellLeft old Before) x
-    → (e : Cell) × CellLeft old Before e × ((x ≡ e) ⊎ ((x ≡ Some bytes) ⊎ (x ≡ None)))
-cell_write Before x wrote (inl is) = (x, inl (is ∙ wrote.synced), inl refl)
-cell_write {old} Before x wrote (inr (inl is)) = elim wrote.present [
-  | inl same ↦ (x, inr (inl (is ∙ same)), inl refl)
-  | inr other ↦ (old.synced, inl refl, inr (inl (is ∙ other)))
-]
-cell_write {old} Before x wrote (inr (inr (some, inl is))) = (old.synced, inl refl, inr (inl (is ∙ wrote.written)))
-cell_write {old} Before x wrote (inr (inr (some, inr (inl is)))) = (old.synced, inl refl, inr (inr is))
-cell_write Before x wrote (inr (inr (some, inr (inr before)))) = (x, before, inl refl)
-
--- a sector that isn't changed
-cell_same : (row : Row) (Before : Cell → Type 0) (x : Cell) → CellLeft row (CellLeft row Before) x → CellLeft row Before x
-cell_same row Before x (inl is) = inl is
-cell_same row Before x (inr (inl is)) = inr (inl is)
-cell_same row Before x (inr (inr (some, inl is))) = inr (inr (some, inl is))
-cell_same row Before x (inr (inr (some, inr (inl is)))) = inr (inr (some, inr (inl is)))
-cell_same row Before x (inr (inr (some, inr (inr before)))) = before
-
-cell_still : (row : Row) (Before : Cell → Type 0) (x : Cell) → CellLeft row Before x → CellLeft row (CellLeft row Before) x
-cell_still row Before x (inl is) = inl is
-cell_still row Before x (inr (inl is)) = inr (inl is)
-cell_still row Before x (inr (inr (some, inl is))) = inr (inr (some, inl is))
-cell_still row Before x (inr (inr (some, inr (inl is)))) = inr (inr (some, inr (inl is)))
-cell_still row Before x (inr (inr (some, inr (inr before)))) = inr (inr (some, inr (inr (inr (inr (some, inr (inr before)))))))
-
 abbrev Reaches : Type 1
 Reaches = ℕ → Cell → Type 0
 
-abbrev later : Reaches → Reaches
-later Before k = Before (suc k)
+-- what a stop leaves of a sector that is written, comes from what one could leave of it before
+own_back : {bytes : List ℕ} {old new : Row} {Touched Touched' : Type 0} {Before : Cell → Type 0} (x : Cell) → Wrote bytes old new
+    → CellLeft new Touched' (CellLeft old Touched Before) x
+    → (e : Cell) × CellLeft old Touched Before e × ((x ≡ e) ⊎ ((x ≡ Some bytes) ⊎ (x ≡ None)))
+own_back x wrote (left_synced is) = (x, left_synced (is ∙ wrote.synced), inl refl)
+own_back {old} x wrote (left_present is) = elim wrote.present [
+  | inl same ↦ (x, left_present (is ∙ same), inl refl)
+  | inr other ↦ (old.synced, left_synced refl, inr (inl (is ∙ other)))
+]
+own_back {old} x wrote (left_spoilt touched is) = (old.synced, left_synced refl, inr (inr is))
+own_back {old} x wrote (left_written some is) = (old.synced, left_synced refl, inr (inl (is ∙ wrote.written)))
+own_back x wrote (left_before some before) = (x, before, inl refl)
 
-same_rows : (rows : List Row) (Before : Reaches) (c : List Cell) → CanLeave rows (After rows Before) c → CanLeave rows Before c
-same_rows [] Before [] left = tt
-same_rows [] Before (x ∷ c) left = absurd left
-same_rows (row ∷ rows) Before [] left = absurd left
-same_rows (row ∷ rows) Before (x ∷ c) left = (cell_same row (Before 0) x left.0, same_rows rows (later Before) c left.1)
+-- of another sector of the unit
+beside_back : {row : Row} {Touched Touched' : Type 0} {Before : Cell → Type 0} (x : Cell)
+    → CellLeft row Touched' (CellLeft row Touched Before) x → (e : Cell) × CellLeft row Touched Before e × ((x ≡ e) ⊎ (x ≡ None))
+beside_back x (left_synced is) = (x, left_synced is, inl refl)
+beside_back x (left_present is) = (x, left_present is, inl refl)
+beside_back {row} x (left_spoilt touched is) = (row.synced, left_synced refl, inr is)
+beside_back x (left_written some is) = (x, left_written some is, inl refl)
+beside_back x (left_before some before) = (x, before, inl refl)
 
-still_rows : (rows : List Row) (Before : Reaches) (c : List Cell) → CanLeave rows Before c → CanLeave rows (After rows Before) c
-still_rows [] Before [] left = tt
-still_rows [] Before (x ∷ c) left = absurd left
-still_rows (row ∷ rows) Before [] left = absurd left
-still_rows (row ∷ rows) Before (x ∷ c) left = (cell_still row (Before 0) x left.0, still_rows rows (later Before) c left.1)
+-- and of one of another unit
+other_back : {row : Row} {Touched Touched' : Type 0} {Before : Cell → Type 0} {x : Cell} → (Touched' → Touched)
+    → CellLeft row Touched' (CellLeft row Touched Before) x → CellLeft row Touched Before x
+other_back back (left_synced is) = left_synced is
+other_back back (left_present is) = left_present is
+other_back back (left_spoilt touched is) = left_spoilt (back touched) is
+other_back back (left_written some is) = left_written some is
+other_back back (left_before some before) = before
 
-behind : (x : Cell) {s : ℕ} {bytes : List ℕ} {d c : List Cell} → MayWrite s bytes d c → MayWrite (suc s) bytes (x ∷ d) (x ∷ c)
-behind x (left_old is) = left_old (ap (λ (l : List Cell). x ∷ l) is)
-behind x (left_new is) = left_new (ap (λ (l : List Cell). x ∷ l) is)
-behind x (left_bad is) = left_bad (ap (λ (l : List Cell). x ∷ l) is)
+-- what a stop could leave of a sector that isn't written, it can leave after the write
+still_left : {row : Row} {Touched Touched' : Type 0} {Before : Cell → Type 0} {x : Cell} → (Touched → Touched')
+    → CellLeft row Touched Before x → CellLeft row Touched' (CellLeft row Touched Before) x
+still_left on (left_synced is) = left_synced is
+still_left on (left_present is) = left_present is
+still_left on (left_spoilt touched is) = left_spoilt (on touched) is
+still_left on (left_written some is) = left_written some is
+still_left on (left_before some before) = left_before some (left_before some before)
 
-here : {x e : Cell} {bytes : List ℕ} (c : List Cell) → (x ≡ e) ⊎ ((x ≡ Some bytes) ⊎ (x ≡ None)) → MayWrite zero bytes (e ∷ c) (x ∷ c)
-here c (inl is) = left_old (ap (λ (y : Cell). y ∷ c) is)
-here c (inr (inl is)) = left_new (ap (λ (y : Cell). y ∷ c) is)
-here c (inr (inr is)) = left_bad (ap (λ (y : Cell). y ∷ c) is)
+-- what a write makes of the cell at k
+record Comes (unit : ℕ → ℕ) (s : ℕ) (bytes : List ℕ) (k : ℕ) (old new : Cell) : Type 0 where
+  own : k ≡ s → (new ≡ old) ⊎ ((new ≡ Some bytes) ⊎ (new ≡ None))
+  beside : unit k ≡ unit s → (k ≡ s → ⊥) → (new ≡ old) ⊎ (new ≡ None)
+  others : (unit k ≡ unit s → ⊥) → new ≡ old
 
-crash_set : (rows : List Row) (Before : Reaches) (s : ℕ) {bytes : List ℕ} {old new : Row} → old ≡ slice_index_or rows s old
-    → Wrote bytes old new
-    → (c : List Cell) → CanLeave (slice_set rows s new) (After rows Before) c
-    → (d : List Cell) × CanLeave rows Before d × MayWrite s bytes d c
-crash_set [] Before s is wrote [] left = ([], tt, left_old refl)
-crash_set [] Before s is wrote (x ∷ c) left = absurd left
-crash_set (row ∷ rows) Before zero is wrote [] left = absurd left
-crash_set (row ∷ rows) Before zero {bytes} {old} {new} is wrote (x ∷ c) left =
-    let first : CellLeft new (CellLeft old (Before 0)) x = subst (λ (r : Row). CellLeft new (CellLeft r (Before 0)) x) (sym is) left.0 in
-    let from = cell_write (Before 0) x wrote first in (
-      from.0 ∷ c,
-      (subst (λ (r : Row). CellLeft r (Before 0) from.0) is from.1, same_rows rows (later Before) c left.1),
-      here c from.2,
+-- a content by a function of the sector
+abbrev made : (ℕ → Cell) → ℕ → List Cell
+made f n = map f (range_with_len 0 n)
+
+made_at : (f : ℕ → Cell) (n k : ℕ) → k < n → cell_at (made f n) k ≡ f k
+made_at f n k lt = get_or-map-range_with_len f 0 n k k None lt (omega arith)
+
+module _ (unit : ℕ → ℕ) (rows : List Row) (s : ℕ) (new : Row) (lt : s < length rows) where
+  abbrev changed : List Row
+  changed = slice_set rows s new
+
+  at_own : row_at changed s ≡ new
+  at_own = get_or-set_same rows s new (stands_at None) lt
+
+  at_other : (k : ℕ) → (k ≡ s → ⊥) → row_at changed k ≡ row_at rows k
+  at_other k ne = get_or-set_other rows s k new (stands_at None) ne
+
+  -- a unit that wasn't touched before is touched by this sector alone
+  touched_back : (k : ℕ) → (IsSome new.written → unit k ≡ unit s → ⊥) → IsTouched unit changed k → IsTouched unit rows k
+  touched_back k unwritten touched = elim (cases_eq touched.0 s) [
+    | inl e ↦ absurd (unwritten (subst (λ (r : Row). IsSome r.written) (ap (row_at changed) e ∙ at_own) touched.2)
+        (sym touched.1 ∙ ap unit e))
+    | inr ne ↦ (touched.0, touched.1, subst (λ (r : Row). IsSome r.written) (at_other touched.0 ne) touched.2)
+  ]
+
+  module _ (some : IsSome new.written) where
+    touched_now : (k : ℕ) → unit k ≡ unit s → IsTouched unit changed k
+    touched_now k same = (s, sym same, subst (λ (r : Row). IsSome r.written) (sym at_own) some)
+
+    touched_on : (k : ℕ) → IsTouched unit rows k → IsTouched unit changed k
+    touched_on k touched = elim (cases_eq touched.0 s) [
+      | inl e ↦ touched_now k (sym touched.1 ∙ ap unit e)
+      | inr ne ↦ (touched.0, touched.1, subst (λ (r : Row). IsSome r.written) (sym (at_other touched.0 ne)) touched.2)
+    ]
+
+  -- the sector is written
+  module _ (Before : Reaches) (bytes : List ℕ) {old : Row} (is : old ≡ slice_index_or rows s old) (write : Wrote bytes old new) where
+    wrote : Wrote bytes (row_at rows s) (row_at changed s)
+    wrote = subst (Wrote bytes (row_at rows s)) (sym at_own)
+        (subst (λ (r : Row). Wrote bytes r new) (is ∙ get_or_default rows s old (stands_at None) lt) write)
+
+    some_new : IsSome new.written
+    some_new = subst IsSome (sym write.written) refl
+
+    own_from : (c : List Cell) → CanLeave unit changed (After unit rows Before) c
+        → (x : Cell) × After unit rows Before s x × Comes unit s bytes s x (cell_at c s)
+    own_from c left = let from = own_back (cell_at c s) wrote (left.each s) in (
+      from.0,
+      from.1,
+      record {
+        own = λ e. from.2;
+        beside = λ e ne. absurd (ne refl);
+        others = λ ne. absurd (ne refl);
+      },
     )
-crash_set (row ∷ rows) Before (suc s) is wrote [] left = absurd left
-crash_set (row ∷ rows) Before (suc s) {bytes} {old} {new} is wrote (x ∷ c) left =
-    let from = crash_set rows (later Before) s is wrote c left.1 in
-    (x ∷ from.0, (cell_same row (Before 0) x left.0, from.1), behind x from.2)
 
-some_written : {x : Cell} {bytes : List ℕ} → x ≡ Some bytes → IsSome x
-some_written is = subst IsSome (sym is) refl
+    from_cell : (c : List Cell) → CanLeave unit changed (After unit rows Before) c → (k : ℕ)
+        → (x : Cell) × After unit rows Before k x × Comes unit s bytes k x (cell_at c k)
+    from_cell c left k = elim (cases_eq k s) [
+      | inl e ↦ subst (λ (i : ℕ). (x : Cell) × After unit rows Before i x × Comes unit s bytes i x (cell_at c i)) (sym e) (own_from c left)
+      | inr ne ↦
+          let here : CellLeft (row_at rows k) (IsTouched unit changed k) (After unit rows Before k) (cell_at c k) =
+          subst (λ (r : Row). CellLeft r (IsTouched unit changed k) (After unit rows Before k) (cell_at c k)) (at_other k ne)
+          (left.each k) in
+          elim (cases_eq (unit k) (unit s)) [
+            | inl same ↦ (let from = beside_back (cell_at c k) here in (
+              from.0,
+              from.1,
+              record {
+                own = λ e. absurd (ne e);
+                beside = λ e apart. from.2;
+                others = λ apart. absurd (apart same);
+              },
+            ))
+            | inr apart ↦ (
+              cell_at c k,
+              other_back (touched_back k (λ some same. apart same)) here,
+              record {
+                own = λ e. inl refl;
+                beside = λ e other. inl refl;
+                others = λ other. refl;
+              },
+            )
+          ]
+    ]
 
--- and each content of the model may be left
-spread_same : (rows : List Row) (Before : Reaches) (s : ℕ) {bytes : List ℕ} {old new : Row} → old ≡ slice_index_or rows s old
-    → Wrote bytes old new
-    → (c : List Cell) → CanLeave rows Before c → CanLeave (slice_set rows s new) (After rows Before) c
-spread_same [] Before s is wrote [] left = tt
-spread_same [] Before s is wrote (x ∷ c) left = absurd left
-spread_same (row ∷ rows) Before zero is wrote [] left = absurd left
-spread_same (row ∷ rows) Before zero {bytes} {new} is wrote (x ∷ c) left =
-    (inr (inr (some_written wrote.written, inr (inr left.0))), still_rows rows (later Before) c left.1)
-spread_same (row ∷ rows) Before (suc s) is wrote [] left = absurd left
-spread_same (row ∷ rows) Before (suc s) {bytes} {old} {new} is wrote (x ∷ c) left =
-    (cell_still row (Before 0) x left.0, spread_same rows (later Before) s is wrote c left.1)
+    -- each content that a stop may leave comes from one that it could leave before
+    pub crash_set : (c : List Cell) → CanLeave unit changed (After unit rows Before) c
+        → (d : List Cell) × CanLeave unit rows Before d × MayWriteUnit unit s bytes d c
+    crash_set c left = (
+      made f (length rows),
+      record { size = length-map-range_with_len f 0 (length rows); each = λ k. (at_made k).0 },
+      record {
+        size = left.size ∙ length-set rows s new ∙ sym (length-map-range_with_len f 0 (length rows));
+        own = (let comes = (at_made s).1 in comes.own refl);
+        beside = λ k. (let comes = (at_made k).1 in comes.beside);
+        others = λ k. (let comes = (at_made k).1 in comes.others);
+      },
+    )
+      where
+        f : ℕ → Cell
+        f k = (from_cell c left k).0
 
-spread_to : (rows : List Row) (Before : Reaches) (s : ℕ) (new : Row) (v : Cell) → ((E : Cell → Type 0) → CellLeft new E v)
-    → (c : List Cell) → CanLeave rows Before c → CanLeave (slice_set rows s new) (After rows Before) (slice_set c s v)
-spread_to [] Before s new v may [] left = tt
-spread_to [] Before s new v may (x ∷ c) left = absurd left
-spread_to (row ∷ rows) Before zero new v may [] left = absurd left
-spread_to (row ∷ rows) Before zero new v may (x ∷ c) left = (may (CellLeft row (Before 0)), still_rows rows (later Before) c left.1)
-spread_to (row ∷ rows) Before (suc s) new v may [] left = absurd left
-spread_to (row ∷ rows) Before (suc s) new v may (x ∷ c) left =
-    (cell_still row (Before 0) x left.0, spread_to rows (later Before) s new v may c left.1)
+        none_made : {k : ℕ} → length rows ≤ k → cell_at (made f (length rows)) k ≡ None
+        none_made {k} past = get_or_past (made f (length rows)) k None
+            (let size = length-map-range_with_len f 0 (length rows) in omega (arith, size, past))
 
-spread_set : (rows : List Row) (Before : Reaches) (s : ℕ) (bytes : List ℕ) {old : Row} (new : Row) → old ≡ slice_index_or rows s old
-    → Wrote bytes old new
-    → (d : List Cell) {c : List Cell} → CanLeave rows Before d → MayWrite s bytes d c
-    → CanLeave (slice_set rows s new) (After rows Before) c
-spread_set rows Before s bytes {old} new is wrote d left (left_old same) =
-    subst (CanLeave (slice_set rows s new) (After rows Before)) (sym same) (spread_same rows Before s is wrote d left)
-spread_set rows Before s bytes new is wrote d left (left_new same) =
-    subst (CanLeave (slice_set rows s new) (After rows Before)) (sym same)
-    (spread_to rows Before s new (Some bytes) (λ E. inr (inr (some_written wrote.written, inl (sym wrote.written)))) d left)
-spread_set rows Before s bytes new is wrote d left (left_bad same) =
-    subst (CanLeave (slice_set rows s new) (After rows Before)) (sym same)
-    (spread_to rows Before s new None (λ E. inr (inr (some_written wrote.written, inr (inl refl)))) d left)
+        same_past : {k : ℕ} → length rows ≤ k → cell_at c k ≡ cell_at (made f (length rows)) k
+        same_past {k} past =
+            let size = left.size in
+            let same = length-set rows s new in
+            get_or_past c k None (omega (arith, size, same, past)) ∙ sym (none_made past)
 
--- a sector that is made unreadable
-cell_stands : (x : Cell) (Before : Cell → Type 0) (y : Cell) → CellLeft (stands_at x) Before y → y ≡ x
-cell_stands x Before y (inl is) = is
-cell_stands x Before y (inr (inl is)) = is
-cell_stands x Before y (inr (inr (some, which))) = absurd (cc)
+        at_made : (k : ℕ) → After unit rows Before k (cell_at (made f (length rows)) k)
+            × Comes unit s bytes k (cell_at (made f (length rows)) k) (cell_at c k)
+        at_made k = elim (cases_lt k (length rows)) [
+          | inl inside ↦ subst (λ (x : Cell). After unit rows Before k x × Comes unit s bytes k x (cell_at c k))
+              (sym (made_at f (length rows) k inside)) ((from_cell c left k).1, (from_cell c left k).2)
+          | inr past ↦ (
+            left_synced (none_made past ∙ sym (ap (λ (r : Row). r.synced) (get_or_past rows k (stands_at None) past))),
+            record {
+              own = λ e. inl (same_past past);
+              beside = λ e ne. inl (same_past past);
+              others = λ ne. same_past past;
+            },
+          )
+        ]
 
-lose_leaves : (rows : List Row) (Before : Reaches) (s : ℕ) (c : List Cell)
-    → CanLeave (slice_set rows s (stands_at None)) (After rows Before) c
-    → (d : List Cell) × CanLeave rows Before d × (c ≡ lose d s)
-lose_leaves [] Before s [] left = ([], tt, refl)
-lose_leaves [] Before s (x ∷ c) left = absurd left
-lose_leaves (row ∷ rows) Before zero [] left = absurd left
-lose_leaves (row ∷ rows) Before zero (x ∷ c) left = (
-  row.synced ∷ c,
-  (inl refl, same_rows rows (later Before) c left.1),
-  ap (λ (y : Cell). y ∷ c) (cell_stands None (CellLeft row (Before 0)) x left.0),
+    -- and each that comes so, it may leave
+    pub spread_set : (d c : List Cell) → CanLeave unit rows Before d → MayWriteUnit unit s bytes d c
+        → CanLeave unit changed (After unit rows Before) c
+    spread_set d c left may = record {
+      size = may.size ∙ left.size ∙ sym (length-set rows s new);
+      each = λ k. elim (cases_eq k s) [
+        | inl e ↦ subst (λ (i : ℕ). CellLeft (row_at changed i) (IsTouched unit changed i) (After unit rows Before i) (cell_at c i))
+            (sym e) own
+        | inr ne ↦ subst (λ (r : Row). CellLeft r (IsTouched unit changed k) (After unit rows Before k) (cell_at c k))
+            (sym (at_other k ne)) (other k ne)
+      ];
+    }
+      where
+        own : CellLeft (row_at changed s) (IsTouched unit changed s) (After unit rows Before s) (cell_at c s)
+        own = let some = subst (λ (r : Row). IsSome r.written) (sym at_own) some_new in elim may.own [
+          | inl same ↦ left_before some (subst (After unit rows Before s) (sym same) (left.each s))
+          | inr (inl is) ↦ left_written some (is ∙ sym wrote.written)
+          | inr (inr bad) ↦ left_spoilt (touched_now some_new s refl) bad
+        ]
+
+        same_as : (k : ℕ) → cell_at c k ≡ cell_at d k
+            → CellLeft (row_at rows k) (IsTouched unit changed k) (After unit rows Before k) (cell_at c k)
+        same_as k same = subst (CellLeft (row_at rows k) (IsTouched unit changed k) (After unit rows Before k)) (sym same)
+            (still_left (touched_on some_new k) (left.each k))
+
+        other : (k : ℕ) → (k ≡ s → ⊥)
+            → CellLeft (row_at rows k) (IsTouched unit changed k) (After unit rows Before k) (cell_at c k)
+        other k ne = elim (cases_eq (unit k) (unit s)) [
+          | inl same ↦ elim (may.beside k same ne) [ inl is ↦ same_as k is | inr bad ↦ left_spoilt (touched_now some_new k same) bad ]
+          | inr apart ↦ same_as k (may.others k apart)
+        ]
+
+-- the sector is made unreadable
+none_left : {Touched : Type 0} {Before : Cell → Type 0} {x : Cell} → CellLeft (stands_at None) Touched Before x → x ≡ None
+none_left (left_synced is) = is
+none_left (left_present is) = is
+none_left (left_spoilt touched is) = is
+none_left (left_written some is) = is
+none_left (left_before some before) = absurd (false≢true some)
+
+lose_leaves : (unit : ℕ → ℕ) (rows : List Row) (Before : Reaches) (s : ℕ) → s < length rows → (c : List Cell)
+    → CanLeave unit (slice_set rows s (stands_at None)) (After unit rows Before) c
+    → (d : List Cell) × CanLeave unit rows Before d × (c ≡ lose d s)
+lose_leaves unit rows Before s lt c left = (
+  slice_set c s (row_at rows s).synced,
+  record { size = length-set c s _ ∙ size; each = each },
+  sym (set-set c s (row_at rows s).synced None ∙ ap (slice_set c s) (sym none) ∙ set-get_or c s None),
 )
-lose_leaves (row ∷ rows) Before (suc s) [] left = absurd left
-lose_leaves (row ∷ rows) Before (suc s) (x ∷ c) left =
-    let from = lose_leaves rows (later Before) s c left.1 in
-    (x ∷ from.0, (cell_same row (Before 0) x left.0, from.1), ap (λ (l : List Cell). x ∷ l) from.2)
+  where
+    size : length c ≡ length rows
+    size = left.size ∙ length-set rows s _
+
+    none : cell_at c s ≡ None
+    none = none_left
+        (subst (λ (r : Row). CellLeft r (IsTouched unit (slice_set rows s (stands_at None)) s) (After unit rows Before s) (cell_at c s))
+        (at_own unit rows s (stands_at None) lt) (left.each s))
+
+    other : (k : ℕ) → (k ≡ s → ⊥) → After unit rows Before k (cell_at c k)
+    other k ne = other_back (touched_back unit rows s (stands_at None) lt k (λ some same. false≢true some))
+        (subst (λ (r : Row). CellLeft r (IsTouched unit (slice_set rows s (stands_at None)) k) (After unit rows Before k) (cell_at c k))
+        (at_other unit rows s (stands_at None) lt k ne) (left.each k))
+
+    each : (k : ℕ) → After unit rows Before k (cell_at (slice_set c s (row_at rows s).synced) k)
+    each k = elim (cases_eq k s) [
+      | inl e ↦ subst (λ (i : ℕ). After unit rows Before i (cell_at (slice_set c s (row_at rows s).synced) i)) (sym e)
+          (left_synced (get_or-set_same c s (row_at rows s).synced None (omega (arith, size, lt))))
+      | inr ne ↦ subst (After unit rows Before k) (sym (get_or-set_other c s k (row_at rows s).synced None ne)) (other k ne)
+    ]
+
+-- what is synced, a stop leaves as it is
+synced_cell : {row : Row} {Touched : Type 0} {Before : Cell → Type 0} {x : Cell} → settled row ≡ row → (Touched → ⊥)
+    → CellLeft row Touched Before x → x ≡ row.present
+synced_cell is alone (left_synced same) = same ∙ sym (ap (λ (r : Row). r.synced) is)
+synced_cell is alone (left_present same) = same
+synced_cell is alone (left_spoilt touched bad) = absurd (alone touched)
+synced_cell is alone (left_written some same) = absurd (false≢true (subst (λ (r : Row). IsSome r.written) (sym is) some))
+synced_cell is alone (left_before some before) = absurd (false≢true (subst (λ (r : Row). IsSome r.written) (sym is) some))
+
+pub only_synced : (unit : ℕ → ℕ) (rows : List Row) (Before : Reaches) → ((k : ℕ) → IsSyncedAt rows k) → (c : List Cell)
+    → CanLeave unit rows Before c → c ≡ map present_of rows
+only_synced unit rows Before synced c left =
+    ext_get_or None c (map present_of rows) (left.size ∙ sym (length-map rows present_of))
+    (λ k inside. synced_cell (synced k) alone (left.each k) ∙ sym (present_at rows k))
+  where
+    alone : {k : ℕ} → IsTouched unit rows k → ⊥
+    alone touched = false≢true (subst (λ (r : Row). IsSome r.written) (sym (synced touched.0)) touched.2)
+
+pub were_whole : {rows : List Row} {past now : List (List Row)} → now ≡ rows ∷ past → AreSectorRows rows
+    → AllByRecursion AreSectorRows past → AllByRecursion AreSectorRows now
+were_whole is whole were = subst (AllByRecursion AreSectorRows) (sym is) (whole, were)
 
 -- the same, of states that are known by an equation
-module _ {rows : List Row} {past now : List (List Row)} (is_now : now ≡ rows ∷ past) where
-  pub crash_write : (s : ℕ) (bytes : List ℕ) {old : Row} (new : Row) → old ≡ slice_index_or rows s old → Wrote bytes old new
-      → (c : List Cell) → CanLeave (slice_set rows s new) (PassedThrough now) c → (d : List Cell) × CanLeave rows (PassedThrough past) d
-      × MayWrite s bytes d c
-  crash_write s bytes {old} new is wrote c left =
-      crash_set rows (PassedThrough past) s is wrote c
-      (subst (λ (l : List (List Row)). CanLeave (slice_set rows s new) (PassedThrough l) c) is_now left)
+module _ (unit : ℕ → ℕ) {rows : List Row} {past now : List (List Row)} (is_now : now ≡ rows ∷ past) where
+  pub crash_write : (s : ℕ) (bytes : List ℕ) {old : Row} (new : Row) → s < length rows → old ≡ slice_index_or rows s old
+      → Wrote bytes old new → (c : List Cell) → CanLeave unit (slice_set rows s new) (PassedThrough unit now) c
+      → (d : List Cell) × CanLeave unit rows (PassedThrough unit past) d × MayWriteUnit unit s bytes d c
+  crash_write s bytes new lt is wrote c left = crash_set unit rows s new lt (PassedThrough unit past) bytes is wrote c
+      (subst (λ (l : List (List Row)). CanLeave unit (slice_set rows s new) (PassedThrough unit l) c) is_now left)
 
-  pub crash_spreads : (s : ℕ) (bytes : List ℕ) {old : Row} (new : Row) → old ≡ slice_index_or rows s old → Wrote bytes old new
-      → (d c : List Cell) → CanLeave rows (PassedThrough past) d → MayWrite s bytes d c
-      → CanLeave (slice_set rows s new) (PassedThrough now) c
-  crash_spreads s bytes {old} new is wrote d c left may =
-      subst (λ (l : List (List Row)). CanLeave (slice_set rows s new) (PassedThrough l) c) (sym is_now)
-      (spread_set rows (PassedThrough past) s bytes new is wrote d left may)
+  pub crash_spreads : (s : ℕ) (bytes : List ℕ) {old : Row} (new : Row) → s < length rows → old ≡ slice_index_or rows s old
+      → Wrote bytes old new → (d c : List Cell) → CanLeave unit rows (PassedThrough unit past) d → MayWriteUnit unit s bytes d c
+      → CanLeave unit (slice_set rows s new) (PassedThrough unit now) c
+  crash_spreads s bytes new lt is wrote d c left may =
+      subst (λ (l : List (List Row)). CanLeave unit (slice_set rows s new) (PassedThrough unit l) c) (sym is_now)
+      (spread_set unit rows s new lt (PassedThrough unit past) bytes is wrote d c left may)
 
-  pub were_whole : AreSectorRows rows → AllByRecursion AreSectorRows past → AllByRecursion AreSectorRows now
-  were_whole whole were = subst (AllByRecursion AreSectorRows) (sym is_now) (whole, were)
-
-  pub lost_leaves : (s : ℕ) (row : Row) → row ≡ stands_at None → (c : List Cell) → CanLeave (slice_set rows s row) (PassedThrough now) c
-      → (d : List Cell) × CanLeave rows (PassedThrough past) d × (c ≡ lose d s)
-  lost_leaves s row is c left =
-      lose_leaves rows (PassedThrough past) s c
-      (subst (λ (r : Row). CanLeave (slice_set rows s r) (After rows (PassedThrough past)) c) is
-      (subst (λ (l : List (List Row)). CanLeave (slice_set rows s row) (PassedThrough l) c) is_now left))
+  pub lost_leaves : (s : ℕ) (row : Row) → s < length rows → row ≡ stands_at None → (c : List Cell)
+      → CanLeave unit (slice_set rows s row) (PassedThrough unit now) c
+      → (d : List Cell) × CanLeave unit rows (PassedThrough unit past) d × (c ≡ lose d s)
+  lost_leaves s row lt is c left =
+      lose_leaves unit rows (PassedThrough unit past) s lt c
+      (subst (λ (r : Row). CanLeave unit (slice_set rows s r) (After unit rows (PassedThrough unit past)) c) is
+      (subst (λ (l : List (List Row)). CanLeave unit (slice_set rows s row) (PassedThrough unit l) c) is_now left))
 
 -- a row that is written over
 pub present_set : (rows : List Row) (s : ℕ) (new : Row)
@@ -195,123 +328,31 @@ pub present_settled : (rows : List Row) → map present_of (map settled rows) �
 present_settled [] = refl
 present_settled (row ∷ rows) = ap (λ (l : List Cell). row.present ∷ l) (present_settled rows)
 
-only_settled : (rows : List Row) (Before : Reaches) (c : List Cell) → CanLeave (map settled rows) Before c → c ≡ map present_of rows
-only_settled [] Before [] left = refl
-only_settled [] Before (x ∷ c) left = absurd left
-only_settled (row ∷ rows) Before [] left = absurd left
-only_settled (row ∷ rows) Before (x ∷ c) left = λ i. cell_stands row.present (Before 0) x left.0 i
-    ∷ only_settled rows (later Before) c left.1 i
-
 pub present_after_sync : (old : List Row) {new : List Row} → new ≡ map settled old → map present_of new ≡ map present_of old
 present_after_sync old is = ap (λ (rows : List Row). map present_of rows) is ∙ present_settled old
 
-pub only_after_sync : (old new : List Row) (Before : Reaches) → new ≡ map settled old → (c : List Cell) → CanLeave new Before c
-    → c ≡ map present_of new
-only_after_sync old new Before is c left =
-    only_settled old Before c (subst (λ (rows : List Row). CanLeave rows Before c) is left) ∙ sym (present_after_sync old is)
+pub only_after_sync : (unit : ℕ → ℕ) (old new : List Row) (Before : Reaches) → new ≡ map settled old → (c : List Cell)
+    → CanLeave unit new Before c → c ≡ map present_of new
+only_after_sync unit old new Before is =
+    only_synced unit new Before (subst (λ (rows : List Row). (k : ℕ) → IsSyncedAt rows k) (sym is) (each_settled old))
 
-pub crash_after_sync : (old : List Row) {new : List Row} (Before Past : Reaches) → new ≡ map settled old → (c : List Cell)
-    → CanLeave new Before c
-    → CanLeave old Past c
-crash_after_sync old Before Past is c left =
-    subst (CanLeave old Past) (sym (only_settled old Before c (subst (λ (rows : List Row). CanLeave rows Before c) is left)))
-    (present old Past)
-
--- a stop chooses a content that it may leave
-chosen_left : (choice : Left) (row : Row) (Before : Cell → Type 0) → IsSome row.written → CellLeft row Before (chosen choice row)
-chosen_left Old row Before some = inl refl
-chosen_left New row Before some = inr (inr (some, inl refl))
-chosen_left Bad row Before some = inr (inr (some, inr (inl refl)))
-
-pub stop_leaves : (choices : List Left) (rest : Left) (rows : List Row) (Before : Reaches)
-    → CanLeave rows Before (map present_of (stopped choices rest rows))
-stop_leaves choices rest [] Before = tt
-stop_leaves choices rest (row ∷ rows) Before = elim (row_written row) [
-  | inl none ↦
-      subst (λ (l : List Row). CanLeave (row ∷ rows) Before (map present_of l))
-      (ap (λ (b : Bool). if b then stands_at row.present ∷ stopped choices rest rows else stands_at (chosen (first_or rest choices) row)
-      ∷ stopped (drop 1 choices) rest rows) (sym none))
-      (inr (inl refl), stop_leaves choices rest rows (later Before))
-  | inr some ↦
-      subst (λ (l : List Row). CanLeave (row ∷ rows) Before (map present_of l))
-      (ap (λ (b : Bool). if b then stands_at row.present ∷ stopped choices rest rows else stands_at (chosen (first_or rest choices) row)
-      ∷ stopped (drop 1 choices) rest rows) (sym some.0))
-      (chosen_left (first_or rest choices) row (Before 0) some.1, stop_leaves (drop 1 choices) rest rows (later Before))
-]
-  where
-    written : (x : Cell) → (is_none x ≡ true) ⊎ ((is_none x ≡ false) × (IsSome x))
-    written None = inl refl
-    written (Some b) = inr (refl, refl)
-
-    row_written : (row : Row) → (is_none row.written ≡ true) ⊎ ((is_none row.written ≡ false) × (IsSome row.written))
-    row_written row = written row.written
-
--- and after it nothing else
-first_is : (x : Cell) (others : List Row) (Before : Reaches)
-    → ((d : List Cell) → CanLeave others (later Before) d → d ≡ map present_of others)
-    → (d : List Cell) → CanLeave (stands_at x ∷ others) Before d → d ≡ x ∷ map present_of others
-first_is x others Before rest_is [] left = absurd left
-first_is x others Before rest_is (y ∷ d) left = λ i. cell_stands x (Before 0) y left.0 i ∷ rest_is d left.1 i
-
-either_is : (x y : Cell) (xs ys : List Row) (Before : Reaches) → ((d : List Cell) → CanLeave xs (later Before) d → d ≡ map present_of xs)
-    → ((d : List Cell) → CanLeave ys (later Before) d → d ≡ map present_of ys)
-    → (b : Bool) (d : List Cell) → CanLeave (if b then stands_at x ∷ xs else stands_at y ∷ ys) Before d
-    → d ≡ map present_of (if b then stands_at x ∷ xs else stands_at y ∷ ys)
-either_is x y xs ys Before xs_is ys_is true d left = first_is x xs Before xs_is d left
-either_is x y xs ys Before xs_is ys_is false d left = first_is y ys Before ys_is d left
-
-pub stop_is_durable : (choices : List Left) (rest : Left) (rows : List Row) (Before : Reaches) (c : List Cell)
-    → CanLeave (stopped choices rest rows) Before c
-    → c ≡ map present_of (stopped choices rest rows)
-stop_is_durable choices rest [] Before [] left = refl
-stop_is_durable choices rest [] Before (x ∷ c) left = absurd left
-stop_is_durable choices rest (row ∷ rows) Before c left =
-    either_is row.present (chosen (first_or rest choices) row) (stopped choices rest rows) (stopped (drop 1 choices) rest rows) Before
-    (stop_is_durable choices rest rows (later Before)) (stop_is_durable (drop 1 choices) rest rows (later Before))
-    (is_none row.written) c left
+pub crash_after_sync : (unit : ℕ → ℕ) (old : List Row) {new : List Row} (Before Past : Reaches) → new ≡ map settled old → (c : List Cell)
+    → CanLeave unit new Before c → CanLeave unit old Past c
+crash_after_sync unit old {new} Before Past is c left =
+    subst (CanLeave unit old Past) (sym (only_after_sync unit old new Before is c left ∙ present_after_sync old is)) (present unit old Past)
 
 -- a new device
-only_new : (n : ℕ) (x : Cell) (Before : Reaches) (c : List Cell) → CanLeave (replicate n (stands_at x)) Before c → c ≡ replicate n x
-only_new zero x Before [] left = refl
-only_new zero x Before (y ∷ c) left = absurd left
-only_new (suc n) x Before [] left = absurd left
-only_new (suc n) x Before (y ∷ c) left = λ i. cell_stands x (Before 0) y left.0 i ∷ only_new n x (later Before) c left.1 i
-
 pub present_new : (n : ℕ) (x : Cell) → map present_of (replicate n (stands_at x)) ≡ replicate n x
 present_new zero x = refl
 present_new (suc n) x = ap (λ (l : List Cell). x ∷ l) (present_new n x)
 
-length_either : (b : Bool) (x y : Row) (xs ys : List Row) {n : ℕ} → length xs ≡ n → length ys ≡ n
-    → length (if b then x ∷ xs else y ∷ ys) ≡ n + 1
-length_either true x y xs ys one two = omega (arith, one)
-length_either false x y xs ys one two = omega (arith, two)
-
-pub length-stopped : (choices : List Left) (rest : Left) (rows : List Row) → length (stopped choices rest rows) ≡ length rows
-length-stopped choices rest [] = refl
-length-stopped choices rest (row ∷ rows) =
-    length_either (is_none row.written) _ _ _ _ (length-stopped choices rest rows) (length-stopped (drop 1 choices) rest rows) ∙ omega arith
-
--- the same, of rows that are known by an equation
-pub chosen_by_stop : (choices : List Left) (rest : Left) (old : List Row) {new : List Row} (Before : Reaches)
-    → new ≡ stopped choices rest old
-    → CanLeave old Before (map present_of new)
-chosen_by_stop choices rest old Before is =
-    subst (λ (rows : List Row). CanLeave old Before (map present_of rows)) (sym is) (stop_leaves choices rest old Before)
-
-pub only_after_stop : (choices : List Left) (rest : Left) (old : List Row) {new : List Row} (Before : Reaches)
-    → new ≡ stopped choices rest old
-    → (c : List Cell) → CanLeave new Before c → c ≡ map present_of new
-only_after_stop choices rest old Before is c left =
-    stop_is_durable choices rest old Before c (subst (λ (rows : List Row). CanLeave rows Before c) is left)
-    ∙ ap (λ (rows : List Row). map present_of rows) (sym is)
-
 pub present_if_new : (n : ℕ) (x : Cell) {rows : List Row} → rows ≡ replicate n (stands_at x) → map present_of rows ≡ replicate n x
 present_if_new n x is = ap (λ (l : List Row). map present_of l) is ∙ present_new n x
 
-pub only_if_new : (n : ℕ) (x : Cell) (rows : List Row) (Before : Reaches) → rows ≡ replicate n (stands_at x) → (c : List Cell)
-    → CanLeave rows Before c → c ≡ map present_of rows
-only_if_new n x rows Before is c left = only_new n x Before c (subst (λ (l : List Row). CanLeave l Before c) is left)
-    ∙ sym (present_if_new n x is)
+pub only_if_new : (unit : ℕ → ℕ) (n : ℕ) (x : Cell) (rows : List Row) (Before : Reaches) → rows ≡ replicate n (stands_at x)
+    → (c : List Cell) → CanLeave unit rows Before c → c ≡ map present_of rows
+only_if_new unit n x rows Before is =
+    only_synced unit rows Before (subst (λ (l : List Row). (k : ℕ) → IsSyncedAt l k) (sym is) (each_new n x))
 
 pub lost_row : (rows : List Row) (s : ℕ) (row : Row) → row ≡ stands_at None
     → map present_of (slice_set rows s row) ≡ lose (map present_of rows) s

@@ -3,8 +3,7 @@ use Rattle.std.proofs.Common.{◌≡◌, ℕ, List, ◌∷◌, refl, sym, subst}
 use Rattle.lfs_model.specs.Device.{IsUntouched}
 use Rattle.lfs_device.specs.Fate.{Fate}
 use Rattle.lfs_device.specs.File.{MayLeave, present_left, file_state}
-use Rattle.lfs_device.specs.declared.history.Call.{Call}
-use Rattle.lfs_device.specs.declared.history.Call.TheVariants.{Synced}
+use Rattle.lfs_device.specs.History.{Call, Synced}
 
 pub synced_untouched : {n : ℕ} (fate : Fate n) (old : List Call) {new : List Call} → new ≡ Synced ∷ old
     → IsUntouched (file_state n fate old) (file_state n fate new)

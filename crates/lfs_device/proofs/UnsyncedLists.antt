@@ -8,8 +8,7 @@ use Rattle.std.proofs.lemmas.List.Elements.{All-nil, All-push, All-filter}
 use Rattle.std.proofs.lemmas.List.Folds.{list_any-append}
 use Rattle.lfs_model.specs.Device.{Cell}
 use Rattle.lfs_device.specs.declared.rows.Row.{Row}
-use Rattle.lfs_device.specs.declared.rows.Left.{Left}
-use Rattle.lfs_device.specs.Rows.{stands_at, settled, chosen, first_or, stopped}
+use Rattle.lfs_device.specs.Rows.{stands_at, settled}
 use Rattle.lfs_device.specs.Unsynced.{is_listed, IsSyncedAt, written_once, written_count, IsUnsyncedList}
 
 abbrev no_row : Row
@@ -44,7 +43,7 @@ apart_from k s missing same = false≢true (sym missing ∙ eq-eqb k s same)
 neither : {a b : Bool} → a ≡ false → b ≡ false → (a || b) ≡ false
 neither {b} first second = subst (λ (x : Bool). (x || b) ≡ false) (sym first) second
 
-listed_first : (k s : ℕ) (rest : List ℕ) → (k ≡ s → ⊥) → is_listed k rest ≡ false → is_listed k (s ∷ rest) ≡ false
+pub listed_first : (k s : ℕ) (rest : List ℕ) → (k ≡ s → ⊥) → is_listed k rest ≡ false → is_listed k (s ∷ rest) ≡ false
 listed_first k s rest apart missing = neither (ne_eqb k s apart) missing
 
 listed_last : (k s : ℕ) (listed : List ℕ) → is_listed k (listed ++ s ∷ []) ≡ false → (is_listed k listed ≡ false) × (k ≡ s → ⊥)
@@ -100,10 +99,10 @@ module _ {old rows : List Row} {listed : List ℕ} (is : IsUnsyncedList listed o
       (all_synced rows (λ k. was.others k (subst (λ (l : List ℕ). is_listed k l ≡ false) (sym (drop_all i listed past)) refl))) ∙ was.same
 
 -- no sector is listed
-none_listed : (rows : List Row) → ((k : ℕ) → IsSyncedAt rows k) → IsUnsyncedList [] rows
+pub none_listed : (rows : List Row) → ((k : ℕ) → IsSyncedAt rows k) → IsUnsyncedList [] rows
 none_listed rows each = record { within = All-nil _; others = λ k missing. each k; few = omega arith }
 
-each_settled : (rows : List Row) (k : ℕ) → IsSyncedAt (map settled rows) k
+pub each_settled : (rows : List Row) (k : ℕ) → IsSyncedAt (map settled rows) k
 each_settled [] k = refl
 each_settled (row ∷ rows) zero = refl
 each_settled (row ∷ rows) (suc k) = each_settled rows k
@@ -113,7 +112,7 @@ none_after_sync old new none is =
     subst (λ (l : List ℕ). IsUnsyncedList l new) (sym none)
     (subst (IsUnsyncedList []) (sym is) (none_listed (map settled old) (each_settled old)))
 
-each_new : (n : ℕ) (x : Cell) (k : ℕ) → IsSyncedAt (replicate n (stands_at x)) k
+pub each_new : (n : ℕ) (x : Cell) (k : ℕ) → IsSyncedAt (replicate n (stands_at x)) k
 each_new zero x k = refl
 each_new (suc n) x zero = refl
 each_new (suc n) x (suc k) = each_new n x k
@@ -123,26 +122,6 @@ pub none_if_new : {listed : List ℕ} (n : ℕ) (x : Cell) (rows : List Row) →
 none_if_new n x rows none is =
     subst (λ (l : List ℕ). IsUnsyncedList l rows) (sym none)
     (subst (IsUnsyncedList []) (sym is) (none_listed (replicate n (stands_at x)) (each_new n x)))
-
-either_synced : (b : Bool) (x y : Cell) (xs ys : List Row) → ((k : ℕ) → IsSyncedAt xs k) → ((k : ℕ) → IsSyncedAt ys k)
-    → (k : ℕ) → IsSyncedAt (if b then stands_at x ∷ xs else stands_at y ∷ ys) k
-either_synced true x y xs ys one two zero = refl
-either_synced true x y xs ys one two (suc k) = one k
-either_synced false x y xs ys one two zero = refl
-either_synced false x y xs ys one two (suc k) = two k
-
-each_stopped : (choices : List Left) (rest : Left) (rows : List Row) (k : ℕ) → IsSyncedAt (stopped choices rest rows) k
-each_stopped choices rest [] k = refl
-each_stopped choices rest (row ∷ rows) k =
-    either_synced (is_none row.written) row.present (chosen (first_or rest choices) row) (stopped choices rest rows)
-    (stopped (drop 1 choices) rest rows)
-    (each_stopped choices rest rows) (each_stopped (drop 1 choices) rest rows) k
-
-pub none_after_stop : {listed : List ℕ} (choices : List Left) (rest : Left) (old new : List Row) → listed ≡ []
-    → new ≡ stopped choices rest old → IsUnsyncedList listed new
-none_after_stop choices rest old new none is =
-    subst (λ (l : List ℕ). IsUnsyncedList l new) (sym none)
-    (subst (IsUnsyncedList []) (sym is) (none_listed (stopped choices rest old) (each_stopped choices rest old)))
 
 -- how many were written
 once_most : (b : Bool) → (if b then 0 else 1) ≤ 1

@@ -1,13 +1,11 @@
 -- The rows of a memory device stay those of sectors.
-use Rattle.std.proofs.Common.{◌≡◌, ◌<◌, ◌^◌, ℕ, zero, suc, List, [], ◌∷◌, length, map, drop, replicate, Bool, true, false, sym, subst}
+use Rattle.std.proofs.Common.{◌≡◌, ◌<◌, ◌^◌, ℕ, zero, suc, List, [], ◌∷◌, length, map, replicate, sym, subst}
 use Rattle.std.proofs.Common.{arith, length-set}
-use Rattle.std.specs.Prelude.{slice_set, slice_index_or, is_none, if◌then◌else◌}
+use Rattle.std.specs.Prelude.{slice_set, slice_index_or}
 use Rattle.lfs_model.specs.Device.{Cell, IsSector}
 use Rattle.lfs_model.proofs.Cells.{all_same, all_set}
 use Rattle.lfs_device.specs.declared.rows.Row.{Row}
-use Rattle.lfs_device.specs.declared.rows.Left.{Left}
-use Rattle.lfs_device.specs.declared.rows.Left.TheVariants.{Old, New, Bad}
-use Rattle.lfs_device.specs.Rows.{IsSectorRow, AreSectorRows, stands_at, settled, chosen, first_or, stopped}
+use Rattle.lfs_device.specs.Rows.{IsSectorRow, AreSectorRows, stands_at, settled}
 
 pub whole_at : (x : Cell) → IsSector x → IsSectorRow (stands_at x)
 whole_at x has = record { present = has; synced = has; written = tt }
@@ -27,29 +25,6 @@ whole_settled (row ∷ rows) whole = (whole_at row.present whole.0.present, whol
 
 pub whole_after_sync : (old : List Row) {new : List Row} → new ≡ map settled old → AreSectorRows old → AreSectorRows new
 whole_after_sync old is whole = subst AreSectorRows (sym is) (whole_settled old whole)
-
-whole_chosen : (choice : Left) {row : Row} → IsSectorRow row → IsSector (chosen choice row)
-whole_chosen Old whole = whole.synced
-whole_chosen New whole = whole.written
-whole_chosen Bad whole = tt
-
-either : (b : Bool) (xs ys : List Row) → AreSectorRows xs → AreSectorRows ys → AreSectorRows (if b then xs else ys)
-either true xs ys one two = one
-either false xs ys one two = two
-
-whole_stopped : (choices : List Left) (rest : Left) (rows : List Row) → AreSectorRows rows → AreSectorRows (stopped choices rest rows)
-whole_stopped choices rest [] whole = tt
-whole_stopped choices rest (row ∷ rows) whole =
-    either (is_none row.written) _ _
-    (whole_at row.present whole.0.present, whole_stopped choices rest rows whole.1) (
-      whole_at (chosen (first_or rest choices) row) (whole_chosen (first_or rest choices) whole.0),
-      whole_stopped (drop 1 choices) rest rows whole.1,
-    )
-
-pub whole_after_stop : (choices : List Left) (rest : Left) (old : List Row) {new : List Row} → new ≡ stopped choices rest old
-    → AreSectorRows old
-    → AreSectorRows new
-whole_after_stop choices rest old is whole = subst AreSectorRows (sym is) (whole_stopped choices rest old whole)
 
 pub whole_if_new : (n : ℕ) (x : Cell) {rows : List Row} → IsSector x → rows ≡ replicate n (stands_at x) → AreSectorRows rows
 whole_if_new n x has is = subst AreSectorRows (sym is) (all_same IsSectorRow n (stands_at x) (whole_at x has))

@@ -1,56 +1,76 @@
 -- A file as contracts see it: a device of the model, in so far as its answers were such a device's.
-use Rattle.std.specs.Prelude.{◌≡◌, ◌⊎◌, ℕ, ◌+◌, ◌^◌, ◌<◌, ◌≤◌, Some, None, List, [], ◌∷◌, length, refl}
+use Rattle.std.specs.Prelude.{◌≡◌, ◌⊎◌, ℕ, zero, suc, ◌+◌, ◌^◌, ◌<◌, ◌≤◌, Some, None, List, [], ◌∷◌, length, refl}
+use Rattle.std.specs.Prelude.{Bool, true, false, not, ◌&&◌, ◌==◌, if◌then◌else◌}
 use Rattle.std.specs.List.{AllByRecursion}
-use Rattle.std.proofs.Common.{inl, inr, sym, ◌∙◌, ap, subst, arith, length-set}
-use Rattle.lfs_model.specs.Device.{Cell, cell_at, put, lose, MayWrite, left_old, left_new, left_bad, IsSector, AreSectorBytes, DeviceState}
+use Rattle.std.proofs.Common.{inl, inr, sym, ◌∙◌, ap, ap₂, subst, arith, eq-eqb, length-set}
+use Rattle.std.proofs.lemmas.Bool.{ne_eqb}
+use Rattle.lfs_model.specs.Device.{Cell, cell_at, put, lose, MayWrite, MayWriteUnit, left_old, left_new}
+use Rattle.lfs_model.specs.Device.{left_bad, IsSector, AreSectorBytes, DeviceState}
 use Rattle.lfs_model.specs.Device.{IsLawful}
+use Rattle.lfs_model.specs.Past.{AtSince, AtUntil, HoldsUntil}
+use Rattle.lfs_model.proofs.Pasts.{counts_at, earlier_at, holds_earlier, holds_end, only_at, until_end}
 use Rattle.lfs_model.specs.declared.Order.{Order}
 use Rattle.lfs_model.specs.declared.Order.TheVariants as order
-use Rattle.lfs_model.proofs.Cells.{all_set, bytes_prop, size_written, cells_written}
+use Rattle.lfs_model.proofs.Cells.{all_set}
+use Rattle.lfs_model.proofs.UnitWrites.{to_unit, unit_cells}
 use Rattle.lfs_device.specs.Fate.{Fate}
 use Rattle.lfs_device.specs.declared.rows.Left.{Left}
 use Rattle.lfs_device.specs.declared.rows.Left.TheVariants.{Old, New, Bad}
-use Rattle.lfs_device.specs.declared.history.Call.{Call}
-use Rattle.lfs_device.specs.declared.history.Call.TheVariants.{Given, Written, Refused, Synced, Failed}
+use Rattle.lfs_device.specs.History.{Call, Given, Written, Refused, Synced, FailedRead, FailedSync}
 
--- what a failed write makes of a content
+-- the content with these sectors unreadable
+abbrev pub spoil : (ℕ → Bool) → List Cell → List Cell
+spoil these [] = []
+spoil these (x ∷ content) = (if these 0 then None else x) ∷ spoil (λ k. these (suc k)) content
+
+-- what a failed write makes of its sector
 abbrev pub refused : Left → ℕ → List ℕ → List Cell → List Cell
 refused Old sector bytes content = content
 refused New sector bytes content = put content sector bytes
 refused Bad sector bytes content = lose content sector
 
 module _ {n : ℕ} (fate : Fate n) where
+  -- whether a call that is a failed write to the sector spoils this one: it is another of the unit
+  abbrev pub is_spoiled : ℕ → ℕ → ℕ → Bool
+  is_spoiled call sector k = (fate.unit k == fate.unit sector) && not (k == sector) && fate.spoils call k
+
+  -- what the call makes of a content
+  abbrev pub after_refusal : ℕ → ℕ → List ℕ → List Cell → List Cell
+  after_refusal call sector bytes content = refused (fate.outcome call) sector bytes (spoil (is_spoiled call sector) content)
+
   -- what the file holds after these calls
   abbrev pub content_after : List Call → List Cell
   content_after [] = fate.content
   content_after (Given sector bytes ∷ calls) = content_after calls
-  content_after (Written sector bytes ∷ calls) = put (content_after calls) sector bytes.value
-  content_after (Refused sector bytes ∷ calls) = refused (fate.outcome (length calls)) sector bytes.value (content_after calls)
+  content_after (Written sector bytes ∷ calls) = put (content_after calls) sector bytes
+  content_after (Refused sector bytes ∷ calls) = after_refusal (length calls) sector bytes (content_after calls)
   content_after (Synced ∷ calls) = content_after calls
-  content_after (Failed ∷ calls) = content_after calls
+  content_after (FailedRead ∷ calls) = content_after calls
+  content_after (FailedSync ∷ calls) = content_after calls
 
   -- what a stop after these calls may leave
   abbrev pub MayLeave : List Call → List Cell → Type 0
   MayLeave [] c = fate.left c
   MayLeave (Given sector bytes ∷ calls) c = MayLeave calls c
-  MayLeave (Written sector bytes ∷ calls) c = (d : List Cell) × MayLeave calls d × MayWrite sector bytes.value d c
-  MayLeave (Refused sector bytes ∷ calls) c = (d : List Cell) × MayLeave calls d × MayWrite sector bytes.value d c
+  MayLeave (Written sector bytes ∷ calls) c = (d : List Cell) × MayLeave calls d × MayWriteUnit fate.unit sector bytes d c
+  MayLeave (Refused sector bytes ∷ calls) c = (d : List Cell) × MayLeave calls d × MayWriteUnit fate.unit sector bytes d c
   MayLeave (Synced ∷ calls) c = c ≡ content_after calls
-  MayLeave (Failed ∷ calls) c = MayLeave calls c
+  MayLeave (FailedRead ∷ calls) c = MayLeave calls c
+  MayLeave (FailedSync ∷ calls) c = MayLeave calls c
 
   -- what a stop after one of these calls, from the t-th on, might have left
   abbrev pub LeftSince : List Call → ℕ → List Cell → Type 0
-  LeftSince [] t c = (t ≤ 0) × MayLeave [] c
-  LeftSince (call ∷ calls) t c = ((t ≤ length (call ∷ calls)) × MayLeave (call ∷ calls) c) ⊎ LeftSince calls t c
+  LeftSince = AtSince MayLeave
 
   -- each read that succeeded gave what the file holds by this reckoning
   abbrev pub AreAnswers : List Call → Type 0
   AreAnswers [] = Unit {0}
-  AreAnswers (Given sector bytes ∷ calls) = AreAnswers calls × (cell_at (content_after calls) sector ≡ Some bytes.value)
+  AreAnswers (Given sector bytes ∷ calls) = AreAnswers calls × (cell_at (content_after calls) sector ≡ Some bytes)
   AreAnswers (Written sector bytes ∷ calls) = AreAnswers calls
   AreAnswers (Refused sector bytes ∷ calls) = AreAnswers calls
   AreAnswers (Synced ∷ calls) = AreAnswers calls
-  AreAnswers (Failed ∷ calls) = AreAnswers calls
+  AreAnswers (FailedRead ∷ calls) = AreAnswers calls
+  AreAnswers (FailedSync ∷ calls) = AreAnswers calls
 
 abbrev pub failures_in : List Call → ℕ
 failures_in [] = 0
@@ -58,16 +78,28 @@ failures_in (Given sector bytes ∷ calls) = failures_in calls
 failures_in (Written sector bytes ∷ calls) = failures_in calls
 failures_in (Refused sector bytes ∷ calls) = failures_in calls + 1
 failures_in (Synced ∷ calls) = failures_in calls
-failures_in (Failed ∷ calls) = failures_in calls + 1
+failures_in (FailedRead ∷ calls) = failures_in calls + 1
+failures_in (FailedSync ∷ calls) = failures_in calls + 1
+
+-- how many of them were writes and syncs
+abbrev pub failed_orders_in : List Call → ℕ
+failed_orders_in [] = 0
+failed_orders_in (Given sector bytes ∷ calls) = failed_orders_in calls
+failed_orders_in (Written sector bytes ∷ calls) = failed_orders_in calls
+failed_orders_in (Refused sector bytes ∷ calls) = failed_orders_in calls + 1
+failed_orders_in (Synced ∷ calls) = failed_orders_in calls
+failed_orders_in (FailedRead ∷ calls) = failed_orders_in calls
+failed_orders_in (FailedSync ∷ calls) = failed_orders_in calls + 1
 
 -- the writes, done or failed, and the syncs that succeeded
 abbrev pub orders_in : List Call → List Order
 orders_in [] = []
 orders_in (Given sector bytes ∷ calls) = orders_in calls
-orders_in (Written sector bytes ∷ calls) = order.Write sector bytes.value ∷ orders_in calls
-orders_in (Refused sector bytes ∷ calls) = order.Write sector bytes.value ∷ orders_in calls
+orders_in (Written sector bytes ∷ calls) = order.Write sector bytes ∷ orders_in calls
+orders_in (Refused sector bytes ∷ calls) = order.Write sector bytes ∷ orders_in calls
 orders_in (Synced ∷ calls) = order.Sync ∷ orders_in calls
-orders_in (Failed ∷ calls) = orders_in calls
+orders_in (FailedRead ∷ calls) = orders_in calls
+orders_in (FailedSync ∷ calls) = orders_in calls
 
 abbrev pub file_state : (n : ℕ) → Fate n → List Call → DeviceState
 file_state n fate calls = record {
@@ -76,26 +108,70 @@ file_state n fate calls = record {
   may_leave = MayLeave fate calls;
   moment = length calls;
   left_since = LeftSince fate calls;
+  left_until = AtUntil (MayLeave fate) calls;
+  unit = fate.unit;
   failures = failures_in calls;
+  failed_orders = failed_orders_in calls;
   keeps_model = AreAnswers fate calls;
+  kept_until = HoldsUntil (AreAnswers fate) calls;
   start = fate.content;
   told = orders_in calls;
+  bears = λ n. ⊥;
 }
 
 -- the bytes of each write are a sector's
 abbrev pub AreWhole : List Call → Type 0
 AreWhole [] = Unit {0}
-AreWhole (Written sector bytes ∷ calls) = AreSectorBytes bytes.value × AreWhole calls
-AreWhole (Refused sector bytes ∷ calls) = AreSectorBytes bytes.value × AreWhole calls
+AreWhole (Written sector bytes ∷ calls) = AreSectorBytes bytes × AreWhole calls
+AreWhole (Refused sector bytes ∷ calls) = AreSectorBytes bytes × AreWhole calls
 AreWhole (call ∷ calls) = AreWhole calls
 
-pub AreWhole-prop : (calls : List Call) → IsProp (AreWhole calls)
-AreWhole-prop [] = Prim.hlevel
-AreWhole-prop (Given sector bytes ∷ calls) = AreWhole-prop calls
-AreWhole-prop (Written sector bytes ∷ calls) = Prim.hlevel (bytes_prop, AreWhole-prop calls)
-AreWhole-prop (Refused sector bytes ∷ calls) = Prim.hlevel (bytes_prop, AreWhole-prop calls)
-AreWhole-prop (Synced ∷ calls) = AreWhole-prop calls
-AreWhole-prop (Failed ∷ calls) = AreWhole-prop calls
+-- sectors that are spoiled
+size_spoiled : (these : ℕ → Bool) (content : List Cell) → length (spoil these content) ≡ length content
+size_spoiled these [] = refl
+size_spoiled these (x ∷ content) = ap (λ (l : ℕ). suc l) (size_spoiled (λ k. these (suc k)) content)
+
+is_sector_or_none : (bad : Bool) (x : Cell) → IsSector x → IsSector (if bad then None else x)
+is_sector_or_none true x has = tt
+is_sector_or_none false x has = has
+
+cells_spoiled : (these : ℕ → Bool) (content : List Cell) → AllByRecursion IsSector content → AllByRecursion IsSector (spoil these content)
+cells_spoiled these [] all = tt
+cells_spoiled these (x ∷ content) all = (is_sector_or_none (these 0) x all.0, cells_spoiled (λ k. these (suc k)) content all.1)
+
+either_way : (bad : Bool) (x : Cell) → x ≡ (if bad then x else x)
+either_way true x = refl
+either_way false x = refl
+
+cell_spoiled : (these : ℕ → Bool) (content : List Cell) (k : ℕ)
+    → cell_at (spoil these content) k ≡ (if these k then None else cell_at content k)
+cell_spoiled these [] k = either_way (these k) None
+cell_spoiled these (x ∷ content) zero = refl
+cell_spoiled these (x ∷ content) (suc k) = cell_spoiled (λ j. these (suc j)) content k
+
+same_or_none : (bad : Bool) (x : Cell) → ((if bad then None else x) ≡ x) ⊎ ((if bad then None else x) ≡ None)
+same_or_none true x = inr refl
+same_or_none false x = inl refl
+
+-- a write after others of its unit were spoiled
+module _ (unit : ℕ → ℕ) (sector : ℕ) (bytes : List ℕ) (these : ℕ → Bool) (content new : List Cell) where
+  spoiled_too : these sector ≡ false → ((k : ℕ) → (unit k ≡ unit sector → ⊥) → these k ≡ false)
+      → MayWriteUnit unit sector bytes (spoil these content) new → MayWriteUnit unit sector bytes content new
+  spoiled_too own others may = record {
+    size = may.size ∙ size_spoiled these content;
+    own = elim may.own [ inl is ↦ inl (is ∙ same sector own) | inr is ↦ inr is ];
+    beside = λ k e ne. elim (may.beside k e ne) [
+      | inl is ↦ elim (same_or_none (these k) (cell_at content k)) [
+        | inl kept ↦ inl (is ∙ cell_spoiled these content k ∙ kept)
+        | inr lost ↦ inr (is ∙ cell_spoiled these content k ∙ lost)
+      ]
+      | inr is ↦ inr is
+    ];
+    others = λ k ne. may.others k ne ∙ same k (others k ne);
+  }
+    where
+      same : (k : ℕ) → these k ≡ false → cell_at (spoil these content) k ≡ cell_at content k
+      same k is = cell_spoiled these content k ∙ ap (λ (bad : Bool). if bad then None else cell_at content k) is
 
 -- a failed write
 size_refused : (outcome : Left) (sector : ℕ) (bytes : List ℕ) (content : List Cell)
@@ -117,77 +193,85 @@ written_refused Old sector bytes content = left_old refl
 written_refused New sector bytes content = left_new refl
 written_refused Bad sector bytes content = left_bad refl
 
+module _ {n : ℕ} (fate : Fate n) (call sector : ℕ) (bytes : List ℕ) (content : List Cell) where
+  own_unspoiled : is_spoiled fate call sector sector ≡ false
+  own_unspoiled = ap₂ (λ (u s : Bool). u && not s && fate.spoils call sector) (eq-eqb (fate.unit sector) (fate.unit sector) refl)
+      (eq-eqb sector sector refl)
+
+  others_unspoiled : (k : ℕ) → (fate.unit k ≡ fate.unit sector → ⊥) → is_spoiled fate call sector k ≡ false
+  others_unspoiled k ne = ap (λ (u : Bool). u && not (k == sector) && fate.spoils call k) (ne_eqb (fate.unit k) (fate.unit sector) ne)
+
+  pub may_after_refusal : MayWriteUnit fate.unit sector bytes content (after_refusal fate call sector bytes content)
+  may_after_refusal =
+      spoiled_too fate.unit sector bytes (is_spoiled fate call sector) content (after_refusal fate call sector bytes content)
+      own_unspoiled others_unspoiled
+      (to_unit fate.unit sector bytes _ _ (written_refused (fate.outcome call) sector bytes (spoil (is_spoiled fate call sector) content)))
+
 module _ {n : ℕ} (fate : Fate n) where
   size_after : (calls : List Call) → length (content_after fate calls) ≡ n
   size_after [] = fate.size
   size_after (Given sector bytes ∷ calls) = size_after calls
   size_after (Written sector bytes ∷ calls) = length-set (content_after fate calls) sector _ ∙ size_after calls
-  size_after (Refused sector bytes ∷ calls) = size_refused (fate.outcome (length calls)) sector bytes.value (content_after fate calls)
-      ∙ size_after calls
+  size_after (Refused sector bytes ∷ calls) = size_refused (fate.outcome (length calls)) sector bytes _
+      ∙ size_spoiled (is_spoiled fate (length calls) sector) (content_after fate calls) ∙ size_after calls
   size_after (Synced ∷ calls) = size_after calls
-  size_after (Failed ∷ calls) = size_after calls
+  size_after (FailedRead ∷ calls) = size_after calls
+  size_after (FailedSync ∷ calls) = size_after calls
 
   cells_after : (calls : List Call) → AreWhole calls → AllByRecursion IsSector (content_after fate calls)
   cells_after [] whole = fate.now
   cells_after (Given sector bytes ∷ calls) whole = cells_after calls whole
   cells_after (Written sector bytes ∷ calls) whole =
-      all_set IsSector (content_after fate calls) sector (Some bytes.value) whole.0 (cells_after calls whole.1)
+      all_set IsSector (content_after fate calls) sector (Some bytes) whole.0 (cells_after calls whole.1)
   cells_after (Refused sector bytes ∷ calls) whole =
-      cells_refused (fate.outcome (length calls)) sector bytes.value (content_after fate calls) whole.0 (cells_after calls whole.1)
+      cells_refused (fate.outcome (length calls)) sector bytes _ whole.0
+      (cells_spoiled (is_spoiled fate (length calls) sector) (content_after fate calls) (cells_after calls whole.1))
   cells_after (Synced ∷ calls) whole = cells_after calls whole
-  cells_after (Failed ∷ calls) whole = cells_after calls whole
+  cells_after (FailedRead ∷ calls) whole = cells_after calls whole
+  cells_after (FailedSync ∷ calls) whole = cells_after calls whole
 
   sizes_left : (calls : List Call) (c : List Cell) → MayLeave fate calls c → length c ≡ n
   sizes_left [] c left = fate.sizes c left
   sizes_left (Given sector bytes ∷ calls) c left = sizes_left calls c left
-  sizes_left (Written sector bytes ∷ calls) c left = size_written sector bytes.value left.0 c left.2 ∙ sizes_left calls left.0 left.1
-  sizes_left (Refused sector bytes ∷ calls) c left = size_written sector bytes.value left.0 c left.2 ∙ sizes_left calls left.0 left.1
+  sizes_left (Written sector bytes ∷ calls) c left = (let may = left.2 in may.size) ∙ sizes_left calls left.0 left.1
+  sizes_left (Refused sector bytes ∷ calls) c left = (let may = left.2 in may.size) ∙ sizes_left calls left.0 left.1
   sizes_left (Synced ∷ calls) c left = ap (λ (l : List Cell). length l) left ∙ size_after calls
-  sizes_left (Failed ∷ calls) c left = sizes_left calls c left
+  sizes_left (FailedRead ∷ calls) c left = sizes_left calls c left
+  sizes_left (FailedSync ∷ calls) c left = sizes_left calls c left
 
   cells_left : (calls : List Call) → AreWhole calls → (c : List Cell) → MayLeave fate calls c → AllByRecursion IsSector c
   cells_left [] whole c left = fate.cells c left
   cells_left (Given sector bytes ∷ calls) whole c left = cells_left calls whole c left
   cells_left (Written sector bytes ∷ calls) whole c left =
-      cells_written sector bytes.value left.0 c whole.0 (cells_left calls whole.1 left.0 left.1) left.2
+      unit_cells fate.unit sector bytes left.0 c whole.0 (cells_left calls whole.1 left.0 left.1) left.2
   cells_left (Refused sector bytes ∷ calls) whole c left =
-      cells_written sector bytes.value left.0 c whole.0 (cells_left calls whole.1 left.0 left.1) left.2
+      unit_cells fate.unit sector bytes left.0 c whole.0 (cells_left calls whole.1 left.0 left.1) left.2
   cells_left (Synced ∷ calls) whole c left = subst (AllByRecursion IsSector) (sym left) (cells_after calls whole)
-  cells_left (Failed ∷ calls) whole c left = cells_left calls whole c left
+  cells_left (FailedRead ∷ calls) whole c left = cells_left calls whole c left
+  cells_left (FailedSync ∷ calls) whole c left = cells_left calls whole c left
 
   pub present_left : (calls : List Call) → MayLeave fate calls (content_after fate calls)
   present_left [] = fate.present
   present_left (Given sector bytes ∷ calls) = present_left calls
-  present_left (Written sector bytes ∷ calls) = (content_after fate calls, present_left calls, left_new refl)
+  present_left (Written sector bytes ∷ calls) =
+      (content_after fate calls, present_left calls, to_unit fate.unit sector bytes _ _ (left_new refl))
   present_left (Refused sector bytes ∷ calls) = (
     content_after fate calls,
     present_left calls,
-    written_refused (fate.outcome (length calls)) sector bytes.value (content_after fate calls),
+    may_after_refusal fate (length calls) sector bytes (content_after fate calls),
   )
   present_left (Synced ∷ calls) = refl
-  present_left (Failed ∷ calls) = present_left calls
+  present_left (FailedRead ∷ calls) = present_left calls
+  present_left (FailedSync ∷ calls) = present_left calls
 
-  counts_left : (calls : List Call) (t : ℕ) (c : List Cell) → t ≤ length calls → MayLeave fate calls c → LeftSince fate calls t c
-  counts_left [] t c le left = (le, left)
-  counts_left (call ∷ calls) t c le left = inl (le, left)
-
-  -- the states before the last call come to an end
-  ended : (calls : List Call) (t : ℕ) (c : List Cell) → LeftSince fate calls t c → t ≤ length calls
-  ended [] t c left = left.0
-  ended (call ∷ calls) t c (inl here) = here.0
-  ended (call ∷ calls) t c (inr there) = omega (arith, ended calls t c there)
-
-  only_left : (calls : List Call) (c : List Cell) → LeftSince fate calls (length calls) c → MayLeave fate calls c
-  only_left [] c left = left.1
-  only_left (call ∷ calls) c (inl here) = here.1
-  only_left (call ∷ calls) c (inr there) = let late : length (call ∷ calls) ≤ length calls = ended calls (length (call ∷ calls)) c there in
-      absurd (omega arith)
-
-pub earlier_file : {n : ℕ} (fate : Fate n) (calls : List Call) (t u : ℕ) (c : List Cell) → t ≤ u → LeftSince fate calls u c
-    → LeftSince fate calls t c
-earlier_file fate [] t u c le left = ((let was = left.0 in omega (arith, le, was)), left.1)
-earlier_file fate (call ∷ calls) t u c le (inl now) = inl ((let was = now.0 in omega (arith, le, was)), now.1)
-earlier_file fate (call ∷ calls) t u c le (inr then') = inr (earlier_file fate calls t u c le then')
+-- those before a call were answers too
+pub answered : {n : ℕ} (fate : Fate n) (call : Call) (calls : List Call) → AreAnswers fate (call ∷ calls) → AreAnswers fate calls
+answered fate (Given sector bytes) calls are = are.0
+answered fate (Written sector bytes) calls are = are
+answered fate (Refused sector bytes) calls are = are
+answered fate Synced calls are = are
+answered fate FailedRead calls are = are
+answered fate FailedSync calls are = are
 
 pub file_lawful : (n : ℕ) (fate : Fate n) (calls : List Call) → n < 2 ^ 32 → AreWhole calls → IsLawful (file_state n fate calls)
 file_lawful n fate calls fits whole = record {
@@ -197,7 +281,10 @@ file_lawful n fate calls fits whole = record {
   now = cells_after fate calls whole;
   cells = cells_left fate calls whole;
   present = λ keeps. present_left fate calls;
-  counts_now = counts_left fate calls;
-  only_now = only_left fate calls;
-  earlier = earlier_file fate calls;
+  counts_now = counts_at (MayLeave fate) calls;
+  only_now = only_at (MayLeave fate) calls;
+  kept_now = holds_end (AreAnswers fate) (answered fate) calls;
+  kept_earlier = holds_earlier (AreAnswers fate) calls;
+  until_now = λ t c le. until_end (MayLeave fate) calls t c;
+  earlier = earlier_at (MayLeave fate) calls;
 }

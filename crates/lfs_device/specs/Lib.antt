@@ -3,8 +3,12 @@ pub mod Fate
 pub mod File
 pub mod FileDevice
 pub mod History
+pub mod HostCall
+pub mod HostFile
 pub mod Memory
 pub mod MemoryDevice
+pub mod Placed
 pub mod Rows
 pub mod Told
+pub mod Units
 pub mod Unsynced

@@ -1,6 +1,6 @@
 // What a layer above may know of a device.
 ghost use Rattle.std.specs.Prelude.{◌≡◌, ◌<◌, ◌≤◌, ◌∷◌, ℕ, List, Some, None, IsOk, OnOk, OnErr, IsErrOf};
-ghost use Rattle.lfs_model.specs.Device.{DeviceState, cell_at, put, MayWrite, Only, Carries, Elapses, IsUntouched, CrashWrites, IsLawful, MayTell};
+ghost use Rattle.lfs_model.specs.Device.{DeviceState, cell_at, put, MayWriteUnit, Only, Carries, Elapses, IsUntouched, CrashWritesUnit, IsLawful, MayTell, BearsAll};
 ghost use Rattle.lfs_model.specs.declared.Order.TheVariants as order;
 
 /// Why a read gives no bytes.
@@ -20,9 +20,12 @@ pub struct DeviceFault;
 /// `sectors()`.
 ///
 /// What is said of contents holds where the device keeps the device model after the call, and then
-/// it kept it before. A stop, within a call or between two, leaves each sector by itself as it was
-/// at the last sync that succeeded, with the bytes of any write to it since, done or failed, or, if
-/// it was written since, unreadable.
+/// it kept it before. A device writes units, which may be larger than a sector. A stop, within a
+/// call or between two, leaves each sector by itself as it was at the last sync that succeeded, with
+/// the bytes of any write to it since, done or failed, or, if a sector of its unit was written
+/// since, unreadable.
+///
+/// A device may tell how many orders it bears: no call fails while fewer writes and syncs were told.
 pub trait SectorDevice {
     ghost state: { Self → DeviceState };
 
@@ -47,6 +50,8 @@ pub trait SectorDevice {
         ensures no_failure { OnOk result ((state self.new).failures ≡ (state self.old).failures) }
         ensures no_failure_unreadable { IsErrOf result ReadFault.Unreadable
             → (state self.new).failures ≡ (state self.old).failures }
+        ensures no_order { (state self.new).failed_orders ≡ (state self.old).failed_orders }
+        ensures borne { IsErrOf result ReadFault.Failed → BearsAll (state self.old) }
         ensures untouched { IsUntouched (state self.old) (state self.new) }
         ensures carries { Carries (state self.old) (state self.new) }
         ensures time { Elapses (state self.old) (state self.new) }
@@ -56,16 +61,20 @@ pub trait SectorDevice {
     ///
     /// # Errors
     ///
-    /// The fault where the call failed: the sector is as it was, has the bytes, or is unreadable.
-    /// It raises the failure count.
+    /// The fault where the call failed: the sector is as it was, has the bytes, or is unreadable,
+    /// and other sectors of its unit are as they were or unreadable. It raises the failure counts.
     fn write(&mut self, sector: u32, bytes: &[u8; 512]) -> Result<(), DeviceFault>
         requires { sector < (state self.old).size }
         ensures written { OnOk result ((state self.new).keeps_model
             → (state self.new).content ≡ put (state self.old).content sector bytes.now) }
         ensures failed_write { OnErr result ((state self.new).keeps_model
-            → MayWrite sector bytes.now (state self.old).content (state self.new).content) }
-        ensures crash { CrashWrites sector bytes.now (state self.old) (state self.new) }
+            → MayWriteUnit (state self.old).unit sector bytes.now
+            (state self.old).content (state self.new).content) }
+        ensures crash { CrashWritesUnit sector bytes.now (state self.old) (state self.new) }
         ensures failed { OnErr result ((state self.old).failures < (state self.new).failures) }
+        ensures failed_order { OnErr result
+            ((state self.old).failed_orders < (state self.new).failed_orders) }
+        ensures borne { OnErr result (BearsAll (state self.old)) }
         ensures no_failure { OnOk result ((state self.new).failures ≡ (state self.old).failures) }
         ensures carries { Carries (state self.old) (state self.new) }
         ensures time { Elapses (state self.old) (state self.new) }
@@ -85,9 +94,13 @@ pub trait SectorDevice {
         ensures written { OnOk result ((state self.new).keeps_model
             → (state self.new).content ≡ put (state self.old).content sector bytes.now) }
         ensures failed_write { OnErr result ((state self.new).keeps_model
-            → MayWrite sector bytes.now (state self.old).content (state self.new).content) }
-        ensures crash { CrashWrites sector bytes.now (state self.old) (state self.new) }
+            → MayWriteUnit (state self.old).unit sector bytes.now
+            (state self.old).content (state self.new).content) }
+        ensures crash { CrashWritesUnit sector bytes.now (state self.old) (state self.new) }
         ensures failed { OnErr result ((state self.old).failures < (state self.new).failures) }
+        ensures failed_order { OnErr result
+            ((state self.old).failed_orders < (state self.new).failed_orders) }
+        ensures borne { OnErr result (BearsAll (state self.old)) }
         ensures no_failure { OnOk result ((state self.new).failures ≡ (state self.old).failures) }
         ensures carries { Carries (state self.old) (state self.new) }
         ensures time { Elapses (state self.old) (state self.new) }
@@ -103,11 +116,14 @@ pub trait SectorDevice {
     ///
     /// # Errors
     ///
-    /// The fault where the call failed: what was unsynced stays so. It raises the failure count.
+    /// The fault where the call failed: what was unsynced stays so. It raises the failure counts.
     fn sync(&mut self) -> Result<(), DeviceFault>
         ensures durable { OnOk result ((state self.new).keeps_model
             → Only (state self.new).content (state self.new)) }
         ensures failed { OnErr result ((state self.old).failures < (state self.new).failures) }
+        ensures failed_order { OnErr result
+            ((state self.old).failed_orders < (state self.new).failed_orders) }
+        ensures borne { OnErr result (BearsAll (state self.old)) }
         ensures no_failure { OnOk result ((state self.new).failures ≡ (state self.old).failures) }
         ensures untouched { IsUntouched (state self.old) (state self.new) }
         ensures carries { Carries (state self.old) (state self.new) }

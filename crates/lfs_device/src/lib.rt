@@ -4,11 +4,14 @@
 mod bench;
 mod device;
 mod file;
-mod history;
+mod host;
 mod memory;
 mod rows;
+mod sector_calls;
+mod sectors;
 mod tended;
 mod told;
+mod units;
 mod unsynced;
 mod world;
 
@@ -17,5 +20,6 @@ pub use device::{DeviceFault, ReadFault, SectorDevice};
 pub use file::{FileDevice, FileDeviceIn};
 pub use memory::{MemDevice, NoMemory};
 pub use rows::Left;
+pub use sectors::{InSectors, SectorUnits};
 pub use tended::TendedDevice;
 pub use world::{ThisWorld, World};

@@ -8,11 +8,13 @@ ghost use Rattle.lfs_device.specs.Unsynced.{IsUnsyncedList, IsUnsyncedList-prop}
 ghost use Rattle.std.specs.List.{AllByRecursion};
 
 use crate::bench::{Bench, DeviceCall};
-use crate::rows::{Count, Left, Past, Row, add_one, note, stands, stop_rows};
+use crate::rows::{Count, Left, Past, Row, add_one, choose_rows, note, stands};
 use crate::told::{Told, tell_sync, tell_write};
+use crate::units::{Units, spoil};
 use crate::unsynced::{let_go, list_sector, settle};
 use crate::{DeviceFault, ReadFault, SectorDevice};
 use std::alloc::{AllocError, Global};
+use std::num::NonZeroU32;
 use std::snapshot::Snapshot;
 
 /// There is no memory for the device.
@@ -25,18 +27,21 @@ impl From<AllocError> for NoMemory {
     }
 }
 
-/// A device in memory, which always keeps the device model. No method but `new` takes memory.
+/// A device in memory, which always keeps the device model. No method but `new` and `with_unit`
+/// takes memory.
 ///
-/// By its contract a stop may leave all that the model allows: of a sector that was written several
-/// times since the last sync, the bytes of each of these writes, done or failed. `crash` and
-/// `crash_each` leave what it held at that sync, the bytes of the last of these writes, or nothing
-/// that can be read: the bytes of the earlier ones aren't kept.
+/// By its contract a stop may leave all that the model allows. Of a sector that was written several
+/// times since the last sync, that is the bytes of any of these writes, done or failed, and each
+/// sector of its unit may be unreadable. `crash` and `crash_each` leave what it held at that sync,
+/// the bytes of the last of these writes, or its whole unit unreadable. The bytes of the earlier
+/// writes aren't kept.
 #[derive(Drop)]
 pub struct MemDevice {
     rows: Vec<Row>,
     /// The sectors that were written since the last sync, each once.
     unsynced: Vec<u32>,
     sectors: u32,
+    units: Units,
     ghost sized: { sectors ≡ length rows.items },
     ghost fits: { length rows.items < 2 ^ 32 },
     ghost whole: { AreSectorRows rows.items } by { AreWhole-prop rows.items },
@@ -46,22 +51,49 @@ pub struct MemDevice {
     past: Snapshot<Past>,
     ghost were_whole: { AllByRecursion AreSectorRows (states_of past.value) } by { AreAllWhole-prop (states_of past.value) },
     failed: Snapshot<Count>,
+    /// How many of the calls that failed were writes and syncs.
+    failed_orders: Snapshot<Count>,
     told: Snapshot<Told>,
 }
 
 impl MemDevice {
     ghost use Rattle.lfs_model.specs.declared.limits.TheConstants.{SECTOR_LEN};
-    ghost use Rattle.lfs_model.specs.Device.{lose};
+    ghost use Rattle.std.specs.Int.NonZero.{non_zero_u32_get};
+    ghost use Rattle.lfs_model.specs.Device.{AreSectors, lose};
     ghost use Rattle.lfs_device.specs.Bench.{no_faults, with_fault};
     ghost use Rattle.lfs_device.specs.MemoryDevice.{IsStopped, device_state, bench_of, with_bench};
+    ghost use Rattle.lfs_device.specs.Units.{unit_from};
 
-    /// A device of this many sectors, all zeros and synced. The memory for every later call is
-    /// taken here.
+    /// A device of this many sectors, all zeros and synced, each of which is a unit by itself. The
+    /// memory for every later call is taken here.
     pub fn new(alloc: Global, sectors: u32) -> Result<MemDevice, NoMemory>
         ensures size { IfOk result (λ d. (device_state d).size ≡ sectors) }
         ensures zeros { IfOk result
             (λ d. (device_state d).content ≡ replicate sectors (Some (replicate SECTOR_LEN 0))) }
         ensures durable { IfOk result (λ d. Only (device_state d).content (device_state d)) }
+        ensures units { IfOk result (λ d. AreSectors (device_state d).unit) }
+        ensures unit { IfOk result (λ d. (device_state d).unit ≡ (λ k. k)) }
+        ensures told { IfOk result (λ d. (device_state d).told ≡ []) }
+        ensures bench { IfOk result (λ d. bench_of d ≡ no_faults) }
+        ensures keeps { IfOk result (λ d. (device_state d).keeps_model) }
+    {
+        MemDevice::with_unit(alloc, sectors, NonZeroU32::MIN, 0)
+    }
+
+    /// As `new`, for a device whose units have this many sectors. The first of them begins at the
+    /// sector `first`, and each sector below that is a unit by itself. The last may be cut off.
+    pub fn with_unit(
+        alloc: Global,
+        sectors: u32,
+        unit: NonZeroU32,
+        first: u32,
+    ) -> Result<MemDevice, NoMemory>
+        ensures size { IfOk result (λ d. (device_state d).size ≡ sectors) }
+        ensures zeros { IfOk result
+            (λ d. (device_state d).content ≡ replicate sectors (Some (replicate SECTOR_LEN 0))) }
+        ensures durable { IfOk result (λ d. Only (device_state d).content (device_state d)) }
+        ensures unit { IfOk result
+            (λ d. (device_state d).unit ≡ unit_from (non_zero_u32_get unit) first) }
         ensures told { IfOk result (λ d. (device_state d).told ≡ []) }
         ensures bench { IfOk result (λ d. bench_of d ≡ no_faults) }
         ensures keeps { IfOk result (λ d. (device_state d).keeps_model) }
@@ -71,9 +103,14 @@ impl MemDevice {
             rows: Vec::from_elem(alloc, stands(zeros), sectors as usize)?,
             unsynced: Vec::with_capacity(alloc, sectors as usize)?,
             sectors,
+            units: Units {
+                sectors: unit,
+                first,
+            },
             bench: Bench::new(),
             past: Snapshot::of(&Past::Start),
             failed: Snapshot::of(&Count::Zero),
+            failed_orders: Snapshot::of(&Count::Zero),
             told: Snapshot::of(&Told::Nothing),
         })
     }
@@ -112,13 +149,15 @@ impl MemDevice {
         ensures { IsStopped choices.now rest self.old self.new }
     {
         note(&self.rows, &mut self.past);
-        stop_rows(&mut self.rows, choices, rest);
+        choose_rows(&mut self.rows, choices, rest);
+        spoil(&mut self.rows, &self.unsynced, self.units);
         self.unsynced.clear();
         self.bench.stop = None;
         self.bench.stopped = false;
     }
 
-    /// Stops the device, which leaves this of each unsynced sector. It goes on from what was left.
+    /// Stops the device, which leaves this of each unsynced sector. Where that is `Bad`, each other
+    /// sector of its unit is unreadable too. It goes on from what was left.
     pub fn crash(&mut self, left: Left)
         ensures { IsStopped [] left self.old self.new }
     {
@@ -133,7 +172,7 @@ impl MemDevice {
         self.stop(left, Left::Old);
     }
 
-    /// Makes a sector unreadable, durably, as no device of the model does.
+    /// Makes a sector alone unreadable, durably, as no device of the model does.
     pub fn set_unreadable(&mut self, sector: u32)
         requires { sector < (device_state self.old).size }
         ensures lost { (device_state self.new).content ≡ lose
@@ -155,14 +194,15 @@ impl MemDevice {
 
 impl SectorDevice for MemDevice {
     ghost use Rattle.std.specs.Prelude.{◌∷◌, ◌↔◌, OnOk, OnErr, IsErr, IsErrOf, IsTrue};
-    ghost use Rattle.lfs_model.specs.Device.{cell_at, put, MayWrite, IsUntouched, CrashWrites, CrashSpreads, MayTell};
+    ghost use Rattle.lfs_model.specs.Device.{cell_at, put, MayWriteUnit, IsUntouched, CrashWritesUnit, CrashSpreads, MayTell, BearsAll};
     ghost use Rattle.lfs_model.specs.declared.Order.TheVariants as order;
     ghost use Rattle.lfs_device.specs.Bench.{fails_at, after_call};
     ghost use Rattle.lfs_device.specs.MemoryDevice.{device_state, rows_of, bench_of};
+    ghost use Rattle.lfs_device.specs.Units.{unit_of};
 
     ghost state = { device_state };
 
-    ghost lawful = { λ d. memory_lawful d.rows.items (states_of d.past.value) d.failed.value (orders_of d.told.value) d.fits d.whole d.were_whole };
+    ghost lawful = { λ d. memory_lawful (unit_of d.units) d.rows.items (states_of d.past.value) d.failed.value d.failed_orders.value (orders_of d.told.value) d.bench d.fits d.whole d.were_whole };
 
     fn sectors(&self) -> u32 {
         self.sectors
@@ -181,6 +221,9 @@ impl SectorDevice for MemDevice {
             ((device_state self.new).failures ≡ (device_state self.old).failures) }
         ensures no_failure_unreadable { IsErrOf result ReadFault.Unreadable
             → (device_state self.new).failures ≡ (device_state self.old).failures }
+        ensures no_order { (device_state self.new).failed_orders
+            ≡ (device_state self.old).failed_orders }
+        ensures borne { IsErrOf result ReadFault.Failed → BearsAll (device_state self.old) }
         ensures untouched { IsUntouched (device_state self.old) (device_state self.new) }
         ensures carries { Carries (device_state self.old) (device_state self.new) }
         ensures time { Elapses (device_state self.old) (device_state self.new) }
@@ -210,12 +253,15 @@ impl SectorDevice for MemDevice {
             → (device_state self.new).content ≡ put
             (device_state self.old).content sector bytes.now) }
         ensures failed_write { OnErr result ((device_state self.new).keeps_model
-            → MayWrite sector bytes.now (device_state self.old).content
-            (device_state self.new).content) }
-        ensures crash { CrashWrites sector bytes.now
+            → MayWriteUnit (device_state self.old).unit sector bytes.now
+            (device_state self.old).content (device_state self.new).content) }
+        ensures crash { CrashWritesUnit sector bytes.now
             (device_state self.old) (device_state self.new) }
         ensures failed { OnErr result
             ((device_state self.old).failures < (device_state self.new).failures) }
+        ensures failed_order { OnErr result
+            ((device_state self.old).failed_orders < (device_state self.new).failed_orders) }
+        ensures borne { OnErr result (BearsAll (device_state self.old)) }
         ensures no_failure { OnOk result
             ((device_state self.new).failures ≡ (device_state self.old).failures) }
         ensures carries { Carries (device_state self.old) (device_state self.new) }
@@ -240,6 +286,7 @@ impl SectorDevice for MemDevice {
         row.written = Some(*bytes);
         if fails {
             add_one(&mut self.failed);
+            add_one(&mut self.failed_orders);
             return Err(DeviceFault);
         }
         row.present = Some(*bytes);
@@ -251,6 +298,9 @@ impl SectorDevice for MemDevice {
             → Only (device_state self.new).content (device_state self.new)) }
         ensures failed { OnErr result
             ((device_state self.old).failures < (device_state self.new).failures) }
+        ensures failed_order { OnErr result
+            ((device_state self.old).failed_orders < (device_state self.new).failed_orders) }
+        ensures borne { OnErr result (BearsAll (device_state self.old)) }
         ensures no_failure { OnOk result
             ((device_state self.new).failures ≡ (device_state self.old).failures) }
         ensures untouched { IsUntouched (device_state self.old) (device_state self.new) }
@@ -267,6 +317,7 @@ impl SectorDevice for MemDevice {
     {
         if self.bench.call(DeviceCall::Sync) {
             add_one(&mut self.failed);
+            add_one(&mut self.failed_orders);
             return Err(DeviceFault);
         }
         note(&self.rows, &mut self.past);

@@ -1,7 +1,7 @@
 // What a memory device keeps of each sector, and what only clauses see.
 ghost use Rattle.std.specs.Prelude.{◌≡◌, ◌+◌, ◌∷◌, List, None};
 ghost use Rattle.lfs_device.specs.declared.rows.Row.{Row};
-ghost use Rattle.lfs_device.specs.Rows.{states_of, count, stopped, chosen, stands_at};
+ghost use Rattle.lfs_device.specs.Rows.{states_of, count, chosen_row, chosen_rows, stands_at};
 
 use std::mem;
 use std::snapshot::Snapshot;
@@ -50,27 +50,27 @@ pub(crate) fn add_one(number: &mut Snapshot<Count>)
     *number = Snapshot::of(&Count::Next(before));
 }
 
-/// What a stop leaves of an unsynced sector.
+/// What a stop leaves of an unsynced sector, unless it spoils the sector's unit.
 #[derive(Clone, Copy, Debug, PartialEq, Eq)]
 pub enum Left {
     /// What it held at the last sync that succeeded.
     Old,
     /// The bytes of the last write to it since, done or failed.
     New,
-    /// Nothing that can be read.
+    /// Nothing that can be read. That spoils its unit: no other sector of it can be read either.
     Bad,
 }
 
-fn stop_row(row: Row, choices: &[Left], rest: Left) -> (Row, &[Left])
-    ensures { (rows : List Row) → stopped choices.now rest
-        (row ∷ rows) ≡ result.0 ∷ stopped result.1.now rest rows }
+fn choose_row(row: Row, choices: &[Left], rest: Left) -> (Row, &[Left])
+    ensures { (rows : List Row) → chosen_rows choices.now rest
+        (row ∷ rows) ≡ result.0 ∷ chosen_rows result.1.now rest rows }
 {
     if row.written.is_none() {
         return (stands(row.present), choices);
     }
     match choices {
-        [choice, others @ ..] => (stands(choose(row, *choice)), others),
-        [] => (stands(choose(row, rest)), choices),
+        [choice, others @ ..] => (choose(row, *choice), others),
+        [] => (choose(row, rest), choices),
     }
 }
 
@@ -84,23 +84,24 @@ pub(crate) fn stands(cell: Option<[u8; 512]>) -> Row
     }
 }
 
-fn choose(row: Row, choice: Left) -> Option<[u8; 512]>
-    ensures { result ≡ chosen choice row }
+/// The sector stays unsynced where its unit is to be spoilt.
+fn choose(row: Row, choice: Left) -> Row
+    ensures { result ≡ chosen_row choice row }
 {
     match choice {
-        Left::Old => row.synced,
-        Left::New => row.written,
-        Left::Bad => None,
+        Left::Old => stands(row.synced),
+        Left::New => stands(row.written),
+        Left::Bad => row,
     }
 }
 
 /// A choice for each unsynced sector in order, and one for those past the list.
-pub(crate) fn stop_rows(rows: &mut Vec<Row>, choices: &[Left], rest: Left)
-    ensures { rows.new.items ≡ stopped choices.now rest rows.old.items }
+pub(crate) fn choose_rows(rows: &mut Vec<Row>, choices: &[Left], rest: Left)
+    ensures { rows.new.items ≡ chosen_rows choices.now rest rows.old.items }
 {
     let mut left = choices;
     for row in rows.iter_mut() {
-        let (next, others) = stop_row(*row, left, rest);
+        let (next, others) = choose_row(*row, left, rest);
         *row = next;
         left = others;
     }

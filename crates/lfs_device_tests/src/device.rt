@@ -1,6 +1,8 @@
 use crate::helpers::{BAD, Row, all_well, filled, first_wrong, lose, put};
-use lfs_device::{DeviceCall, FileDevice, Left, MemDevice, ReadFault, SectorDevice};
+use lfs_device::{DeviceCall, FileDevice, Left, MemDevice, NoMemory, ReadFault, SectorDevice};
+use std::alloc::Global;
 use std::fs::{self, File};
+use std::num::NonZeroU32;
 
 /// A call of a device and what is seen, or what is chosen for a device in memory.
 #[derive(Clone, Copy)]
@@ -22,6 +24,8 @@ enum Step {
     Lose(u32),
     Crash(Left),
     CrashEach([Left; 3]),
+    /// The first and the last of the sectors that can't be read.
+    Spoilt(u32, u32),
 }
 
 /// Two writes and a sync, and one write more and a sync, until one fails: whether all succeed.
@@ -30,6 +34,17 @@ fn sync_both<D: SectorDevice>(device: &mut D) -> bool {
         return false;
     }
     put(device, 0, &[3; 512]) && device.sync().is_ok()
+}
+
+/// Whether these are all the sectors that can't be read.
+fn are_spoilt(device: &mut MemDevice, first: u32, last: u32) -> bool {
+    for sector in 0..device.sectors() {
+        let is_bad = filled(device, sector) == BAD;
+        if is_bad != (first <= sector && sector <= last) {
+            return false;
+        }
+    }
+    true
 }
 
 /// Whether the call goes as it says; what only a device in memory can do doesn't.
@@ -59,6 +74,7 @@ impl Row<MemDevice> for Step {
             Step::Lose(sector) => return lose(device, sector),
             Step::Crash(left) => device.crash(left),
             Step::CrashEach(left) => device.crash_each(&left),
+            Step::Spoilt(first, last) => return are_spoilt(device, first, last),
             call => return is_call_well(device, call),
         }
         true
@@ -209,6 +225,76 @@ fn an_unreadable_sector_stays_so(rt: HostRuntime) {
         Step::Read(2, Ok(1)),
     ];
     all_well(&rt, MemDevice::new(rt.alloc(), 6), &steps);
+}
+
+/// A device of units of eight sectors from sector 2 on, the last of which has only four.
+fn in_units(alloc: Global) -> Result<MemDevice, NoMemory> {
+    match NonZeroU32::new(8) {
+        Some(unit) => MemDevice::with_unit(alloc, 22, unit, 2),
+        None => Err(NoMemory),
+    }
+}
+
+#[test]
+fn a_stop_spoils_whole_units(rt: HostRuntime) {
+    // The sector that is written, and the first and the last that can't be read after a stop.
+    let rows = [
+        (0, 0, 0),
+        (1, 1, 1),
+        (2, 2, 9),
+        (6, 2, 9),
+        (9, 2, 9),
+        (10, 10, 17),
+        (17, 10, 17),
+        (21, 18, 21),
+    ];
+    for (sector, first, last) in rows {
+        let steps = [
+            Step::Fill(sector, 7, true),
+            Step::Crash(Left::Bad),
+            Step::Spoilt(first, last),
+        ];
+        all_well(&rt, in_units(rt.alloc()), &steps);
+    }
+}
+
+#[test]
+fn a_unit_is_spoilt_by_each_of_its_sectors(rt: HostRuntime) {
+    let steps = [
+        Step::Fill(3, 5, true),
+        Step::Sync(true),
+        Step::Crash(Left::Bad),
+        Step::Read(3, Ok(5)),
+        // What isn't spoilt leaves the rest of the unit.
+        Step::Fill(3, 6, true),
+        Step::Fill(8, 7, true),
+        Step::Fill(12, 8, true),
+        Step::CrashEach([Left::Old, Left::New, Left::Old]),
+        Step::Read(3, Ok(5)),
+        Step::Read(4, Ok(0)),
+        Step::Read(8, Ok(7)),
+        Step::Read(12, Ok(0)),
+        // One sector spoils those that the stop leaves otherwise, and those that were synced.
+        Step::Fill(5, 6, true),
+        Step::Fill(9, 7, true),
+        Step::Fill(12, 8, true),
+        Step::CrashEach([Left::New, Left::Bad, Left::New]),
+        Step::Spoilt(2, 9),
+        Step::Read(12, Ok(8)),
+    ];
+    all_well(&rt, in_units(rt.alloc()), &steps);
+}
+
+#[test]
+fn a_failed_write_spoils_its_unit(rt: HostRuntime) {
+    let steps = [
+        Step::Fail(DeviceCall::Write, 0),
+        Step::Fill(11, 4, false),
+        Step::Read(11, Ok(0)),
+        Step::Crash(Left::Bad),
+        Step::Spoilt(10, 17),
+    ];
+    all_well(&rt, in_units(rt.alloc()), &steps);
 }
 
 /// A device over a file, which may be open for writing, if it can be had.

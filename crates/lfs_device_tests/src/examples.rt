@@ -1,10 +1,10 @@
-// What a layer above can prove from the trait's clauses alone: a row of sectors, and a row that
-// takes effect by a slot.
+// What a layer above can prove from the traits' clauses alone where units are sectors: a row of
+// sectors, and a row that takes effect by a slot.
 ghost use Rattle.std.specs.Prelude.{◌≡◌, ◌+◌, ◌<◌, ◌≤◌, length, OnOk, OnErr};
 ghost use Rattle.lfs_model.specs.Device.{put, Only, AllLeft, Carries, LeavesOnly, ComesFrom, SameOutside};
 ghost use Rattle.lfs_device_tests.specs.Commit.{pasted, IsBeforeOrAfter};
 
-use lfs_device::{DeviceFault, SectorDevice};
+use lfs_device::{DeviceFault, SectorUnits};
 
 /// Writes sectors in a row. A stop at any moment leaves a content that a stop might have left
 /// before, but for these sectors.
@@ -12,7 +12,7 @@ use lfs_device::{DeviceFault, SectorDevice};
 /// # Errors
 ///
 /// The fault where a write failed.
-pub fn write_blocks<D: SectorDevice>(
+pub fn write_blocks<D: SectorUnits>(
     device: &mut D,
     first: u32,
     blocks: &[[u8; 512]],
@@ -43,7 +43,7 @@ pub fn write_blocks<D: SectorDevice>(
 /// # Errors
 ///
 /// The fault where a call of the device failed.
-pub fn commit<D: SectorDevice>(
+pub fn commit<D: SectorUnits>(
     device: &mut D,
     first: u32,
     blocks: &[[u8; 512]],

@@ -1,8 +1,9 @@
 use crate::examples::{commit, write_blocks};
 use crate::helpers::{BAD, Row, all_well, filled, lose, put};
-use lfs_device::{DeviceCall, Left, MemDevice, ReadFault, SectorDevice};
+use lfs_device::{DeviceCall, InSectors, Left, MemDevice, ReadFault, SectorDevice};
 use lfs_layout::Checkpoint;
 use lfs_verify::root::{RootFault, newest, replace};
+use std::alloc::Global;
 
 /// What is put into a slot.
 #[derive(Clone, Copy)]
@@ -25,9 +26,6 @@ enum Step {
     /// The newest but one checkpoint is replaced by the one with this number: whether that
     /// succeeds.
     Replace(u8, bool),
-    /// Sectors 2 and 3 are written, and then, where there is a byte for it, the slot in sector 1:
-    /// whether that succeeds.
-    Save(Option<u8>, bool),
     /// The byte that a sector is filled with.
     Read(u32, Result<u8, ReadFault>),
     StopAt(u64),
@@ -80,15 +78,21 @@ fn replace_by<D: SectorDevice>(device: &mut D, number: u8) -> bool {
     device.sectors() >= 2 && replace(device, &checkpoint).is_ok()
 }
 
-/// Writes sectors 2 and 3, and then, where there is a byte for it, the slot in sector 1.
-fn save<D: SectorDevice>(device: &mut D, slot: Option<u8>) -> bool {
+/// A device that stops within this write, as sectors 2 and 3 are written, and then, where there is a
+/// byte for it, the slot in sector 1. It is given where this succeeds or fails as it should.
+fn saved(alloc: Global, slot: Option<u8>, stop: u64, succeeds: bool) -> Option<MemDevice> {
     let row = [[7; 512], [8; 512]];
-    if device.sectors() < 5 {
-        return false;
-    }
-    match slot {
-        None => write_blocks(device, 2, &row).is_ok(),
-        Some(byte) => commit(device, 2, &row, 1, &[byte; 512]).is_ok(),
+    let mut device = MemDevice::new(alloc, 5).ok()?;
+    device.stop_at(stop);
+    let mut device = InSectors::new(device);
+    let outcome = match slot {
+        None => write_blocks(&mut device, 2, &row),
+        Some(byte) => commit(&mut device, 2, &row, 1, &[byte; 512]),
+    };
+    if outcome.is_ok() == succeeds {
+        Some(device.into_inner())
+    } else {
+        None
     }
 }
 
@@ -99,7 +103,6 @@ impl Row<MemDevice> for Step {
             Step::Sync(succeeds) => return device.sync().is_ok() == succeeds,
             Step::Newest(found) => return number(device) == found,
             Step::Replace(number, succeeds) => return replace_by(device, number) == succeeds,
-            Step::Save(slot, succeeds) => return save(device, slot) == succeeds,
             Step::Read(sector, holds) => return filled(device, sector) == holds,
             Step::StopAt(write) => device.stop_at(write),
             Step::Fail(call, nth) => device.fail(call, nth),
@@ -224,8 +227,6 @@ fn a_stop_within_a_row_and_its_slot(rt: HostRuntime) {
     ];
     for (slot, stop, is_whole, left, [first, second, third, fourth, fifth]) in rows {
         let steps = [
-            Step::StopAt(stop),
-            Step::Save(slot, is_whole),
             Step::Crash(left),
             Step::Read(0, first),
             Step::Read(1, second),
@@ -233,6 +234,7 @@ fn a_stop_within_a_row_and_its_slot(rt: HostRuntime) {
             Step::Read(3, fourth),
             Step::Read(4, fifth),
         ];
-        all_well(&rt, MemDevice::new(rt.alloc(), 5), &steps);
+        let device = saved(rt.alloc(), slot, stop, is_whole);
+        all_well(&rt, device.ok_or(()), &steps);
     }
 }

@@ -2,7 +2,7 @@ ghost use Rattle.std.specs.Prelude.{◌<◌, ◌≤◌, ◌+◌, ◌*◌};
 ghost use Rattle.lfs_memory.specs.segments.Chunk.{IsOpenChunk};
 
 use crate::helpers::{Row, all_well, name};
-use lfs_device::{MemDevice, NoMemory, SectorDevice};
+use lfs_device::{InSectors, MemDevice, NoMemory, SectorDevice};
 use lfs_layout::{SegmentUsage, SummaryView, UsageView, is_placed};
 use lfs_memory::segments::{ChunkWriter, Usage};
 use lfs_model::BlockKind;
@@ -38,9 +38,12 @@ fn end_of(chunk: &ChunkWriter, usage: &Usage) -> u32
     2 + 64 * chunk.segment() + u32::from(usage.state(chunk.segment()).used)
 }
 
+/// A device in memory whose units are sectors.
+type MemorySectors = InSectors<MemDevice>;
+
 /// What the summary at a place of a segment names, if it is one: how many blocks, and the last
 /// one's index.
-fn named(device: &mut MemDevice, segment: u32, place: u32) -> Option<(usize, u32)>
+fn named(device: &mut MemorySectors, segment: u32, place: u32) -> Option<(usize, u32)>
     requires segment { segment < 1024 }
     requires place { place < 64 }
 {
@@ -57,7 +60,7 @@ fn named(device: &mut MemDevice, segment: u32, place: u32) -> Option<(usize, u32
 /// Fills a chunk and seals it: how many places were right, and what its summary names then, which
 /// is the first of its segment.
 fn write_chunk(
-    device: &mut MemDevice,
+    device: &mut MemorySectors,
     usage: &mut Usage,
     count: u32,
 ) -> Option<(u32, u32, usize, u32)> {
@@ -76,10 +79,10 @@ fn write_chunk(
 #[derive(Clone, Copy)]
 struct Chunk(u32, u32);
 
-impl Row<(MemDevice, Usage)> for Chunk {
+impl Row<(MemorySectors, Usage)> for Chunk {
     /// Whether a chunk comes to the first segment, one to the last where that alone is clean, and
     /// then none, where there is no room behind that.
-    fn is_well(self, (device, usage): &mut (MemDevice, Usage)) -> bool {
+    fn is_well(self, (device, usage): &mut (MemorySectors, Usage)) -> bool {
         let Chunk(count, last) = self;
         let blocks = count as usize;
         if write_chunk(device, usage, count) != Some((0, count, blocks, last)) {
@@ -98,11 +101,11 @@ impl Row<(MemDevice, Usage)> for Chunk {
 }
 
 /// A device for so many segments, and a table where all are clean.
-fn volume(alloc: Global, segments: u32) -> Result<(MemDevice, Usage), NoMemory>
+fn volume(alloc: Global, segments: u32) -> Result<(MemorySectors, Usage), NoMemory>
     requires { segments ≤ 1024 }
 {
     let device = MemDevice::new(alloc, 2 + 64 * segments)?;
-    Ok((device, Usage::new(alloc, segments)?))
+    Ok((InSectors::new(device), Usage::new(alloc, segments)?))
 }
 
 #[test]
@@ -119,16 +122,16 @@ fn chunks_in_the_first_segment_and_the_last(rt: HostRuntime) {
 #[derive(Clone, Copy)]
 struct Pair(u32, u32, bool, u32, u32);
 
-impl Row<(MemDevice, Usage)> for Pair {
+impl Row<(MemorySectors, Usage)> for Pair {
     /// Whether the second chunk comes there, and its summary names so many blocks.
-    fn is_well(self, context: &mut (MemDevice, Usage)) -> bool {
+    fn is_well(self, context: &mut (MemorySectors, Usage)) -> bool {
         let (device, usage) = context;
         write_pair(device, usage, self) == Some((self.3, self.1))
     }
 }
 
 /// Writes both: the segment of the second, and how many blocks its summary names.
-fn write_pair(device: &mut MemDevice, usage: &mut Usage, pair: Pair) -> Option<(u32, u32)> {
+fn write_pair(device: &mut MemorySectors, usage: &mut Usage, pair: Pair) -> Option<(u32, u32)> {
     let Pair(first, second, leaves, _, start) = pair;
     let mut chunk = ChunkWriter::new();
     write_next(&mut chunk, device, usage, first)?;
@@ -148,7 +151,7 @@ fn write_pair(device: &mut MemDevice, usage: &mut Usage, pair: Pair) -> Option<(
 /// Begins a chunk, fills it and seals it, if all its blocks find places.
 fn write_next(
     chunk: &mut ChunkWriter,
-    device: &mut MemDevice,
+    device: &mut MemorySectors,
     usage: &mut Usage,
     count: u32,
 ) -> Option<()> {

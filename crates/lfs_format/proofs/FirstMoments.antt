@@ -3,16 +3,18 @@ use Rattle.std.proofs.Common.{◌<◌, ◌≡◌, ◌⊎◌, inl, inr, ℕ, ◌+
 use Rattle.std.proofs.Common.{subst, arith, length-set, get_or-set_other, get_or-set_same}
 use Rattle.lfs_model.specs.Checkpoint.{CheckpointValue, IsSegmentCount, IsVersion, checkpoint_sector, checkpoint_in, usage_blocks}
 use Rattle.lfs_model.specs.Content.{Content, newest, newer, slot, with_parity, bytes_of}
-use Rattle.lfs_model.specs.Device.{Cell, cell_at, put, MayWrite, left_old, left_new, left_bad, DeviceState, IsUntouched, Only, AllLeft}
-use Rattle.lfs_model.specs.Device.{Carries, Elapses, LeavesOnly, ComesFrom, SameOutside, IsLawful, CrashWrites}
+use Rattle.lfs_model.specs.Device.{AreSectors, Cell, cell_at, put, MayWrite, MayWriteUnit, left_old, left_new, left_bad, DeviceState}
+use Rattle.lfs_model.specs.Device.{IsUntouched, Only, AllLeft, Carries, Elapses, LeavesOnly, ComesFrom, SameOutside, IsLawful, CrashWrites}
+use Rattle.lfs_model.specs.Device.{CrashWritesUnit}
 use Rattle.lfs_model.specs.Fields.{read32, read64, part}
 use Rattle.lfs_model.specs.Image.{blank, first_checkpoint, IsNew}
 use Rattle.lfs_model.proofs.Moments.{Run, run_write, carries_none, carries_then, started, goes_on, joined, weaker, same_outside_none}
 use Rattle.lfs_model.proofs.Moments.{write_outside}
+use Rattle.lfs_model.proofs.UnitWrites.{crash_of_sectors, to_sector}
 use Rattle.lfs_model.proofs.Image.{formatted}
 use Rattle.lfs_model.proofs.Volume.{new_volume}
 use Rattle.lfs_format.specs.Making.{MayClearSlots, AreClear, HasChunk, HasMade, IsMaking, MayStand, SameBehindChunk, WritesChunk}
-use Rattle.lfs_format.proofs.FirstWrites.{clear_survives}
+use Rattle.lfs_format.proofs.FirstWrites.{clear_survives, sectors_after}
 
 none_blank : checkpoint_in (blank 512) ≡ None
 unfolding checkpoint_in read32 read64 part
@@ -165,58 +167,72 @@ touches_slot n s bytes low leaves =
 
 -- ---- the steps
 
+-- a write to a sector where units are sectors
+by_sectors : {old new : DeviceState} {s : ℕ} {bytes : List ℕ} → AreSectors old.unit
+    → LeavesOnly old new (ComesFrom old (MayWriteUnit old.unit s bytes)) → LeavesOnly old new (ComesFrom old (MayWrite s bytes))
+by_sectors {old} {s} {bytes} sectors leaves =
+    weaker _ _ (λ x from. (from.0, from.1, to_sector old.unit s (λ k e. sectors k s e) bytes from.0 x from.2)) leaves
+
 -- no block of the first chunk
 pub writes_none : (N : ℕ) {d : DeviceState} → IsLawful d → WritesChunk N d d
 writes_none N {d} lawful = record {
-  any_moment = λ clear. started AreClear lawful clear;
-  left = λ clear. clear;
-  touched = started (ComesFrom d (SameBehindChunk N)) lawful (λ c left. (c, left, same_outside_none 0 (5 + usage_blocks N) c));
+  any_moment = λ sectors clear. started AreClear lawful clear;
+  left = λ sectors clear. clear;
+  touched = λ sectors. started (ComesFrom d (SameBehindChunk N)) lawful (λ c left. (c, left, same_outside_none 0 (5 + usage_blocks N) c));
   carries = carries_none;
 }
 
 -- and one block more
 pub writes_write : {N : ℕ} {a b c : DeviceState} {s : ℕ} {bytes : List ℕ} → 2 ≤ s → s < 5 + usage_blocks N → IsLawful b → WritesChunk N a b
-    → CrashWrites s bytes b c → Carries b c → Elapses b c → WritesChunk N a c
+    → CrashWritesUnit s bytes b c → Carries b c → Elapses b c → WritesChunk N a c
 writes_write {N} {a} {b} {c} {s} {bytes} past low lawful one crash carries time = record {
-  any_moment = λ clear. (run clear).leaves;
-  left = λ clear. (run clear).now;
-  touched = touches_write (5 + usage_blocks N) s bytes low lawful one.touched crash carries time;
+  any_moment = λ sectors clear. (run sectors clear).leaves;
+  left = λ sectors clear. (run sectors clear).now;
+  touched = λ sectors. touches_write (5 + usage_blocks N) s bytes low lawful (one.touched sectors) (by_sector sectors) carries time;
   carries = carries_then one.carries carries;
 }
   where
-    run : AllLeft a AreClear → Run a c AreClear
-    run clear = run_write a b c AreClear s bytes
-        (record { carries = one.carries; leaves = one.any_moment clear; now = one.left clear }) (clear_survives s bytes past) crash carries
-        time
+    by_sector : AreSectors a.unit → CrashWrites s bytes b c
+    by_sector sectors = crash_of_sectors b c s bytes (sectors_after sectors one.carries) crash
+
+    run : AreSectors a.unit → AllLeft a AreClear → Run a c AreClear
+    run sectors clear =
+        let so_far : Run a b AreClear =
+        record { carries = one.carries; leaves = one.any_moment sectors clear; now = one.left sectors clear } in
+        run_write a b c AreClear s bytes so_far (clear_survives s bytes past) (by_sector sectors) carries time
 
 pub writes_then : {N : ℕ} {a b c : DeviceState} → IsLawful b → WritesChunk N a b → WritesChunk N b c → WritesChunk N a c
 writes_then {N} lawful one two = record {
-  any_moment = λ clear.
-      joined _ _ _ (one.any_moment clear) (two.any_moment (one.left clear)) (λ x has. has) (λ x has. has);
-  left = λ clear. two.left (one.left clear);
-  touched = touches_then (5 + usage_blocks N) lawful one.touched two.touched;
+  any_moment = λ sectors clear.
+      joined _ _ _ (one.any_moment sectors clear) (two.any_moment (sectors_after sectors one.carries) (one.left sectors clear))
+      (λ x has. has) (λ x has. has);
+  left = λ sectors clear. two.left (sectors_after sectors one.carries) (one.left sectors clear);
+  touched = λ sectors.
+      touches_then (5 + usage_blocks N) lawful (one.touched sectors) (two.touched (sectors_after sectors one.carries));
   carries = carries_then one.carries two.carries;
 }
 
 -- the slots are cleared
-pub making_cleared : {version N : ℕ} {a b : DeviceState} → LeavesOnly a b (ComesFrom a MayClearSlots) → Carries a b
+pub making_cleared : {version N : ℕ} {a b : DeviceState} → (AreSectors a.unit → LeavesOnly a b (ComesFrom a MayClearSlots)) → Carries a b
     → IsMaking version N a b
 making_cleared {version} {N} cleared carries = record {
-  any_moment = λ keeps. moments_cleared version N cleared;
-  touched = touches_slots (5 + usage_blocks N) (omega arith) cleared;
+  any_moment = λ sectors keeps. moments_cleared version N (cleared sectors);
+  touched = λ sectors. touches_slots (5 + usage_blocks N) (omega arith) (cleared sectors);
   carries = carries;
 }
 
 -- then the chunk is written
-module _ {version N : ℕ} {a b c : DeviceState} (lawful : IsLawful b) (cleared : LeavesOnly a b (ComesFrom a MayClearSlots))
-    (clears : Carries a b) (clear : b.keeps_model → AreClear b.content) (only : b.keeps_model → Only b.content b)
-    (writes : WritesChunk N b c) where
+module _ {version N : ℕ} {a b c : DeviceState} (lawful : IsLawful b)
+    (cleared : AreSectors a.unit → LeavesOnly a b (ComesFrom a MayClearSlots)) (clears : Carries a b)
+    (clear : b.keeps_model → AreClear b.content) (only : b.keeps_model → Only b.content b) (writes : WritesChunk N b c) where
   pub making_chunked : IsMaking version N a c
   making_chunked = record {
-    any_moment = λ keeps.
+    any_moment = λ sectors keeps.
         let kept = writes.carries.kept_before keeps in
-        moments_chunked version N cleared (clear kept) (only kept) writes.any_moment;
-    touched = touches_then (5 + usage_blocks N) lawful (touches_slots (5 + usage_blocks N) (omega arith) cleared) writes.touched;
+        moments_chunked version N (cleared sectors) (clear kept) (only kept) (writes.any_moment (sectors_after sectors clears));
+    touched = λ sectors.
+        touches_then (5 + usage_blocks N) lawful (touches_slots (5 + usage_blocks N) (omega arith) (cleared sectors))
+        (writes.touched (sectors_after sectors clears));
     carries = carries_then clears writes.carries;
   }
 
@@ -224,10 +240,11 @@ module _ {version N : ℕ} {a b c : DeviceState} (lawful : IsLawful b) (cleared 
   module _ {s : DeviceState} (lawful_c : IsLawful c) (same : IsUntouched c s) (carries : Carries c s) (time : Elapses c s) where
     pub making_synced : IsMaking version N a s
     making_synced = record {
-      any_moment = λ keeps.
+      any_moment = λ sectors keeps.
           let kept = writes.carries.kept_before (carries.kept_before keeps) in
-          moments_synced version N cleared (clear kept) (only kept) writes.any_moment writes.left same carries time;
-      touched = touches_still (5 + usage_blocks N) lawful_c making_chunked.touched same carries time;
+          let then = sectors_after sectors clears in
+          moments_synced version N (cleared sectors) (clear kept) (only kept) (writes.any_moment then) (writes.left then) same carries time;
+      touched = λ sectors. touches_still (5 + usage_blocks N) lawful_c (making_chunked.touched sectors) same carries time;
       carries = carries_then making_chunked.carries carries;
     }
 
@@ -235,17 +252,20 @@ module _ {version N : ℕ} {a b c : DeviceState} (lawful : IsLawful b) (cleared 
     pub making_written : {r : DeviceState} {k : CheckpointValue} → IsLawful s → k ≡ first_checkpoint version N → IsVersion version
         → IsSegmentCount N → 2 + 64 * N ≤ a.size
         → (c.keeps_model → HasChunk version N (usage_blocks N) b.content c.content) → (s.keeps_model → Only s.content s)
-        → LeavesOnly s r (ComesFrom s (MayWrite (k.number % 2) (checkpoint_sector k))) → Carries s r → IsMaking version N a r
+        → LeavesOnly s r (ComesFrom s (MayWriteUnit s.unit (k.number % 2) (checkpoint_sector k))) → Carries s r → IsMaking version N a r
     making_written {k} lawful_s is known count room chunk alone written replaces = record {
-      any_moment = λ keeps.
+      any_moment = λ sectors keeps.
           let synced = replaces.kept_before keeps in
           let kept = carries.kept_before synced in
           let was = writes.carries.kept_before kept in
+          let then = sectors_after sectors clears in
           let long : 2 + 64 * N ≤ length b.content = omega (arith, room) in
-          moments_written version N cleared (clear was) (only was) writes.any_moment writes.left same carries time is known count long
-          (chunk kept) (alone synced) written;
-      touched = touches_then (5 + usage_blocks N) lawful_s making_synced.touched
-          (touches_slot (5 + usage_blocks N) (k.number % 2) (checkpoint_sector k) (omega arith) written);
+          let torn = by_sectors (sectors_after sectors making_synced.carries) written in
+          moments_written version N (cleared sectors) (clear was) (only was) (writes.any_moment then) (writes.left then) same carries time
+          is known count long (chunk kept) (alone synced) torn;
+      touched = λ sectors. touches_then (5 + usage_blocks N) lawful_s (making_synced.touched sectors)
+          (touches_slot (5 + usage_blocks N) (k.number % 2) (checkpoint_sector k) (omega arith)
+          (by_sectors (sectors_after sectors making_synced.carries) written));
       carries = carries_then making_synced.carries replaces;
     }
 

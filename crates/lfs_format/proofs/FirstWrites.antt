@@ -5,12 +5,13 @@ use Rattle.std.proofs.Common.{get_or-set_other, get_or-set_same}
 use Rattle.std.proofs.lemmas.Bool.{cases_eq, cases_lt}
 use Rattle.std.specs.Prelude.{slice_set}
 use Rattle.lfs_model.specs.Content.{Content}
-use Rattle.lfs_model.specs.Device.{Cell, cell_at, put, MayWrite, left_old, left_new, left_bad, DeviceState, IsLawful, Carries}
-use Rattle.lfs_model.specs.Device.{Elapses, CrashWrites, ComesFrom, SameOutside}
+use Rattle.lfs_model.specs.Device.{AreSectors, Cell, cell_at, put, MayWrite, left_old, left_new, left_bad, DeviceState, IsLawful, Carries}
+use Rattle.lfs_model.specs.Device.{Elapses, CrashWritesUnit, ComesFrom, SameOutside}
 use Rattle.lfs_model.specs.Image.{blank, first_uses}
 use Rattle.lfs_model.specs.Usage.{usage_sector}
 use Rattle.lfs_model.proofs.Image.{unused_spelled}
 use Rattle.lfs_model.proofs.Moments.{Run, run_none, run_call, all_left_write, Survives, same_outside_none, write_outside}
+use Rattle.lfs_model.proofs.UnitWrites.{crash_of_sectors}
 use Rattle.lfs_format.specs.Making.{MayClear, left_as_was, left_clear, left_unreadable, MayClearSlots, AreClear, HasChunk}
 use Rattle.lfs_model.specs.Checkpoint.{IsVersion}
 
@@ -57,11 +58,16 @@ Slots old new = Run old new (ComesFrom old MayClearSlots)
 pub slots_start : {d : DeviceState} → IsLawful d → Slots d d
 slots_start {d} lawful = run_none d (ComesFrom d MayClearSlots) lawful (λ c left. (c, left, slots_none c))
 
-pub slots_write : {old mid new : DeviceState} (s : ℕ) → s < 2 → IsLawful old → 2 ≤ old.size → Slots old mid
-    → CrashWrites s (blank 512) mid new → Carries mid new → Elapses mid new → Slots old new
-slots_write {old} {mid} {new} s low lawful room run crash carries time =
+-- units are sectors after calls too
+pub sectors_after : {old new : DeviceState} → AreSectors old.unit → Carries old new → AreSectors new.unit
+sectors_after sectors carries = subst AreSectors (sym carries.unit) sectors
+
+pub slots_write : {old mid new : DeviceState} (s : ℕ) → s < 2 → IsLawful old → AreSectors old.unit → 2 ≤ old.size → Slots old mid
+    → CrashWritesUnit s (blank 512) mid new → Carries mid new → Elapses mid new → Slots old new
+slots_write {old} {mid} {new} s low lawful sectors room run crash carries time =
     run_call old mid new (ComesFrom old MayClearSlots) run carries time
-    (all_left_write mid new (ComesFrom old MayClearSlots) (ComesFrom old MayClearSlots) s (blank 512) run.now crash (λ c e from write.
+    (all_left_write mid new (ComesFrom old MayClearSlots) (ComesFrom old MayClearSlots) s (blank 512) run.now
+    (crash_of_sectors mid new s (blank 512) (sectors_after sectors run.carries) crash) (λ c e from write.
     let long : 2 ≤ length from.0 = omega (arith, room, lawful.sizes from.0 from.1) in
     (from.0, from.1, slots_written s low c e long from.2 write)))
 

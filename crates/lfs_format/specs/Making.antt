@@ -4,7 +4,7 @@ use Rattle.std.specs.Prelude.{◌≡◌, ◌⊎◌, ◌+◌, ◌<◌, ℕ, [], �
 use Rattle.lfs_model.specs.declared.limits.TheConstants.{SECTOR_LEN}
 use Rattle.lfs_model.specs.Checkpoint.{usage_blocks}
 use Rattle.lfs_model.specs.Content.{Content, newest}
-use Rattle.lfs_model.specs.Device.{Cell, cell_at, DeviceState, AllLeft, Carries, ComesFrom, LeavesOnly, Only, SameOutside}
+use Rattle.lfs_model.specs.Device.{AreSectors, Cell, cell_at, DeviceState, AllLeft, Carries, ComesFrom, LeavesOnly, Only, SameOutside}
 use Rattle.lfs_model.specs.Image.{blank, first_names, first_pointers, first_checkpoint, first_uses, new_form, root_inode, IsNew}
 use Rattle.lfs_model.specs.Inode.{inode_sector}
 use Rattle.lfs_model.specs.Pointers.{pointer_sector}
@@ -48,11 +48,12 @@ MayStand version N old c = ComesFrom old MayClearSlots c ⊎ ((newest c ≡ None
 abbrev pub SameBehindChunk : ℕ → Content → Content → Type 0
 SameBehindChunk N = SameOutside 0 (5 + usage_blocks N)
 
--- Writes of blocks of the first chunk: clear slots stay clear at any moment, and no sector behind the chunk changes.
+-- Writes of blocks of the first chunk. Where the device's units are sectors, clear slots stay clear at any moment, and no sector behind
+-- the chunk changes.
 pub record WritesChunk (N : ℕ) (old new : DeviceState) : Type 0 where
-  pub any_moment : AllLeft old AreClear → LeavesOnly old new AreClear
-  pub left : AllLeft old AreClear → AllLeft new AreClear
-  pub touched : LeavesOnly old new (ComesFrom old (SameBehindChunk N))
+  pub any_moment : AreSectors old.unit → AllLeft old AreClear → LeavesOnly old new AreClear
+  pub left : AreSectors old.unit → AllLeft old AreClear → AllLeft new AreClear
+  pub touched : AreSectors old.unit → LeavesOnly old new (ComesFrom old (SameBehindChunk N))
   pub carries : Carries old new
 
 -- How a call ends that writes: one that failed counts a failure, and one that is done counts none.
@@ -60,13 +61,15 @@ pub record EndsWriting {T E : Type 0} (old new : DeviceState) (result : Result T
   pub failed : OnErr result (old.failures < new.failures)
   pub no_failure : OnOk result (new.failures ≡ old.failures)
 
--- A volume of N segments was being made, whatever came of it: what a stop leaves at any moment, and what stays as it was.
+-- A volume of N segments was being made, whatever came of it: what a stop leaves at any moment, and what stays as it was. Both are said
+-- where the device's units are sectors: a write spoils other sectors of a larger unit, which may be any.
 pub record IsMaking (version N : ℕ) (old new : DeviceState) : Type 0 where
-  pub any_moment : new.keeps_model → LeavesOnly old new (MayStand version N old)
-  pub touched : LeavesOnly old new (ComesFrom old (SameBehindChunk N))
+  pub any_moment : AreSectors old.unit → new.keeps_model → LeavesOnly old new (MayStand version N old)
+  pub touched : AreSectors old.unit → LeavesOnly old new (ComesFrom old (SameBehindChunk N))
   pub carries : Carries old new
 
--- A volume of N segments was made: no call failed, and a stop leaves the new volume alone, which stands for an empty root.
+-- A volume of N segments was made, whatever the units are: no call failed, and a stop leaves the new volume alone, which stands for an
+-- empty root.
 pub record HasMade (version N : ℕ) (old new : DeviceState) : Type 0 where
   pub no_failure : new.failures ≡ old.failures
   pub image : new.keeps_model → IsNew version N new.content

@@ -9,8 +9,8 @@ pub enum FormatFault {
     Inval,
     /// The device has too few sectors.
     TooSmall,
-    /// A device call failed: the device holds what stood there, with slots that may be cleared, or
-    /// no checkpoint, or the empty volume.
+    /// A device call failed. Where the device's units are sectors, it holds what stood there, with
+    /// slots that may be cleared, or no checkpoint, or the empty volume.
     Device,
 }
 

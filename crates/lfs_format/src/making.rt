@@ -2,7 +2,7 @@
 ghost use Rattle.std.specs.Prelude.{◌≡◌, ◌≤◌, ◌<◌, ◌↔◌, ◌⊎◌, ℕ, OnOk, OnErr, IsErrOf};
 ghost use Rattle.lfs_model.specs.Checkpoint.{IsSegmentCount, IsVersion, usage_blocks};
 ghost use Rattle.lfs_model.specs.Content.{Content};
-ghost use Rattle.lfs_model.specs.Device.{Only, Carries, LeavesOnly, ComesFrom, SameOutside};
+ghost use Rattle.lfs_model.specs.Device.{AreSectors, Only, Carries, LeavesOnly, ComesFrom, SameOutside};
 ghost use Rattle.lfs_model.specs.Reach.{segment_start};
 ghost use Rattle.lfs_format.specs.Making.{AreClear, EndsWriting, HasChunk, HasMade, IsMaking, MayClearSlots, WritesChunk};
 
@@ -38,9 +38,10 @@ pub fn format<D: SectorDevice>(device: &mut D, segments: u32) -> Result<(), Form
 }
 
 /// Makes the device an empty volume of so many segments, in this version of the layout. It takes no
-/// memory and writes the two checkpoint slots and the first chunk alone. A stop at any moment
-/// leaves what stood there, with slots that may be cleared, or no checkpoint, or the empty volume,
-/// and after `Ok` this alone, laid out as FORMAT.md has it.
+/// memory and writes the two checkpoint slots and the first chunk alone. Where the device's units
+/// are sectors, a stop at any moment leaves what stood there, with slots that may be cleared, or no
+/// checkpoint, or the empty volume. After `Ok`, whatever the units are, it leaves the empty volume
+/// alone, laid out as FORMAT.md has it.
 ///
 /// # Errors
 ///
@@ -105,7 +106,8 @@ fn write_volume<D: SectorDevice>(device: &mut D, shape: Shape) -> Result<(), Dev
 /// Clears both slots and syncs.
 fn clear_slots<D: SectorDevice>(device: &mut D) -> Result<(), DeviceFault>
     requires { CHECKPOINT_SLOTS ≤ (D.state device.old).size }
-    ensures any_moment { LeavesOnly (D.state device.old) (D.state device.new)
+    ensures any_moment { AreSectors (D.state device.old).unit
+        → LeavesOnly (D.state device.old) (D.state device.new)
         (ComesFrom (D.state device.old) MayClearSlots) }
     ensures clear { OnOk result ((D.state device.new).keeps_model
         → AreClear (D.state device.new).content) }

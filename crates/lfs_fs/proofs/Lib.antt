@@ -1,5 +1,7 @@
 mod Prelude
 mod Exits
+pub mod InSectors
+pub mod Bearing
 mod calls
 mod volume
 mod paths

@@ -4,15 +4,18 @@ use Rattle.lfs_fs.proofs.Prelude.{inl, inr, ⊎_elim, arith, Contains, Answer, C
 use Rattle.lfs_fs.proofs.Prelude.{Stuck, LineAnswers, Point, final, Line, call_of, State, drop_nameless, Left, LeavesOne, LeavesStates}
 use Rattle.lfs_fs.proofs.Prelude.{Stands, LeavesPrefix, carries_none, carries_then, joined, single_state, StandsForSome, RanAt, RunsLines}
 use Rattle.lfs_fs.proofs.Prelude.{ServesLine, TellsLines, IsAt, Mounted, Serves, segments_of}
-use Rattle.std.proofs.Common.{length-append, slice_get}
-use Rattle.std.proofs.lemmas.List.{length-map}
+use Rattle.std.proofs.Common.{length-append, slice_get, take, Some, ◌≤◌}
+use Rattle.std.proofs.lemmas.List.{length-map, take-append-le, take_all}
+use Rattle.std.proofs.lemmas.Option.{slice_get_within}
 use Rattle.std.proofs.lemmas.List.Elements.{Contains-append_left, Contains-append_right}
 use Rattle.lfs_model.specs.Run.{LineRun}
 use Rattle.lfs_model.proofs.CrashRuns.{IsRunSoFar, leaves_first, leaves_more}
 use Rattle.lfs_model.proofs.Lefts.{left_only}
 use Rattle.lfs_model.proofs.Moments.{weaker}
 use Rattle.lfs_model.proofs.Pendings.{at_final}
-use Rattle.lfs_model.proofs.SinceRuns.{kept_more, kept_none, kept_told}
+use Rattle.lfs_model.proofs.SinceRuns.{get_snoc, kept_more, kept_none, kept_told}
+use Rattle.lfs_model.specs.Device.{Carries}
+use Rattle.lfs_model.specs.Since.{AreKeptUntil}
 use Rattle.lfs_model.specs.Use.{AreUnstuck, left_states}
 use Rattle.lfs_fs.specs.Scripts.{ServesLines, ToldAt}
 use Rattle.lfs_fs.proofs.scripts.Lines.{StepsLine, left_none, line_carries, line_running, line_segments, line_steps}
@@ -157,6 +160,14 @@ module _ {D : Type 0} {state : D → DeviceState} (lawful : (d : D) → IsLawful
       (those.0, those.1, serves_more those.0 mid new lines answers line answer those.2 more)
   serves_more old mid new lines answers line answer those more = absurd those
 
+  -- an answer for each line
+  answers_each : (old new : Mounted D) (lines : List Line) (answers : List Answer) → ServesLines state old new lines answers
+      → length answers ≡ length lines
+  answers_each old new [] [] served = refl
+  answers_each old new (l ∷ lines) (a ∷ answers) served = ap (λ (n : ℕ). suc n) (answers_each served.0 new lines answers served.2)
+  answers_each old new [] (a ∷ answers) served = absurd served
+  answers_each old new (l ∷ lines) [] served = absurd served
+
   -- no line
   pub ran_none : (old : Mounted D) → RunsLines state old old [] []
   ran_none old = record {
@@ -205,10 +216,12 @@ module _ {D : Type 0} {state : D → DeviceState} (lawful : (d : D) → IsLawful
   told_none old = record {
     runs = ran_none old;
     one_each = refl;
+    clocks_within = λ i t is. absurd (cc is);
     told = λ p keeps at. record {
       ran = none_at p at;
       kept = λ one. kept_none (state old.log.device) (p ∷ (none_at p at).points) [] [];
     };
+    until = λ j u is. absurd (cc is);
   }
 
   module _ (old mid new : Mounted D) (lines : List Line) (answers : List Answer) (clocks : List ℕ) (line : Line) (answer : Answer) where
@@ -237,13 +250,92 @@ module _ {D : Type 0} {state : D → DeviceState} (lawful : (d : D) → IsLawful
               (call_of line) answer clocks so (lawful mid.log.device) (omega (arith, few, long)) (told.kept one) step.leaves));
         }
 
-    pub tells_more : TellsLines state old mid lines answers clocks → ServesLine state mid new line answer
-        → TellsLines state old new (lines ++ line ∷ []) (answers ++ answer ∷ []) (clocks ++ d'.moment ∷ [])
-    tells_more tells serves = record {
-      runs = ran_more old mid new line answer tells.runs serves;
-      one_each = (let long = tells.one_each in omega (arith, length-append clocks (d'.moment ∷ []), length-append lines (line ∷ []), long));
-      told = λ p keeps at. (
-          let told = tells.told p ((line_carries state lawful mid new line answer serves).kept_before keeps) at in
+    abbrev all_lines : List Line
+    all_lines = lines ++ line ∷ []
+
+    abbrev all_answers : List Answer
+    all_answers = answers ++ answer ∷ []
+
+    abbrev all_clocks : List ℕ
+    all_clocks = clocks ++ d'.moment ∷ []
+
+    module _ (tells : TellsLines state old mid lines answers clocks) (serves : ServesLine state mid new line answer) where
+      abbrev carries : Carries (state mid.log.device) d'
+      carries = line_carries state lawful mid new line answer serves
+
+      told_more : (p : Point) → d'.keeps_model → IsAt state old p → ToldAt state old new all_lines all_answers all_clocks p
+      told_more p keeps at =
+          let told = tells.told p (carries.kept_before keeps) at in
           told_at tells.one_each p told (line_steps state lawful mid new line answer (segments_of old)
-          tells.runs.segments keeps told.ran.at serves));
-    }
+          tells.runs.segments keeps told.ran.at serves)
+
+      within_more : (i t : ℕ) → slice_get all_clocks i ≡ Some t → ((state old.log.device).moment ≤ t) × (t ≤ d'.moment)
+      within_more i t is = ⊎_elim
+          (λ was. (let low = tells.clocks_within i t was in
+          (low.0, (let later = carries.later in let high = low.1 in omega (arith, high, later)))))
+          (λ (last : (i ≡ length clocks) × (t ≡ d'.moment)). (
+            (let first = tells.runs.carries.later in let later = carries.later in omega (arith, first, later, last.1)),
+            omega
+                (arith, last.1),
+          ))
+          (get_snoc clocks d'.moment i t is)
+
+      -- an earlier reply: what came behind it changes nothing
+      until_was : (j u : ℕ) → slice_get clocks j ≡ Some u → d'.kept_until u → (p : Point) → IsAt state old p
+          → LeavesOne (state old.log.device) (drop_nameless p.state)
+          → AreKeptUntil d' (segments_of old) p all_lines all_answers all_clocks j u
+      until_was j u was kept p at one =
+          let high = (tells.clocks_within j u was).1 in
+          let low : j < length clocks = slice_get_within clocks j u was in
+          let long = tells.one_each in
+          let before = tells.until j u was ((carries.kept_as u high).0 kept) p at one in
+          let answered : length answers ≡ length lines = answers_each old mid lines answers tells.runs.through in
+          let same_lines : take (suc j) all_lines ≡ take (suc j) lines = take-append-le (suc j) lines (line ∷ [])
+          (omega (arith, low, long)) in
+          let same_answers : take (suc j) all_answers ≡ take (suc j) answers =
+          take-append-le (suc j) answers (answer ∷ []) (omega (arith, low, long, answered)) in
+          record {
+            points = before.points;
+            run = rw (same_lines, same_answers) before.run;
+            since = λ i t le is c left. rw (same_lines, same_answers) (⊎_elim
+                (λ earlier. before.since i t le earlier c ((carries.left_as t u c high).0 left))
+                (λ (last : (i ≡ length clocks) × (t ≡ d'.moment)). absurd (omega (arith, last.0, le, low)))
+                (get_snoc clocks d'.moment i t is));
+          }
+
+      -- the last one
+      until_now : (j u : ℕ) → j ≡ length clocks → u ≡ d'.moment → d'.kept_until u → (p : Point) → IsAt state old p
+          → LeavesOne (state old.log.device) (drop_nameless p.state)
+          → AreKeptUntil d' (segments_of old) p all_lines all_answers all_clocks j u
+      until_now j u last clock kept p at one =
+          let keeps = (lawful new.log.device).kept_now.0 (subst (λ (m : ℕ). d'.kept_until m) clock kept) in
+          let told = told_more p keeps at in
+          let long = tells.one_each in
+          let answered : length answers ≡ length lines = answers_each old mid lines answers tells.runs.through in
+          let whole_lines : take (suc j) all_lines ≡ all_lines =
+          take_all (suc j) all_lines (omega (arith, length-append lines (line ∷ []), last, long)) in
+          let whole_answers : take (suc j) all_answers ≡ all_answers =
+          take_all (suc j) all_answers (omega (arith, length-append answers (answer ∷ []), last, long, answered)) in
+          record {
+            points = told.ran.points;
+            run = rw (whole_lines, whole_answers) told.ran.run;
+            since = λ i t le is c left. rw (whole_lines, whole_answers) ((told.kept one).since i t is c
+                (((lawful new.log.device).until_now t c (within_more i t is).1).0 (subst (λ (m : ℕ). d'.left_until t m c) clock left)));
+          }
+
+      pub tells_more : TellsLines state old new all_lines all_answers all_clocks
+      tells_more = record {
+        runs = ran_more old mid new line answer tells.runs serves;
+        one_each = (let long = tells.one_each in omega (
+          arith,
+          length-append clocks (d'.moment ∷ []),
+          length-append lines (line ∷ []),
+          long,
+        ));
+        clocks_within = within_more;
+        told = told_more;
+        until = λ j u is kept p at one. ⊎_elim
+            (λ was. until_was j u was kept p at one)
+            (λ (last : (j ≡ length clocks) × (u ≡ d'.moment)). until_now j u last.0 last.1 kept p at one)
+            (get_snoc clocks d'.moment j u is);
+      }

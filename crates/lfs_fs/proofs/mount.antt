@@ -1,2 +1,3 @@
+pub mod Available
 pub mod Ends
 pub mod State

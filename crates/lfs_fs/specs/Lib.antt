@@ -4,6 +4,7 @@ pub mod Handles
 pub mod Volume
 pub mod Seen
 pub mod Accepting
+pub mod Available
 pub mod Finishing
 pub mod Answers
 pub mod Mounting

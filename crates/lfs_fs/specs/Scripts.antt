@@ -1,11 +1,11 @@
 -- What the lines of a script do to a volume: a run of the model, and what a stop in it leaves. The language of scripts is an own choice.
-use Rattle.std.specs.Prelude.{◌≡◌, ◌⊎◌, ℕ, IsTrue, false, List, [], ◌∷◌, length, map}
+use Rattle.std.specs.Prelude.{◌≡◌, ◌⊎◌, ◌≤◌, ℕ, IsTrue, false, Some, List, [], ◌∷◌, length, map, slice_get}
 use Rattle.lfs_model.specs.Call.{Answer, Refuse}
 use Rattle.lfs_model.specs.Device.{DeviceState, Carries, LeavesOnly}
 use Rattle.lfs_model.specs.Refusal.{NoMemory}
 use Rattle.lfs_model.specs.Run.{LineRun, Point, final, has_word}
 use Rattle.lfs_model.specs.Script.{Line, call_of}
-use Rattle.lfs_model.specs.Since.{AreKeptSince}
+use Rattle.lfs_model.specs.Since.{AreKeptSince, AreKeptUntil}
 use Rattle.lfs_model.specs.Tree.{drop_nameless}
 use Rattle.lfs_model.specs.TreeOf.{LeavesOne, LeavesStates}
 use Rattle.lfs_model.specs.Use.{AreUnstuck, StandsForSome, left_states}
@@ -58,4 +58,10 @@ module _ {D : Type 0} (state : D → DeviceState) where
   pub record TellsLines (old new : Mounted D) (lines : List Line) (answers : List Answer) (clocks : List ℕ) : Type 0 where
     pub runs : RunsLines old new lines answers
     pub one_each : length clocks ≡ length lines
+    -- the clocks are moments of this run
+    pub clocks_within : (i t : ℕ) → slice_get clocks i ≡ Some t → ((state old.log.device).moment ≤ t) × (t ≤ (state new.log.device).moment)
     pub told : (p : Point) → (state new.log.device).keeps_model → IsAt state old p → ToldAt old new lines answers clocks p
+    -- what was told by one of the replies is kept whatever came behind it
+    pub until : (j u : ℕ) → slice_get clocks j ≡ Some u → (state new.log.device).kept_until u → (p : Point) → IsAt state old p
+        → LeavesOne (state old.log.device) (drop_nameless p.state)
+        → AreKeptUntil (state new.log.device) (segments_of old) p lines answers clocks j u

@@ -119,6 +119,7 @@ module _ {D : Type 0} (state : D → DeviceState) where
     pub halted : p.halted ≡ v.log.halted
     pub number : p.number ≡ v.log.number
     pub failures : p.failures ≡ (state v.log.device).failures
+    pub failed_orders : p.failed_orders ≡ (state v.log.device).failed_orders
     pub running : v.log.halted ≡ false → Runs v p.state
     pub leaves : LeavesSome (state v.log.device)
 

@@ -1,6 +1,7 @@
 //! The calls of a volume.
 #![tactic(auto)]
 
+pub mod available;
 mod cleaning;
 mod closing;
 mod error;

@@ -1,5 +1,6 @@
 //! Calls that find a file by its path, or make one.
 ghost use Rattle.std.specs.Prelude.{◌≡◌, IfErr, OnErr, OnOk};
+ghost use Rattle.lfs_model.specs.Device.{in_sectors};
 ghost use Rattle.lfs_model.specs.Call.{Open, Create, Done, Handle, Mkdir};
 ghost use Rattle.lfs_fs.specs.Volume.{Serves};
 ghost use Rattle.lfs_fs.specs.Seen.{answer_by, seen};
@@ -19,7 +20,8 @@ impl<D: SectorDevice> Fs<D> {
     ///
     /// In this order: those of the path; `IsDir`; `TooManyOpen` where 64 handles are open.
     pub fn open(&mut self, path: &[u8]) -> Result<u32, FsError>
-        ensures { Serves D.SectorDevice.state (seen self.old) (seen self.new) (Open path.now)
+        ensures { Serves (in_sectors D.SectorDevice.state) (seen self.old) (seen self.new)
+            (Open path.now)
             (answer_by Handle result) }
     {
         let number = self.begin_with(path, true)?;
@@ -41,7 +43,8 @@ impl<D: SectorDevice> Fs<D> {
     /// where a slash follows it, `DirFull`;
     /// `TooManyOpen`; `NoNumber`; `NoSpace`.
     pub fn create(&mut self, path: &[u8]) -> Result<u32, FsError>
-        ensures { Serves D.SectorDevice.state (seen self.old) (seen self.new) (Create path.now)
+        ensures { Serves (in_sectors D.SectorDevice.state) (seen self.old) (seen self.new)
+            (Create path.now)
             (answer_by Handle result) }
     {
         let (directory, last) = self.begin_at(path, FsError::Exist)?;
@@ -67,7 +70,8 @@ impl<D: SectorDevice> Fs<D> {
     /// `DirFull`; `TooManyLinks` where the directory that is to have it has 1,000 links;
     /// `NoNumber`; `NoSpace`.
     pub fn mkdir(&mut self, path: &[u8]) -> Result<(), FsError>
-        ensures { Serves D.SectorDevice.state (seen self.old) (seen self.new) (Mkdir path.now)
+        ensures { Serves (in_sectors D.SectorDevice.state) (seen self.old) (seen self.new)
+            (Mkdir path.now)
             (answer_by (λ _. Done) result) }
     {
         let (directory, last) = self.begin_at(path, FsError::Exist)?;

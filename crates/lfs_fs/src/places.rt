@@ -1,5 +1,6 @@
 //! How a call comes to the object of a path, or to the path's last piece.
 ghost use Rattle.std.specs.Prelude.{IfErr, IfOk, Some};
+ghost use Rattle.lfs_model.specs.Device.{in_sectors};
 ghost use Rattle.lfs_fs.specs.Naming.{BeginsAt, BeginsNowhere, FindsPlace, LacksPlace};
 ghost use Rattle.lfs_fs.specs.Reading.{FindsObject, RefusesPath};
 ghost use Rattle.lfs_fs.specs.Seen.{OnlyReads};
@@ -18,9 +19,11 @@ impl<D: SectorDevice> Fs<D> {
     ///
     /// `Halted`; those of the path.
     pub(crate) fn begin_with(&mut self, path: &[u8], follow: bool) -> Result<FileNumber, FsError>
-        ensures found { IfOk result (λ number. FindsObject D.SectorDevice.state self.old self.new
+        ensures found { IfOk result (λ number. FindsObject (in_sectors D.SectorDevice.state)
+            self.old self.new
             path.now follow number.value) }
-        ensures refused { IfErr result (RefusesPath D.SectorDevice.state self.old self.new path.now
+        ensures refused { IfErr result (RefusesPath (in_sectors D.SectorDevice.state) self.old
+            self.new path.now
             follow) }
     {
         self.begin()?;
@@ -38,9 +41,11 @@ impl<D: SectorDevice> Fs<D> {
         path: &'a [u8],
         nameless: FsError,
     ) -> Result<(FileNumber, Last<'a>), FsError>
-        ensures begun { IfOk result (λ place. BeginsAt D.SectorDevice.state self.old self.new
+        ensures begun { IfOk result (λ place. BeginsAt (in_sectors D.SectorDevice.state) self.old
+            self.new
             path.now place.0.value place.1) }
-        ensures refused { IfErr result (BeginsNowhere D.SectorDevice.state self.old self.new
+        ensures refused { IfErr result (BeginsNowhere (in_sectors D.SectorDevice.state) self.old
+            self.new
             path.now nameless) }
     {
         self.begin()?;
@@ -58,10 +63,12 @@ impl<D: SectorDevice> Fs<D> {
         path: &'a [u8],
         nameless: FsError,
     ) -> Result<(FileNumber, Last<'a>), FsError>
-        ensures reads { OnlyReads D.SectorDevice.state self.old self.new }
-        ensures found { IfOk result (λ place. FindsPlace D.SectorDevice.state self.old self.new
+        ensures reads { OnlyReads (in_sectors D.SectorDevice.state) self.old self.new }
+        ensures found { IfOk result (λ place. FindsPlace (in_sectors D.SectorDevice.state) self.old
+            self.new
             path.now place.0.value (Some place.1)) }
-        ensures refused { IfErr result (LacksPlace D.SectorDevice.state self.old self.new path.now
+        ensures refused { IfErr result (LacksPlace (in_sectors D.SectorDevice.state) self.old
+            self.new path.now
             nameless) }
     {
         let place = parent(self.alloc, &mut self.store, path)?;

@@ -1,5 +1,6 @@
 //! Calls that take names away.
 ghost use Rattle.lfs_model.specs.Call.{Done, Rmdir, Unlink};
+ghost use Rattle.lfs_model.specs.Device.{in_sectors};
 ghost use Rattle.lfs_fs.specs.Seen.{answer_by, seen};
 ghost use Rattle.lfs_fs.specs.Volume.{Serves};
 
@@ -18,7 +19,8 @@ impl<D: SectorDevice> Fs<D> {
     /// `NotDir` where a slash follows the name of what is no directory; `Perm` for a directory.
     /// Never `NoSpace`.
     pub fn unlink(&mut self, path: &[u8]) -> Result<(), FsError>
-        ensures { Serves D.SectorDevice.state (seen self.old) (seen self.new) (Unlink path.now)
+        ensures { Serves (in_sectors D.SectorDevice.state) (seen self.old) (seen self.new)
+            (Unlink path.now)
             (answer_by (λ _. Done) result) }
     {
         let (directory, last) = self.begin_at(path, FsError::Perm)?;
@@ -36,7 +38,8 @@ impl<D: SectorDevice> Fs<D> {
     /// dot-dot; `NameTooLong`; `NoEntry`; `NotDir`, for a symbolic link too; `NotEmpty`. Never
     /// `NoSpace`.
     pub fn rmdir(&mut self, path: &[u8]) -> Result<(), FsError>
-        ensures { Serves D.SectorDevice.state (seen self.old) (seen self.new) (Rmdir path.now)
+        ensures { Serves (in_sectors D.SectorDevice.state) (seen self.old) (seen self.new)
+            (Rmdir path.now)
             (answer_by (λ _. Done) result) }
     {
         let (directory, last) = self.begin_at(path, FsError::Busy)?;

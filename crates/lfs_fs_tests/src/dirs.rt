@@ -2,10 +2,9 @@
 ghost use Rattle.std.specs.Prelude.{◌≤◌, ◌<◌, ◌+◌, ◌*◌};
 ghost use Rattle.lfs_model.specs.Tree.{slot_len};
 
-use crate::volume::{add_name, root, store_with};
-use lfs_device::MemDevice;
+use crate::volume::{MemoryStore, add_name, root, store_with};
 use lfs_fs::path::dirs::{Entry, find, list, repoint, take};
-use lfs_fs::store::{Header, Store};
+use lfs_fs::store::Header;
 use lfs_layout::is_name;
 use lfs_model::FileNumber;
 use std::alloc::Global;
@@ -26,7 +25,7 @@ enum Step<'a> {
 
 /// Whether a name's slot has this place and number, or isn't there.
 fn is_found(
-    store: &mut Store<MemDevice>,
+    store: &mut MemoryStore,
     header: Header,
     name: &[u8],
     slot: Option<(u32, u16)>,
@@ -40,7 +39,7 @@ fn is_found(
 
 /// Whether a name is there, and comes to give another number.
 fn is_repointed(
-    store: &mut Store<MemDevice>,
+    store: &mut MemoryStore,
     header: Header,
     place: u32,
     name: &[u8],
@@ -58,7 +57,7 @@ fn is_repointed(
 }
 
 /// Whether the draft is staged, and a name is there and is then taken out.
-fn is_taken(store: &mut Store<MemDevice>, header: Header, place: u32, name: &[u8]) -> bool
+fn is_taken(store: &mut MemoryStore, header: Header, place: u32, name: &[u8]) -> bool
     requires { header.size + slot_len header.form ≤ 1024 * slot_len header.form }
 {
     if store.accept() != Ok(()) {
@@ -78,12 +77,7 @@ fn are_entries(entries: &[Entry], rows: &[(&[u8], u16)]) -> bool {
 }
 
 /// Whether a call answers what the step says.
-fn is_well(
-    alloc: Global,
-    store: &mut Store<MemDevice>,
-    form: u8,
-    step: Step,
-) -> Result<bool, Fail> {
+fn is_well(alloc: Global, store: &mut MemoryStore, form: u8, step: Step) -> Result<bool, Fail> {
     match step {
         Step::Find(slots, name, slot) => {
             Ok(is_found(store, root(form, u16::from(slots)), name, slot))
@@ -189,7 +183,7 @@ fn name_of<const L: usize>(place: u16) -> [u8; L]
 }
 
 /// Adds so many names of 123 bytes to a root of form 1.
-fn add_long_names(store: &mut Store<MemDevice>, slots: u16) -> Result<(), Fail>
+fn add_long_names(store: &mut MemoryStore, slots: u16) -> Result<(), Fail>
     requires { slots ≤ 1024 }
 {
     for place in 0..slots {

@@ -1,17 +1,16 @@
 //! Walks over a root with two files, and the texts of paths.
 
-use crate::volume::{file, plain, store_with};
-use lfs_device::MemDevice;
+use crate::volume::{MemoryStore, file, plain, store_with};
 use lfs_fs::path::text::check_text;
 use lfs_fs::path::tree::{parent, resolve};
 use lfs_fs::path::{Last, WalkFault};
-use lfs_fs::store::{Files, Store};
+use lfs_fs::store::Files;
 use lfs_model::{FileNumber, Kind};
 use std::alloc::Global;
 use std::test::Fail;
 
 /// Drafts the two files that the root names.
-fn make_files(store: &mut Store<MemDevice>) -> Result<(), Fail> {
+fn make_files(store: &mut MemoryStore) -> Result<(), Fail> {
     store.create(file(2)?, Kind::File, 0)?;
     store.create(file(3)?, Kind::File, 0)?;
     Ok(())
@@ -52,7 +51,7 @@ fn names_and_dots_are_walked(rt: HostRuntime) -> Result<(), Fail> {
 }
 
 /// Whether a path is walked to its last piece, which is this name in the root, or none.
-fn ends_in(alloc: Global, store: &mut Store<MemDevice>, path: &[u8], name: Option<&[u8]>) -> bool {
+fn ends_in(alloc: Global, store: &mut MemoryStore, path: &[u8], name: Option<&[u8]>) -> bool {
     match parent(alloc, store, path) {
         Ok(place) => place.chain.directory() == FileNumber::ROOT && is_last(place.last, name),
         Err(_) => false,

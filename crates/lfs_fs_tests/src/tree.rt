@@ -1,11 +1,11 @@
 //! Walks over a tree of directories, files and symbolic links.
 
-use crate::volume::{file, mounted, plain, store_with};
+use crate::volume::{MemoryStore, file, mounted, plain, store_with};
 use lfs_device::MemDevice;
 use lfs_fs::path::dirs::add;
 use lfs_fs::path::tree::{parent, resolve};
 use lfs_fs::path::{Last, WalkFault};
-use lfs_fs::store::{Files, Header, Store};
+use lfs_fs::store::{Files, Header};
 use lfs_layout::is_name;
 use lfs_model::{FileNumber, Kind};
 use std::alloc::Global;
@@ -20,7 +20,7 @@ enum Object<'a> {
 }
 
 /// Drafts a new object.
-fn make(store: &mut Store<MemDevice>, number: FileNumber, object: Object) -> Result<(), Fail> {
+fn make(store: &mut MemoryStore, number: FileNumber, object: Object) -> Result<(), Fail> {
     match object {
         Object::Directory => store.create(number, Kind::Directory, 0)?,
         Object::File => store.create(number, Kind::File, 0)?,
@@ -30,7 +30,7 @@ fn make(store: &mut Store<MemDevice>, number: FileNumber, object: Object) -> Res
 }
 
 /// Drafts a new link of this text.
-fn make_link(store: &mut Store<MemDevice>, number: FileNumber, text: &[u8]) -> Result<(), Fail> {
+fn make_link(store: &mut MemoryStore, number: FileNumber, text: &[u8]) -> Result<(), Fail> {
     if text.is_empty() || text.len() > 1_023 {
         return Err(Fail::from("no link"));
     }
@@ -48,7 +48,7 @@ fn make_link(store: &mut Store<MemDevice>, number: FileNumber, text: &[u8]) -> R
 
 /// Drafts a name in a directory.
 fn name(
-    store: &mut Store<MemDevice>,
+    store: &mut MemoryStore,
     directory: FileNumber,
     name: &[u8],
     number: FileNumber,
@@ -66,7 +66,7 @@ fn name(
 }
 
 /// The files of a new volume with these objects from number 2 on, each named in a directory.
-fn tree_of(alloc: Global, objects: &[(u16, &[u8], Object)]) -> Result<Box<Store<MemDevice>>, Fail> {
+fn tree_of(alloc: Global, objects: &[(u16, &[u8], Object)]) -> Result<Box<MemoryStore>, Fail> {
     let mut store = store_with(alloc, 0, b"")?;
     for (number, (directory, text, object)) in (2..99u16).zip(objects) {
         make(&mut store, file(number)?, *object)?;
@@ -77,7 +77,7 @@ fn tree_of(alloc: Global, objects: &[(u16, &[u8], Object)]) -> Result<Box<Store<
 
 /// The directory `d` (2) with the directory `x` (3) with the file `f` (4), and links in the root
 /// and in `d`.
-fn small_tree(alloc: Global) -> Result<Box<Store<MemDevice>>, Fail> {
+fn small_tree(alloc: Global) -> Result<Box<MemoryStore>, Fail> {
     tree_of(
         alloc,
         &[
@@ -123,7 +123,7 @@ fn directories_and_links_are_walked(rt: HostRuntime) -> Result<(), Fail> {
 /// Whether a path is walked to its last piece, which is this name in the directory, or none.
 fn ends_in(
     alloc: Global,
-    store: &mut Store<MemDevice>,
+    store: &mut MemoryStore,
     path: &[u8],
     directory: u16,
     name: Option<&[u8]>,
@@ -176,7 +176,7 @@ fn forty_links_are_followed(rt: HostRuntime) -> Result<(), Fail> {
 }
 
 /// Drafts other links of a directory.
-fn relink(store: &mut Store<MemDevice>, number: FileNumber, links: u32) -> Result<(), Fail> {
+fn relink(store: &mut MemoryStore, number: FileNumber, links: u32) -> Result<(), Fail> {
     if links == 0 || links > 1_000 {
         return Err(Fail::from("no links"));
     }
@@ -194,7 +194,7 @@ fn device_with_tree(alloc: Global) -> Result<MemDevice, Fail> {
     relink(&mut store, file(2)?, 3)?;
     store.accept()?;
     store.commit()?;
-    Ok(Box::into_inner(store).into_device())
+    Ok(Box::into_inner(store).into_device().into_inner())
 }
 
 #[test]

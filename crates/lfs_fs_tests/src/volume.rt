@@ -2,7 +2,7 @@
 ghost use Rattle.std.specs.Prelude.{◌≡◌, ◌<◌, ◌≤◌, ◌+◌, ◌*◌};
 ghost use Rattle.lfs_model.specs.Tree.{slot_len};
 
-use lfs_device::MemDevice;
+use lfs_device::{InSectors, MemDevice};
 use lfs_fs::path::WalkFault;
 use lfs_fs::path::dirs::add;
 use lfs_fs::store::{Header, Store};
@@ -14,6 +14,9 @@ use std::test::Fail;
 
 /// The sectors of a volume of 64 segments.
 pub const SECTORS: u32 = 4_098;
+
+/// The files of a volume on a device in memory.
+pub type MemoryStore = Store<InSectors<MemDevice>>;
 
 /// A device that holds an empty volume of so many segments, in this version.
 pub fn formatted_version(alloc: Global, segments: u32, version: u32) -> Result<MemDevice, Fail>
@@ -86,7 +89,7 @@ pub fn plain(found: Result<FileNumber, WalkFault>) -> Result<u16, WalkFault> {
 }
 
 /// Adds a name behind those of a root of this form and of so many slots.
-pub fn add_name(store: &mut Store<MemDevice>, form: u8, slots: u16, name: &[u8]) -> Result<(), Fail>
+pub fn add_name(store: &mut MemoryStore, form: u8, slots: u16, name: &[u8]) -> Result<(), Fail>
     requires { slots < 1024 }
 {
     let header = root(form, slots);
@@ -98,7 +101,7 @@ pub fn add_name(store: &mut Store<MemDevice>, form: u8, slots: u16, name: &[u8])
 }
 
 /// Adds names of one letter, at most nine, for the files from 2 on.
-fn add_names(store: &mut Store<MemDevice>, form: u8, letters: &[u8]) -> Result<(), Fail> {
+fn add_names(store: &mut MemoryStore, form: u8, letters: &[u8]) -> Result<(), Fail> {
     for (slots, letter) in (0..9u8).zip(letters) {
         add_name(store, form, u16::from(slots), &[*letter])?;
     }
@@ -107,8 +110,8 @@ fn add_names(store: &mut Store<MemDevice>, form: u8, letters: &[u8]) -> Result<(
 
 /// The files of a new volume of 64 segments, where names of one letter are drafted in a root of this
 /// form.
-pub fn store_with(alloc: Global, form: u8, letters: &[u8]) -> Result<Box<Store<MemDevice>>, Fail> {
-    match Store::open(alloc, formatted(alloc, 64)?) {
+pub fn store_with(alloc: Global, form: u8, letters: &[u8]) -> Result<Box<MemoryStore>, Fail> {
+    match Store::open(alloc, InSectors::new(formatted(alloc, 64)?)) {
         Ok(store) => {
             let mut store = Box::new(alloc, store)?;
             add_names(&mut store, form, letters)?;

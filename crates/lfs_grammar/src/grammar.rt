@@ -108,6 +108,8 @@ pub const STOP: &str = "stop";
 
 pub const LEFT: &str = "left";
 
+pub const UNIT: &str = "unit";
+
 pub const VERBOSE: &str = "verbose";
 
 pub const WAIT: &str = "wait";
@@ -250,6 +252,13 @@ const WHAT_IS_LEFT: Parameter = Parameter {
     help: "What stays of sectors that aren't synced",
 };
 
+const THE_UNIT: Parameter = Parameter {
+    name: UNIT,
+    form: Form::OptionalValue,
+    value: "BYTES",
+    help: "The bytes of a unit, or else 512: a power of two up to 65536",
+};
+
 const IN_WORDS: Parameter = Parameter {
     name: VERBOSE,
     form: Form::Lettered('v'),
@@ -318,8 +327,9 @@ const VOLUME_USAGES: &[Usage] = &[
         about: "Run a script on a volume in memory that stops, and print what is left",
         details: "Run the script on standard input on a new volume in memory, whose device stops\n\
             within write K, and print the number of writes and the tree that a mount finds\n\
-            then.",
-        parameters: &[THE_SEGMENTS, THE_FORMAT, THE_STOP, WHAT_IS_LEFT],
+            then. A sector that is left `bad` spoils its whole unit, also the sectors of it\n\
+            that were synced.",
+        parameters: &[THE_SEGMENTS, THE_FORMAT, THE_STOP, WHAT_IS_LEFT, THE_UNIT],
     },
     Usage {
         verb: Verb::Ls,

@@ -5,8 +5,8 @@ ghost use Rattle.lfs_grammar.specs.Asking.{HasWord, IsStrict};
 
 use crate::grammar::{
     CHECKPOINT, FILE, FIRST_FORMAT, FOLDER, FORCE, FORMAT, FROM, IMAGE, LEFT, LONG, NULL, OLDER,
-    PASSES, PATH, RESERVE, SECOND_FORMAT, SEGMENTS, STOP, STRICT, TO, VERBOSE, Verb, WAIT, program,
-    verb_of,
+    PASSES, PATH, RESERVE, SECOND_FORMAT, SEGMENTS, STOP, STRICT, TO, UNIT, VERBOSE, Verb, WAIT,
+    program, verb_of,
 };
 use crate::request::{Action, Change, LeftWord, Query, Request, Source};
 use clap::error::ErrorKind;
@@ -54,6 +54,7 @@ fn read_sim<'a>(found: &ArgMatches<'a>) -> Option<Request<'a>> {
         version: version_of(found)?,
         stop: found.get_str(STOP)?,
         left: left_of(found.get_str(LEFT)?)?,
+        unit: found.get_str(UNIT),
     })
 }
 

@@ -148,5 +148,7 @@ pub enum Request<'a> {
         version: u32,
         stop: &'a str,
         left: LeftWord,
+        /// The bytes of a unit of the device, where they are given.
+        unit: Option<&'a str>,
     },
 }

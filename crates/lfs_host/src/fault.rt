@@ -363,6 +363,8 @@ pub enum Fault {
     Segments,
     #[error("lfs: the write to stop at is no decimal number below 2^64 without leading zeros")]
     Stop,
+    #[error("lfs: the number of bytes of a unit is no power of two from 512 to 65536 without leading zeros")]
+    Unit,
     #[error("lfs: the number of passes is no decimal number below 2^32 without leading zeros")]
     Passes,
     #[error("lfs: PATH is no word of the script language, whose escapes are a backslash and two digits")]
@@ -388,7 +390,7 @@ impl Fault {
     {
         match self {
             Fault::Line(_) | Fault::Segments | Fault::Stop => 2,
-            Fault::Passes | Fault::Path => 2,
+            Fault::Unit | Fault::Passes | Fault::Path => 2,
             Fault::Mounted { .. } | Fault::Host { .. } => 1,
             Fault::Input | Fault::Output | Fault::Memory(_) => 1,
         }

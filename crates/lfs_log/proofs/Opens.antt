@@ -29,7 +29,7 @@ use Rattle.lfs_model.specs.Totals.{IsCounted}
 use Rattle.lfs_model.proofs.Crash.{single_log}
 use Rattle.lfs_verify.specs.declared.tables.Tables.{Tables}
 use Rattle.lfs_verify.specs.Loading.{HasTables, IsLoaded, IsUsageUpTo, SaysUsage, SaysTables, IsMapUpTo, SaysMap, numbers_in}
-use Rattle.lfs_verify.specs.Take.{Looks}
+use Rattle.lfs_verify.specs.Take.{SyncsOnce}
 use Rattle.lfs_verify.specs.declared.fault.MountFault.{MountFault}
 use Rattle.lfs_verify.specs.declared.fault.MountFault.TheVariants as fault
 use Rattle.lfs_verify.specs.Faults.{IsOpenFault}
@@ -247,7 +247,7 @@ abbrev pub mount_gives : {D : Type 0} → LogState D → Result (LogState D) (Mo
 mount_gives h = Ok h
 
 -- behind a walk, which only read
-module _ {D : Type 0} {state : D → DeviceState} (d d' : D) (looks : Looks (state d) (state d')) where
+module _ {D : Type 0} {state : D → DeviceState} (d d' : D) (looks : SyncsOnce (state d) (state d')) where
   -- the walk found no log
   pub opens_none : {f : MountFault} → ((f ≡ fault.NoMemory → ⊥) → IsOpenFault (state d) (state d') f)
       → IsRefusedLog (state d) (state d') f → OpensLog state d (mount_fails f d')

@@ -212,7 +212,7 @@ module _ {D : Type 0} (state : D → DeviceState) where
           number = two.number ∙ one.reads.number;
           cause = λ k m0 m keeps is.
               (let rose = two.cause k m0 m keeps (one.holds k m0 m (back keeps) is) in
-              let same = one.no_failure in omega (arith, rose, same));
+              let before = one.reads.looks.carries.failed_orders in omega (arith, rose, before));
           left = λ k m0 m keeps is map. two.left k m0 m keeps (one.holds k m0 m (back keeps) is) map;
           moment = moment_then back two.moment;
         }

@@ -7,7 +7,7 @@ use Rattle.lfs_model.specs.Entry.{Inode, Map, Usage}
 use Rattle.lfs_model.specs.Checkpoint.{CheckpointValue, checkpoint_sector}
 use Rattle.lfs_model.specs.Content.{Content}
 use Rattle.lfs_model.specs.Crash.{StandsForOn}
-use Rattle.lfs_model.specs.Device.{DeviceState, IsLawful, MayWrite, Carries, Only, AllLeft, LeavesOnly, ComesFrom}
+use Rattle.lfs_model.specs.Device.{AllLeft, AreSectors, Carries, ComesFrom, DeviceState, IsLawful, LeavesOnly, MayWrite, MayWriteUnit, Only}
 use Rattle.lfs_model.specs.Device.{put}
 use Rattle.lfs_model.specs.Stands.{LogMap, count_up}
 use Rattle.lfs_model.specs.TreeOf.{dropped}
@@ -18,7 +18,8 @@ use Rattle.lfs_model.specs.Running.{Running}
 use Rattle.lfs_model.specs.Committing.{IsOut, ManyClean, LeadsTo, IsReleased}
 use Rattle.lfs_model.proofs.Decoding.{checkpoint_some}
 use Rattle.lfs_model.proofs.Leaving.{staying}
-use Rattle.lfs_model.proofs.Moments.{carries_then, started, goes_on, joined}
+use Rattle.lfs_model.proofs.Moments.{carries_then, started, goes_on, joined, weaker}
+use Rattle.lfs_model.proofs.UnitWrites.{to_sector}
 use Rattle.lfs_model.proofs.Publishing.{planning, resting}
 use Rattle.lfs_model.proofs.Settled.{settled_stands, settled_still, slot_torn, acknowledged}
 use Rattle.lfs_memory.specs.segments.Table.{SegmentNumbers, PlaceInSegment, UsageTable, no_segment, no_place, used_of, live_of, held_of}
@@ -122,6 +123,18 @@ array_is xs n long inside past j = ⊎_elim
     (λ (ge : n ≤ j). get_or_past xs j 0 (omega arith) ∙ sym (past j ge))
     (cases_lt j n)
 
+-- ---- a write to a slot where units are sectors
+module _ (old new : DeviceState) (slot : ℕ) (bytes : List ℕ) (sectors : AreSectors old.unit) where
+  alone : (c : Content) → ComesFrom old (MayWriteUnit old.unit slot bytes) c → ComesFrom old (MayWrite slot bytes) c
+  alone c from = (from.0, from.1, to_sector old.unit slot (λ k e. sectors k slot e) bytes from.0 c from.2)
+
+  pub written_alone : LeavesOnly old new (ComesFrom old (MayWriteUnit old.unit slot bytes))
+      → LeavesOnly old new (ComesFrom old (MayWrite slot bytes))
+  written_alone leaves = weaker _ _ alone leaves
+
+  pub left_alone : AllLeft new (ComesFrom old (MayWriteUnit old.unit slot bytes)) → AllLeft new (ComesFrom old (MayWrite slot bytes))
+  left_alone all c left = alone c (all c left)
+
 -- ---- the sync
 module _ (d d1 : DeviceState) (v : LogMemory) (version number : ℕ) (lawful : IsLawful d) (syncs : Syncs d d1) where
   synced : (k : CheckpointValue) (m0 m : LogMap) → IsLog d v k m0 m → IsLog d1 v k m0 m
@@ -140,7 +153,7 @@ module _ (d d1 : DeviceState) (v : LogMemory) (version number : ℕ) (lawful : I
       goes_on _ (started _ lawful
       (λ c left. inl (settled_stands d k m0 log.running.settled c left))) syncs.carries syncs.time (sync_left k m0 log)
 
-  pub sync_fails : d.failures < d1.failures → PublishFails d d1 v version number
+  pub sync_fails : d.failed_orders < d1.failed_orders → PublishFails d d1 v version number
   sync_fails failed = record {
     carries = syncs.carries;
     failed = failed;
@@ -211,10 +224,10 @@ module _ (d d1 : DeviceState) (v : LogMemory) (version number : ℕ) (lawful : I
       either keeps =
           joined _ _ _ (sync_moment k m0 m held.log) moment (λ c s. s) (torn keeps)
 
-    pub replace_fails : d1.failures < d2.failures → PublishFails d d2 v version number
+    pub replace_fails : d1.failed_orders < d2.failed_orders → PublishFails d d2 v version number
     replace_fails failed = record {
       carries = carries_then syncs.carries more;
-      failed = omega arith;
+      failed = (let before = syncs.carries.failed_orders in omega (arith, failed, before));
       left = λ k m0 m keeps held c l. torn k m0 m held keeps c (left c l);
       moment = λ k m0 m keeps held. either k m0 m held keeps;
     }

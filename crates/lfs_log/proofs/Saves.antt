@@ -78,7 +78,7 @@ pub publish_fails : (a : DeviceState) {b c : DeviceState} (v : LogMemory) {v' : 
     → PublishFails b c v' version number → CommitFails a c v version number
 publish_fails a {b} {c} v {v'} n {version} {number} goes told more fails = record {
   carries = carries_then goes.carries fails.carries;
-  cause = λ k m0 m keeps is. (let worse = fails.failed in let same = goes.no_failure in omega (arith, worse, same));
+  cause = λ k m0 m keeps is. (let worse = fails.failed in let before = goes.carries.failed_orders in omega (arith, worse, before));
   left = λ k m0 m keeps is.
       fails.left k m0 m keeps (acknowledged_on b v' n goes (fails.carries.kept_before keeps) k m is);
   moment = either_then a b c v v' n _ _ goes fails.carries.kept_before fails.moment;

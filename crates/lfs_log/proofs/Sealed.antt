@@ -40,7 +40,7 @@ module _ {d d' : DeviceState} {v : LogMemory} (memory : IsMemoryUpTo 63 v) (some
     quiet_sealed k m0 m keeps is =
         stays_quiet m0 at (summary_sector v.chunk.names) is.running.settled (free k m0 m is) (may keeps) crash lawful carries time
 
-  pub seal_stops : (d'.keeps_model → MayWrite at (summary_sector v.chunk.names) d.content d'.content) → d.failures < d'.failures
+  pub seal_stops : (d'.keeps_model → MayWrite at (summary_sector v.chunk.names) d.content d'.content) → d.failed_orders < d'.failed_orders
       → Stops d d' v
   seal_stops may failed = record {
     carries = carries;

@@ -115,7 +115,8 @@ module _ (v : LogMemory) (j : ℕ) (u : UsageTable) (good : IsMemory v) (is : Is
 
 pub write_stops : (d d' : DeviceState) (v : LogMemory) (at : ℕ) (bytes : List ℕ) → IsLawful d → 2 ≤ at
     → segment_of at < length v.usage.segments → IsUnkeptBy v.usage at
-    → (d'.keeps_model → MayWrite at bytes d.content d'.content) → CrashWrites at bytes d d' → d.failures < d'.failures → Carries d d'
+    → (d'.keeps_model → MayWrite at bytes d.content d'.content) → CrashWrites at bytes d d'
+    → d.failed_orders < d'.failed_orders → Carries d d'
     → Elapses d d' → Stops d d' v
 write_stops d d' v at bytes lawful above inside on may crash failed carries time = record {
   carries = carries;
@@ -139,7 +140,8 @@ fill_goes_at v {j} {at} {u} good is e =
 
 pub write_stops_at : {d d' : DeviceState} (v : LogMemory) (j : ℕ) {at : ℕ} {bytes : List ℕ} → IsLawful d → IsAnew v.usage j
     → address_of v.usage j ≡ at
-    → (d'.keeps_model → MayWrite at bytes d.content d'.content) → CrashWrites at bytes d d' → d.failures < d'.failures → Carries d d'
+    → (d'.keeps_model → MayWrite at bytes d.content d'.content) → CrashWrites at bytes d d'
+    → d.failed_orders < d'.failed_orders → Carries d d'
     → Elapses d d' → Stops d d' v
 write_stops_at {d} {d'} v j {at} {bytes} lawful is e may crash failed carries time =
     write_stops d d' v at bytes lawful (rw (← e) is.0) (rw (← e) is.1) (rw (← e) is.2) may crash failed carries time

@@ -137,7 +137,7 @@ module _ {D : Type 0} (state : D → DeviceState) where
     pub unsaved : h'.saved ≡ false
     pub number : h'.number ≡ h.number
     pub cause : (k : CheckpointValue) (m0 m : LogMap) → (state h'.device).keeps_model → Has k m0 m
-        → (state h.device).failures < (state h'.device).failures
+        → (state h.device).failed_orders < (state h'.device).failed_orders
     pub left : (k : CheckpointValue) (m0 m : LogMap) → (state h'.device).keeps_model → Has k m0 m → IsLogMap (dropped m)
         → AllLeft (state h'.device) (IsSaved k.segments m0 m)
     pub moment : LeavesSavedOf Has h h'

@@ -65,7 +65,7 @@ pub record Publishes (d d' : DeviceState) (v v' : LogMemory) (version number : �
 -- A failure of the device ended it: a stop from now on leaves the one or the other.
 pub record PublishFails (d d' : DeviceState) (v : LogMemory) (version number : ℕ) : Type 0 where
   pub carries : Carries d d'
-  pub failed : d.failures < d'.failures
+  pub failed : d.failed_orders < d'.failed_orders
   pub left : (k : CheckpointValue) (m0 m : LogMap) → d'.keeps_model → IsAcknowledged d v version number k m0 m
       → AllLeft d' (StandsForOn k.segments m0 (dropped m))
   pub moment : LeavesEither d d' v version number

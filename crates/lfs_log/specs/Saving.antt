@@ -57,7 +57,7 @@ pub record CommitsAll (d d' : DeviceState) (v v' : LogMemory) (version number : 
 -- A failure of the device ended it: a stop from now on leaves what was acknowledged, or what was to be saved.
 pub record CommitFails (d d' : DeviceState) (v : LogMemory) (version number : ℕ) : Type 0 where
   pub carries : Carries d d'
-  pub cause : (k : CheckpointValue) (m0 m : LogMap) → d'.keeps_model → IsLog d v k m0 m → d.failures < d'.failures
+  pub cause : (k : CheckpointValue) (m0 m : LogMap) → d'.keeps_model → IsLog d v k m0 m → d.failed_orders < d'.failed_orders
   pub left : (k : CheckpointValue) (m0 m : LogMap) → d'.keeps_model → IsAcknowledged d v version number k m0 m
       → AllLeft d' (StandsForOn k.segments m0 (dropped m))
   pub moment : LeavesEither d d' v version number

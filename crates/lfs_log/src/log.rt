@@ -14,7 +14,7 @@ use crate::layout_version::{LayoutVersion, is_raised_after, unsaved_by, version_
 use crate::opening::open_memory;
 use crate::thresholds::has_reserve;
 use lfs_cache::{CachedDevice, DEFAULT_SECTORS, MOST_SECTORS};
-use lfs_device::{SectorDevice, TendedDevice};
+use lfs_device::{SectorDevice, SectorUnits, TendedDevice};
 use lfs_memory::counting::SegmentCounts;
 use lfs_memory::lifting::LiftFault;
 use lfs_memory::pointers::{count_blocks, find_block, read_block};
@@ -80,7 +80,7 @@ impl<D: SectorDevice> Model for Log<D> {
         × WaitsForPass l.memory l.pass l.relocated };
 }
 
-impl<D: SectorDevice> Log<D> {
+impl<D: SectorUnits> Log<D> {
     ghost use Rattle.lfs_log.specs.Cleaning.{ArePacked, HaltsRelocated, IsRelocated, MayClean, MayPass, Overfills, SavesRelocated, most_brought};
     ghost use Rattle.lfs_log.specs.Saving.{commit_orders, orders_for, pass_orders};
     ghost use Rattle.lfs_log.specs.Early.{full_chunk};

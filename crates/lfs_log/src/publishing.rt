@@ -8,7 +8,7 @@ ghost use Rattle.lfs_log.specs.Versions.{number_of};
 ghost use Rattle.lfs_log.specs.Publishing.{IsAllOut, IsNext, LeavesEither, Publishes, PublishFails, Syncs};
 
 use crate::layout_version::LayoutVersion;
-use lfs_device::{DeviceFault, SectorDevice};
+use lfs_device::{DeviceFault, SectorUnits};
 use lfs_layout::Checkpoint;
 use lfs_memory::LogMemory;
 use lfs_memory::segments::Usage;
@@ -44,13 +44,14 @@ fn next_checkpoint(memory: &LogMemory, version: LayoutVersion, number: u64) -> C
 }
 
 /// Makes all that was written durable.
-fn make_durable<D: SectorDevice>(device: &mut D) -> Result<(), DeviceFault>
+fn make_durable<D: SectorUnits>(device: &mut D) -> Result<(), DeviceFault>
     ensures looks { Syncs (D.state device.old) (D.state device.new) }
     ensures durable { OnOk result ((D.state device.new).keeps_model
         → Only (D.state device.new).content (D.state device.new)) }
     ensures no_failure { OnOk result ((D.state device.new).failures
         ≡ (D.state device.old).failures) }
-    ensures failed { OnErr result ((D.state device.old).failures < (D.state device.new).failures) }
+    ensures failed_order { OnErr result
+        ((D.state device.old).failed_orders < (D.state device.new).failed_orders) }
 {
     device.sync()?;
     Ok(())
@@ -63,7 +64,7 @@ fn make_durable<D: SectorDevice>(device: &mut D) -> Result<(), DeviceFault>
 /// # Errors
 ///
 /// The device's fault: a stop leaves the one or the other.
-pub fn publish<D: SectorDevice>(
+pub fn publish<D: SectorUnits>(
     device: &mut D,
     memory: &mut LogMemory,
     version: LayoutVersion,

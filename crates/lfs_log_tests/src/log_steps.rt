@@ -4,7 +4,7 @@ ghost use Rattle.std.specs.Prelude.{◌≡◌, ◌<◌, ◌≤◌};
 use crate::devices::{Probe, is_probe_well};
 use crate::volume::{Wrong, new_volume};
 use lfs_cache::{DEFAULT_SECTORS, MOST_SECTORS};
-use lfs_device::{MemDevice, SectorDevice};
+use lfs_device::{InSectors, MemDevice, SectorDevice, SectorUnits};
 use lfs_model::Kind;
 use lfs_store::volume_log::{Changes, Cut, Header, LastLink, Log, LogFault, Loss};
 use std::alloc::Global;
@@ -105,8 +105,11 @@ fn file_of(links: u32, size: u32) -> Header {
     }
 }
 
+/// A log on a device in memory.
+type MemoryLog = Log<InSectors<MemDevice>>;
+
 /// Changes one thing.
-fn stage(log: &mut Log<MemDevice>, alloc: Global, act: Act) -> Result<(), LogFault> {
+fn stage(log: &mut MemoryLog, alloc: Global, act: Act) -> Result<(), LogFault> {
     let Ok(mut changes) = Changes::new(alloc, 1, 1) else {
         return Err(LogFault::Full);
     };
@@ -138,7 +141,7 @@ fn stage(log: &mut Log<MemDevice>, alloc: Global, act: Act) -> Result<(), LogFau
 }
 
 /// Fills the blocks of file 2 before this one.
-fn fill_to(log: &mut Log<MemDevice>, alloc: Global, end: u32, byte: u8) -> Result<(), LogFault> {
+fn fill_to(log: &mut MemoryLog, alloc: Global, end: u32, byte: u8) -> Result<(), LogFault> {
     for index in 0..end {
         stage(log, alloc, Act::Fill(2, index, byte))?;
     }
@@ -146,7 +149,7 @@ fn fill_to(log: &mut Log<MemDevice>, alloc: Global, end: u32, byte: u8) -> Resul
 }
 
 /// Fills the blocks of file 2 at the edges.
-fn fill_edges(log: &mut Log<MemDevice>, alloc: Global) -> Result<(), LogFault> {
+fn fill_edges(log: &mut MemoryLog, alloc: Global) -> Result<(), LogFault> {
     for index in EDGES {
         stage(log, alloc, Act::Fill(2, index, byte_of(index)))?;
     }
@@ -154,7 +157,7 @@ fn fill_edges(log: &mut Log<MemDevice>, alloc: Global) -> Result<(), LogFault> {
 }
 
 /// Makes files before this one, each with a commit.
-fn make_to(log: &mut Log<MemDevice>, alloc: Global, end: u16) -> Result<(), LogFault> {
+fn make_to(log: &mut MemoryLog, alloc: Global, end: u16) -> Result<(), LogFault> {
     for file in 2..end {
         stage(log, alloc, Act::Make(file, 30_720))?;
         for index in 0..60 {
@@ -166,7 +169,7 @@ fn make_to(log: &mut Log<MemDevice>, alloc: Global, end: u16) -> Result<(), LogF
 }
 
 /// What lives in two segments is relocated.
-fn relocate(log: &mut Log<MemDevice>, one: u16, other: u16) -> Result<(), LogFault> {
+fn relocate(log: &mut MemoryLog, one: u16, other: u16) -> Result<(), LogFault> {
     if one == other {
         return Err(LogFault::Full);
     }
@@ -174,12 +177,12 @@ fn relocate(log: &mut Log<MemDevice>, one: u16, other: u16) -> Result<(), LogFau
 }
 
 /// A pass of the cleaner over two segments.
-fn empty(log: &mut Log<MemDevice>, one: u16, other: u16) -> Result<(), LogFault> {
+fn empty(log: &mut MemoryLog, one: u16, other: u16) -> Result<(), LogFault> {
     relocate(log, one, other)?;
     log.commit_relocated()
 }
 
-fn carry_out(log: &mut Log<MemDevice>, alloc: Global, act: Act) -> Result<(), LogFault> {
+fn carry_out(log: &mut MemoryLog, alloc: Global, act: Act) -> Result<(), LogFault> {
     let totals = log.totals();
     match act {
         Act::Remove(file) => log.remove(file % 4_096, totals),
@@ -196,13 +199,13 @@ fn carry_out(log: &mut Log<MemDevice>, alloc: Global, act: Act) -> Result<(), Lo
 }
 
 /// Whether a block of a file is filled with this byte: 0 where it isn't stored.
-pub fn reads<D: SectorDevice>(log: &mut Log<D>, file: u16, index: u32, byte: u8) -> bool {
+pub fn reads<D: SectorUnits>(log: &mut Log<D>, file: u16, index: u32, byte: u8) -> bool {
     let mut bytes = [255; 512];
     log.block(file % 4_096, index, &mut bytes) == Ok(byte != 0) && bytes == [byte; 512]
 }
 
 /// Whether the blocks of file 2 before this one are.
-fn reads_to(log: &mut Log<MemDevice>, end: u32, byte: u8) -> bool {
+fn reads_to(log: &mut MemoryLog, end: u32, byte: u8) -> bool {
     for index in 0..end {
         if !reads(log, 2, index, byte) {
             return false;
@@ -212,7 +215,7 @@ fn reads_to(log: &mut Log<MemDevice>, end: u32, byte: u8) -> bool {
 }
 
 /// Whether the blocks of file 2 at the edges before this one are there, and no other.
-fn is_cut(log: &mut Log<MemDevice>, first: u32) -> bool {
+fn is_cut(log: &mut MemoryLog, first: u32) -> bool {
     for index in EDGES {
         let byte = if index < first { byte_of(index) } else { 0 };
         if !reads(log, 2, index, byte) {
@@ -222,7 +225,7 @@ fn is_cut(log: &mut Log<MemDevice>, first: u32) -> bool {
     true
 }
 
-fn is_seen(log: &mut Log<MemDevice>, look: Look) -> bool {
+fn is_seen(log: &mut MemoryLog, look: Look) -> bool {
     match look {
         Look::Number(number) => log.number() == number,
         Look::Clean(segments) => log.clean_segments() == segments,
@@ -246,7 +249,8 @@ pub fn mounted<D: SectorDevice + Drop>(
     alloc: Global,
     capacity: u32,
     device: D,
-) -> Result<Box<Log<D>>, Wrong> {
+) -> Result<Box<Log<InSectors<D>>>, Wrong> {
+    let device = InSectors::new(device);
     let Ok(log) = Log::open_with(alloc, device, capacity.clamp(1, MOST_SECTORS)) else {
         return Err(Wrong::NotOpened);
     };
@@ -260,11 +264,11 @@ pub fn mounted<D: SectorDevice + Drop>(
 fn between(
     alloc: Global,
     capacity: u32,
-    log: Box<Log<MemDevice>>,
+    log: Box<MemoryLog>,
     probe: Probe,
-) -> Option<Box<Log<MemDevice>>> {
+) -> Option<Box<MemoryLog>> {
     let slot = (log.number() % 2) as u32;
-    let mut device = Box::into_inner(log).into_device();
+    let mut device = Box::into_inner(log).into_device().into_inner();
     if !is_probe_well(&mut device, slot, probe) {
         return None;
     }
@@ -272,12 +276,7 @@ fn between(
 }
 
 /// The log after a step, where it saw what it should.
-fn after(
-    alloc: Global,
-    capacity: u32,
-    log: Box<Log<MemDevice>>,
-    step: Step,
-) -> Option<Box<Log<MemDevice>>> {
+fn after(alloc: Global, capacity: u32, log: Box<MemoryLog>, step: Step) -> Option<Box<MemoryLog>> {
     let mut log = log;
     let well = match step {
         Step::Done(act) => carry_out(&mut log, alloc, act) == Ok(()),
@@ -303,7 +302,7 @@ pub fn run(
         };
         log = next;
     }
-    Ok(Box::into_inner(log).into_device())
+    Ok(Box::into_inner(log).into_device().into_inner())
 }
 
 /// The device after these steps over an empty volume.

@@ -7,7 +7,7 @@ use crate::log_steps::{CAPACITIES, mounted};
 use crate::plain::{NO_FILE, PlainMap, number_of};
 use crate::volume::{Flaw, Wrong, new_volume};
 use crate::wired::{Faults, NO_FAULT, WiredDevice};
-use lfs_device::{Left, MemDevice};
+use lfs_device::{InSectors, Left, MemDevice};
 use lfs_store::volume_log::{Changes, Log, LogFault};
 use std::alloc::Global;
 use std::cell::Cell;
@@ -44,7 +44,10 @@ struct Trial<'a> {
     present: PlainMap,
 }
 
-fn carry_out(log: &mut Log<WiredDevice<'_>>, call: Call<'_>) -> Result<(), LogFault> {
+/// A log on a device whose faults are chosen while it holds it.
+type WiredLog<'a> = Log<InSectors<WiredDevice<'a>>>;
+
+fn carry_out(log: &mut WiredLog<'_>, call: Call<'_>) -> Result<(), LogFault> {
     let totals = log.totals();
     match call {
         Call::Stage(changes) => log.stage(changes, totals),
@@ -54,7 +57,7 @@ fn carry_out(log: &mut Log<WiredDevice<'_>>, call: Call<'_>) -> Result<(), LogFa
 
 impl Trial<'_> {
     /// The log is as it should be.
-    fn check(&self, log: &mut Log<WiredDevice<'_>>) -> Result<(), Flaw> {
+    fn check(&self, log: &mut WiredLog<'_>) -> Result<(), Flaw> {
         if log.is_halted() {
             return Err(Flaw::Halted);
         }
@@ -96,7 +99,7 @@ impl Trial<'_> {
     }
 
     /// A call is done. Where a read fails, it changes nothing; it is done once none does.
-    fn call(&mut self, log: &mut Log<WiredDevice<'_>>, call: Call<'_>) -> Result<(), Flaw> {
+    fn call(&mut self, log: &mut WiredLog<'_>, call: Call<'_>) -> Result<(), Flaw> {
         let fails = self.roll_fault();
         let outcome = carry_out(log, call);
         self.wire.set(Some(NO_FAULT));
@@ -112,11 +115,7 @@ impl Trial<'_> {
     }
 
     /// A batch is staged, if memory has room for it.
-    fn stage_changes(
-        &mut self,
-        log: &mut Log<WiredDevice<'_>>,
-        changes: &Changes,
-    ) -> Result<(), Flaw> {
+    fn stage_changes(&mut self, log: &mut WiredLog<'_>, changes: &Changes) -> Result<(), Flaw> {
         if !log.has_room(changes) {
             return Err(Flaw::Room);
         }
@@ -124,7 +123,7 @@ impl Trial<'_> {
     }
 
     /// A random batch is staged.
-    fn stage(&mut self, alloc: Global, log: &mut Log<WiredDevice<'_>>) -> Result<(), Flaw> {
+    fn stage(&mut self, alloc: Global, log: &mut WiredLog<'_>) -> Result<(), Flaw> {
         let Ok(batch) = Batch::rolled(alloc, &self.present, &mut self.dice) else {
             return Err(Flaw::Memory);
         };
@@ -134,7 +133,7 @@ impl Trial<'_> {
     }
 
     /// A file without links goes.
-    fn remove(&mut self, log: &mut Log<WiredDevice<'_>>) -> Result<(), Flaw> {
+    fn remove(&mut self, log: &mut WiredLog<'_>) -> Result<(), Flaw> {
         let file = self.dice.roll(6) as usize;
         if self.present.files[file].has_links() {
             return Ok(());
@@ -151,7 +150,7 @@ impl Trial<'_> {
     }
 
     /// A commit, which may stop within a write.
-    fn commit(&mut self, log: &mut Log<WiredDevice<'_>>) -> Result<Next, Flaw> {
+    fn commit(&mut self, log: &mut WiredLog<'_>) -> Result<Next, Flaw> {
         let stops = self.roll_stop();
         match log.commit() {
             Ok(()) => self.save(),
@@ -172,7 +171,7 @@ impl Trial<'_> {
     }
 
     /// A batch, a removal, a commit or a stop. In too few clean segments no commit is done.
-    fn step(&mut self, alloc: Global, log: &mut Log<WiredDevice<'_>>) -> Result<Next, Flaw> {
+    fn step(&mut self, alloc: Global, log: &mut WiredLog<'_>) -> Result<Next, Flaw> {
         let mut next = Next::Step;
         if log.clean_segments() < log.segments() / 8 + 8 {
             if log.commit() != Err(LogFault::Full) {
@@ -235,7 +234,7 @@ impl Trial<'_> {
 
     /// The log that a stop leaves. Within a commit it leaves the acknowledged map, or the present
     /// one without its files of no links.
-    fn resume(&mut self, log: &mut Log<WiredDevice<'_>>, within_commit: bool) -> Result<(), Flaw> {
+    fn resume(&mut self, log: &mut WiredLog<'_>, within_commit: bool) -> Result<(), Flaw> {
         if log.unsaved() != 0 {
             return Err(Flaw::Unsaved);
         }
@@ -248,7 +247,7 @@ impl Trial<'_> {
 }
 
 /// The log on the heap, where each end drops it by one call.
-type LogState<'a> = Box<Log<WiredDevice<'a>>>;
+type LogState<'a> = Box<WiredLog<'a>>;
 
 impl<'a> Trial<'a> {
     /// The log after a stop.
@@ -259,7 +258,7 @@ impl<'a> Trial<'a> {
         within_commit: bool,
     ) -> Result<LogState<'a>, Flaw> {
         let segments = log.segments();
-        let mut wired = Box::into_inner(log).into_device();
+        let mut wired = Box::into_inner(log).into_device().into_inner();
         // What is kept is read without a call, so faults that were chosen may still wait for one.
         wired.take_faults();
         self.stop(&mut wired.device, segments, within_commit)?;

@@ -3,7 +3,7 @@ ghost use Rattle.std.specs.Prelude.{◌≡◌, ◌<◌, ◌≤◌};
 
 use crate::devices::{Probe, is_probe_well};
 use crate::volume::{Wrong, new_volume};
-use lfs_device::MemDevice;
+use lfs_device::{InSectors, MemDevice};
 use lfs_model::{FileNumber, Kind};
 use lfs_store::volume_log::{Header, LogFault};
 use lfs_store::{BlockTotals, Files, Measure, Store, StoreFault};
@@ -88,6 +88,9 @@ pub enum Step {
 /// The file of most steps.
 pub const FILE_2: FileNumber = FileNumber { value: 2 };
 
+/// A store on a device in memory.
+type MemoryStore = Store<InSectors<MemDevice>>;
+
 /// The nearest number that a file may have.
 fn number_of(file: u16) -> FileNumber {
     FileNumber {
@@ -105,7 +108,7 @@ pub fn file_of(links: u32, size: u32) -> Header {
 }
 
 /// Writes a file with blocks of sevens before this one, and makes it where it isn't there.
-fn write_file(store: &mut Store<MemDevice>, file: u16, end: u32) -> bool {
+fn write_file(store: &mut MemoryStore, file: u16, end: u32) -> bool {
     let number = number_of(file);
     if store.header(number) == Ok(None) && store.create(number, Kind::File, 0).is_err() {
         return false;
@@ -125,7 +128,7 @@ fn write_file(store: &mut Store<MemDevice>, file: u16, end: u32) -> bool {
 }
 
 /// Makes files from number 2 to before this one.
-fn make_files(store: &mut Store<MemDevice>, end: u16) -> bool {
+fn make_files(store: &mut MemoryStore, end: u16) -> bool {
     for file in 2..end {
         if !write_file(store, file, 1) || !write_file(store, 100, 58) {
             return false;
@@ -138,13 +141,13 @@ fn make_files(store: &mut Store<MemDevice>, end: u16) -> bool {
 }
 
 /// Commits: whether that was done, and had something to save, or nothing.
-fn save(store: &mut Store<MemDevice>, changed: bool) -> bool {
+fn save(store: &mut MemoryStore, changed: bool) -> bool {
     let number = store.number();
     store.commit().is_ok() && store.number() == number.saturating_add(u64::from(changed))
 }
 
 /// Writes the same byte so many times.
-fn write(store: &mut Store<MemDevice>, size: u32, at: u32, len: usize, byte: u8) -> bool {
+fn write(store: &mut MemoryStore, size: u32, at: u32, len: usize, byte: u8) -> bool {
     let bytes = [byte; 1_200];
     let len = len.clamp(1, 1_200);
     let at = at.min(8_511_488 - len as u32);
@@ -154,7 +157,7 @@ fn write(store: &mut Store<MemDevice>, size: u32, at: u32, len: usize, byte: u8)
 }
 
 /// Changes file 2 in an empty draft.
-fn change(store: &mut Store<MemDevice>, call: Call) -> bool {
+fn change(store: &mut MemoryStore, call: Call) -> bool {
     store.give_up();
     match call {
         Call::SetLinks(size, links) => store.set_links(FILE_2, file_of(1, size), links).is_ok(),
@@ -168,7 +171,7 @@ fn change(store: &mut Store<MemDevice>, call: Call) -> bool {
 }
 
 /// Calls the store: whether the call was done.
-fn is_done(store: &mut Store<MemDevice>, call: Call) -> bool {
+fn is_done(store: &mut MemoryStore, call: Call) -> bool {
     match call {
         Call::Create(file, kind) => store.create(number_of(file), kind, 0).is_ok(),
         Call::CreateLink(file, size) => store.create_link(number_of(file), size.min(1_023)).is_ok(),
@@ -184,13 +187,13 @@ fn is_done(store: &mut Store<MemDevice>, call: Call) -> bool {
 }
 
 /// Whether a block of a file is filled with this byte: 0 where it isn't stored.
-fn reads(store: &mut Store<MemDevice>, file: u16, index: u32, byte: u8) -> bool {
+fn reads(store: &mut MemoryStore, file: u16, index: u32, byte: u8) -> bool {
     let mut bytes = [255; 512];
     store.block(number_of(file), index, &mut bytes) == Ok(byte != 0) && bytes == [byte; 512]
 }
 
 /// Whether a file has so many blocks of sevens, and one link.
-fn holds(store: &mut Store<MemDevice>, file: u16, blocks: u32) -> bool {
+fn holds(store: &mut MemoryStore, file: u16, blocks: u32) -> bool {
     let size = blocks.saturating_mul(512);
     if store.header(number_of(file)) != Ok(Some(file_of(1, size))) {
         return false;
@@ -204,7 +207,7 @@ fn holds(store: &mut Store<MemDevice>, file: u16, blocks: u32) -> bool {
 }
 
 /// Whether files from number 2 to before this one have so many blocks of sevens.
-fn holds_to(store: &mut Store<MemDevice>, end: u16, blocks: u32) -> bool {
+fn holds_to(store: &mut MemoryStore, end: u16, blocks: u32) -> bool {
     for file in 2..end {
         if !holds(store, file, blocks) {
             return false;
@@ -214,7 +217,7 @@ fn holds_to(store: &mut Store<MemDevice>, end: u16, blocks: u32) -> bool {
 }
 
 /// The byte of file 2 at a place, if its block is stored.
-fn byte_at(store: &mut Store<MemDevice>, place: u32) -> Result<Option<u8>, LogFault> {
+fn byte_at(store: &mut MemoryStore, place: u32) -> Result<Option<u8>, LogFault> {
     let mut bytes = [255; 512];
     if store.block(FILE_2, place / 512, &mut bytes)? {
         Ok(Some(bytes[(place % 512) as usize]))
@@ -224,14 +227,14 @@ fn byte_at(store: &mut Store<MemDevice>, place: u32) -> Result<Option<u8>, LogFa
 }
 
 /// Whether these are bytes of file 2 from a place on.
-fn has_bytes(store: &mut Store<MemDevice>, alloc: Global, from: u32, want: [u8; 4]) -> bool {
+fn has_bytes(store: &mut MemoryStore, alloc: Global, from: u32, want: [u8; 4]) -> bool {
     match store.read_at(alloc, FILE_2, from, from.saturating_add(4)) {
         Ok(bytes) => bytes.as_slice() == want.as_slice(),
         Err(_) => false,
     }
 }
 
-fn is_seen(store: &mut Store<MemDevice>, alloc: Global, look: Look) -> bool {
+fn is_seen(store: &mut MemoryStore, alloc: Global, look: Look) -> bool {
     match look {
         Look::Is(file, kind, links, size) => {
             store.header(number_of(file))
@@ -260,7 +263,7 @@ fn totals_of(data_blocks: u32, meta_blocks: u32) -> BlockTotals {
 
 /// Whether file 2 has so many data blocks from one index to before another, and so many others: its
 /// inode, leaves with a block there, its double root.
-fn measures(store: &mut Store<MemDevice>, from: u32, to: u32, want: (u32, u32)) -> bool {
+fn measures(store: &mut MemoryStore, from: u32, to: u32, want: (u32, u32)) -> bool {
     let to = to.min(16_624);
     let (data_blocks, meta_blocks) = want;
     store.measure(FILE_2, from.min(to), to)
@@ -270,7 +273,7 @@ fn measures(store: &mut Store<MemDevice>, from: u32, to: u32, want: (u32, u32)) 
         })
 }
 
-fn is_counted(store: &mut Store<MemDevice>, count: Count) -> bool {
+fn is_counted(store: &mut MemoryStore, count: Count) -> bool {
     match count {
         Count::Number(number) => store.number() == number,
         Count::Clean(segments) => store.usage().clean() == segments,
@@ -281,21 +284,17 @@ fn is_counted(store: &mut Store<MemDevice>, count: Count) -> bool {
 }
 
 /// The store on the heap, where each end drops it by one call.
-fn mounted(alloc: Global, device: MemDevice) -> Option<Box<Store<MemDevice>>> {
-    let Ok(store) = Store::open(alloc, device) else {
+fn mounted(alloc: Global, device: MemDevice) -> Option<Box<MemoryStore>> {
+    let Ok(store) = Store::open(alloc, InSectors::new(device)) else {
         return None;
     };
     Box::new(alloc, store).ok()
 }
 
 /// Carries out a step while no store holds the device.
-fn between(
-    alloc: Global,
-    store: Box<Store<MemDevice>>,
-    probe: Probe,
-) -> Option<Box<Store<MemDevice>>> {
+fn between(alloc: Global, store: Box<MemoryStore>, probe: Probe) -> Option<Box<MemoryStore>> {
     let slot = (store.number() % 2) as u32;
-    let mut device = Box::into_inner(store).into_device();
+    let mut device = Box::into_inner(store).into_device().into_inner();
     if !is_probe_well(&mut device, slot, probe) {
         return None;
     }
@@ -303,7 +302,7 @@ fn between(
 }
 
 /// The store after a step, where it saw what it should.
-fn after(alloc: Global, store: Box<Store<MemDevice>>, step: Step) -> Option<Box<Store<MemDevice>>> {
+fn after(alloc: Global, store: Box<MemoryStore>, step: Step) -> Option<Box<MemoryStore>> {
     let mut store = store;
     let well = match step {
         Step::Calls(call) => is_done(&mut store, call),

@@ -20,7 +20,7 @@ pub const NO_FAULT: Faults = Faults {
     read: u64::MAX,
 };
 
-/// A device that takes its faults from a cell.
+/// A device that takes its faults from a cell at each call, so it bears no order.
 #[derive(Drop)]
 pub struct WiredDevice<'a> {
     pub device: MemDevice,
@@ -47,10 +47,12 @@ impl SectorDevice for WiredDevice<'_> {
     ghost use Rattle.lfs_device.specs.Memory.{memory_lawful};
     ghost use Rattle.lfs_device.specs.Rows.{states_of};
     ghost use Rattle.lfs_device.specs.Told.{orders_of};
+    ghost use Rattle.lfs_device.specs.Units.{unit_of};
+    ghost use Rattle.lfs_log_tests.specs.Wired.{bearing_nothing, bearing_nothing_lawful};
 
-    ghost state = { λ w. device_state w.device };
+    ghost state = { λ w. bearing_nothing (device_state w.device) };
 
-    ghost lawful = { λ w. memory_lawful w.device.rows.items (states_of w.device.past.value) w.device.failed.value (orders_of w.device.told.value) w.device.fits w.device.whole w.device.were_whole };
+    ghost lawful = { λ w. bearing_nothing_lawful (device_state w.device) (memory_lawful (unit_of w.device.units) w.device.rows.items (states_of w.device.past.value) w.device.failed.value w.device.failed_orders.value (orders_of w.device.told.value) w.device.bench w.device.fits w.device.whole w.device.were_whole) };
 
     fn sectors(&self) -> u32 {
         self.device.sectors()

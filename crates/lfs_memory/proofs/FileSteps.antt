@@ -48,7 +48,7 @@ module _ {v v' : LogMemory} {name : BlockNameValue} {lives : Bool} {age place : 
   pub quiet_step : Quiet d d' v
   quiet_step k m0 m keeps is = stays_quiet m0 place bytes is.running.settled (free_place memory p is) (may keeps) crash lawful carries time
 
-  pub place_stops : d.failures < d'.failures → Stops d d' v
+  pub place_stops : d.failed_orders < d'.failed_orders → Stops d d' v
   place_stops failed = record {
     carries = carries;
     cause = λ k m0 m keeps is. failed;

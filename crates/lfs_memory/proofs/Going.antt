@@ -47,7 +47,12 @@ goes_at_most a b v v' n l le one =
 pub stops_then : {p : ℕ} {a b c : DeviceState} {v v' : LogMemory} {n : ℕ} → GoesUpTo p a b v v' n → Stops b c v' → Stops a c v
 stops_then {a = a} {b} {c} one two = record {
   carries = carries_then one.carries two.carries;
-  cause = λ k m0 m keeps is. (omega (arith, two.cause k m0 m keeps (one.log k m0 m (two.carries.kept_before keeps) is)));
+  cause = λ k m0 m keeps is.
+      (let before = one.carries.failed_orders in omega (
+        arith,
+        before,
+        two.cause k m0 m keeps (one.log k m0 m (two.carries.kept_before keeps) is),
+      ));
   settled = λ k m0 m keeps is. two.settled k m0 m keeps (one.log k m0 m (two.carries.kept_before keeps) is);
   quiet = quiet_then a b c one two.carries.kept_before two.quiet;
 }

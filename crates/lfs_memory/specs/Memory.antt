@@ -113,7 +113,7 @@ Goes d d' v v' placed = GoesUpTo OPEN_CHUNK_BLOCKS d d' v v' placed
 -- One that a failure of the device ended: what is acknowledged stays.
 pub record Stops (d d' : DeviceState) (v : LogMemory) : Type 0 where
   pub carries : Carries d d'
-  pub cause : (k : CheckpointValue) (m0 m : LogMap) → d'.keeps_model → IsLog d v k m0 m → d.failures < d'.failures
+  pub cause : (k : CheckpointValue) (m0 m : LogMap) → d'.keeps_model → IsLog d v k m0 m → d.failed_orders < d'.failed_orders
   pub settled : (k : CheckpointValue) (m0 m : LogMap) → d'.keeps_model → IsLog d v k m0 m → IsSettled d' k m0
   pub quiet : Quiet d d' v
 

@@ -1,5 +1,8 @@
 pub mod Cells
 pub mod Moments
+pub mod Pasts
+pub mod UnitWrites
+pub mod UnitStates
 pub mod Slots
 pub mod Numbers
 pub mod Parts

@@ -1,7 +1,7 @@
 -- How a run of device calls goes on.
-use Rattle.std.proofs.Common.{◌≢◌, inl, inr, ⊎_elim, ℕ, ◌+◌, ◌<◌, ◌≤◌, Some, None, List, refl, sym, ◌∙◌, subst, arith, length-set}
+use Rattle.std.proofs.Common.{◌≢◌, inl, inr, ⊎_elim, ℕ, ◌+◌, ◌<◌, ◌≤◌, Some, None, List, [], refl, sym, ◌∙◌, ap, subst, arith, length-set}
 use Rattle.std.proofs.Common.{get_or-set_other}
-use Rattle.std.specs.Prelude.{◌≡◌, ◌∷◌, slice_set}
+use Rattle.std.specs.Prelude.{◌≡◌, ◌∷◌, length, slice_set}
 use Rattle.lfs_model.specs.Device.{Cell, DeviceState, put, lose, MayWrite, left_old, left_new, left_bad, AllLeft, Carries, Elapses}
 use Rattle.lfs_model.specs.Device.{IsUntouched, CrashWrites, IsLawful, LeavesOnly, ComesFrom, SameOutside, IsBeginning, Grows}
 use Rattle.lfs_model.specs.declared.Order.{Order}
@@ -19,27 +19,67 @@ grows_none old new is first begins = subst (λ (l : List Order). IsBeginning fir
 pub grows_one : (order : Order) (old new : List Order) → new ≡ order ∷ old → Grows old new
 grows_one order old new is first begins = subst (λ (l : List Order). IsBeginning first l) (sym is) (begins_later first order old begins)
 
+-- what was told is a beginning of itself
+begins_itself : (told : List Order) → IsBeginning told told
+unfolding IsBeginning
+begins_itself [] = refl
+begins_itself (order ∷ told) = inl refl
+
+begins_shorter : (first told : List Order) → IsBeginning first told → length first ≤ length told
+unfolding IsBeginning
+begins_shorter first [] begins = let same = ap (λ (l : List Order). length l) begins in omega (arith, same)
+begins_shorter first (order ∷ told) (inl same) = let long = ap (λ (l : List Order). length l) same in omega (arith, long)
+begins_shorter first (order ∷ told) (inr begins) = let low = begins_shorter first told begins in omega (arith, low)
+
+pub grows_longer : (old new : List Order) → Grows old new → length old ≤ length new
+grows_longer old new grows = begins_shorter old new (grows old (begins_itself old))
+
 pub carries_none : {d : DeviceState} → Carries d d
 carries_none = record {
   size = refl;
   kept_before = λ k. k;
+  unit = refl;
   failures = omega arith;
+  failed_orders = omega arith;
+  failed_reads = omega arith;
   later = omega arith;
   remembers = λ t c le left. left;
+  kept_as = λ u le. (λ kept. kept, λ kept. kept);
+  left_as = λ t u c le. (λ left. left, λ left. left);
   start = refl;
   told = λ first begins. begins;
+  bears = λ n bears. bears;
+  borne = λ n bears few. refl;
 }
 
 pub carries_then : {a b c : DeviceState} → Carries a b → Carries b c → Carries a c
 carries_then one two = record {
   size = two.size ∙ one.size;
   kept_before = λ k. one.kept_before (two.kept_before k);
+  unit = two.unit ∙ one.unit;
   failures = omega (arith, one.failures, two.failures);
+  failed_orders = omega (arith, one.failed_orders, two.failed_orders);
+  failed_reads = omega (arith, one.failed_reads, two.failed_reads);
   later = omega (arith, one.later, two.later);
   remembers = λ t x le left. two.remembers t x (omega (arith, le, one.later)) (one.remembers t x le left);
+  kept_as = λ u le.
+      let first = one.kept_as u le in
+      let second = two.kept_as u (omega (arith, le, one.later)) in
+      (λ kept. first.0 (second.0 kept), λ kept. second.1 (first.1 kept));
+  left_as = λ t u x le.
+      let first = one.left_as t u x le in
+      let second = two.left_as t u x (omega (arith, le, one.later)) in
+      (λ left. first.0 (second.0 left), λ left. second.1 (first.1 left));
   start = two.start ∙ one.start;
   told = λ first begins. two.told first (one.told first begins);
+  bears = λ n bears. two.bears n (one.bears n bears);
+  borne = λ n bears few. two.borne n (one.bears n bears) few
+      ∙ one.borne n bears (let longer = grows_longer _ _ two.told in omega (arith, few, longer));
 }
+
+-- where no call fails, no order does
+pub same_orders : {old new : DeviceState} → Carries old new → new.failures ≡ old.failures → new.failed_orders ≡ old.failed_orders
+same_orders carries same = let more = carries.failed_orders in let reads = carries.failed_reads in omega (arith, more, reads, same)
 
 -- before the first call
 pub started : {d : DeviceState} (P : Set) → IsLawful d → AllLeft d P → LeavesOnly d d P

@@ -1,4 +1,4 @@
--- A step of the model never answers Halted: that comes only of a commit that failed.
+-- A step of the model never answers Halted or Device: these come only of calls of the device that failed.
 use Rattle.std.proofs.Common.{◌≡◌, ◌+◌, ◌-◌, ◌==◌, ℕ, Bool, true, false, Option, Some, None, List, [], ◌∷◌, ◌++◌, length, refl, sym, subst}
 use Rattle.std.specs.Prelude.{if◌then◌else◌, not, nat_lt, nat_le, MatchOption, option_map, unwrap_or}
 use Rattle.std.specs.List.{AllByRecursion, list_any}
@@ -6,7 +6,8 @@ use Rattle.lfs_model.specs.Bytes as bytes
 use Rattle.lfs_model.specs.Tree.{File, Dir, Link, Tree, State, node, with_node, is_dir, form_of, names_in, with_name, without_name, links}
 use Rattle.lfs_model.specs.Tree.{least_handle}
 use Rattle.lfs_model.specs.PathText.{comps, slash, but_last, text_refusal}
-use Rattle.lfs_model.specs.Refusal.{Refusal, NoEntry, NotDir, IsDir, NotEmpty, Inval, NameTooLong, Busy, TooManyLinks, FileTooBig, Halted}
+use Rattle.lfs_model.specs.Refusal.{Refusal, NoEntry, NotDir, IsDir, NotEmpty, Inval, NameTooLong, Busy}
+use Rattle.lfs_model.specs.Refusal.{TooManyLinks, FileTooBig, Device, Halted}
 use Rattle.lfs_model.specs.Walk.{Walk, no_piece, stays, goes_up, too_long, not_there, directory, file, not_dir, link, loops, followed, End}
 use Rattle.lfs_model.specs.Walk.{At, Refused, Ends}
 use Rattle.lfs_model.specs.Call.{Call, Open, Create, Close, Pread, Pwrite, Truncate, Mkdir, LinkTo, Symlink, Readlink, Unlink, Rmdir}
@@ -19,9 +20,10 @@ use Rattle.lfs_model.specs.Step.{reads_link, removes_dir, rename_list, renames, 
 use Rattle.lfs_model.specs.Step.{truncates, unlinks, when, widened, widens, with_new, with_tree, writes}
 use Rattle.lfs_model.proofs.Walks.{Some-injective}
 
--- the answer isn't Halted
+-- the answer is neither Halted nor Device
 abbrev is_own : Answer → Bool
 is_own (Refuse Halted) = false
+is_own (Refuse Device) = false
 is_own _ = true
 
 abbrev IsOwn : Answer → Type 0
@@ -202,10 +204,17 @@ outcome_own N s Upgrade e f first second = refl
 outcome_own N s (Widen p) e f first second = reached_own s e (widens N s) first (widens_own N s)
 outcome_own N s ListTree e f first second = refl
 
-pub steps_never_halt : (N : ℕ) (s s' : State) (call : Call) (a : Answer) → Step N s call a s' → a ≡ Refuse Halted → ⊥
-steps_never_halt N s s' call a step halted =
+step_own : (N : ℕ) (s s' : State) (call : Call) {a : Answer} → Step N s call a s' → IsOwn a
+step_own N s s' call step =
     let own : IsOwn (outcome N s call step.first_end step.second_end).0 =
     outcome_own N s call step.first_end step.second_end (path_own s.tree (path_of call) step.first_end step.first)
     (path_own s.tree (second_path_of call) step.second_end step.second) in
-    let here : IsOwn (Refuse Halted) = subst IsOwn halted (subst IsOwn step.answer own) in
-    cc
+    subst IsOwn step.answer own
+
+pub steps_never_halt : (N : ℕ) (s s' : State) (call : Call) (a : Answer) → Step N s call a s' → a ≡ Refuse Halted → ⊥
+steps_never_halt N s s' call a step halted =
+    let here : IsOwn (Refuse Halted) = subst IsOwn halted (step_own N s s' call step) in cc
+
+pub steps_never_fail : (N : ℕ) (s s' : State) (call : Call) (a : Answer) → Step N s call a s' → a ≡ Refuse Device → ⊥
+steps_never_fail N s s' call a step failed =
+    let here : IsOwn (Refuse Device) = subst IsOwn failed (step_own N s s' call step) in cc

@@ -21,7 +21,7 @@ use Rattle.lfs_model.proofs.Committed.{nothing_dropped}
 use Rattle.lfs_model.proofs.Image.{formatted}
 use Rattle.lfs_model.proofs.Volume.{new_volume, single_state}
 use Rattle.lfs_model.proofs.Walks.{Some-injective}
-use Rattle.lfs_model.proofs.OwnAnswers.{steps_never_halt}
+use Rattle.lfs_model.proofs.OwnAnswers.{steps_never_fail, steps_never_halt}
 
 -- a line with a word that spells bytes makes a call that takes memory
 word_takes : (line : Line) → IsTrue (has_word line) → takes_no_memory (call_of line) ≡ false
@@ -74,14 +74,26 @@ module _ (N : ℕ) where
   run_grows (l ∷ lines) p (a ∷ answers) [] run = absurd run
 
   -- a volume that runs, and of whose device no call fails, doesn't answer Halted
-  no_halt : (call : Call) (old new : Point) (a : Answer) → Answers N call old a new → old.halted ≡ false → new.failures ≤ old.failures
+  pub no_halt : (call : Call) (old new : Point) (a : Answer) → Answers N call old a new → old.halted ≡ false → new.failures ≤ old.failures
       → a ≡ Refuse Halted → ⊥
   no_halt call old new a answers on few is = ⊎_elim
       (λ step. steps_never_halt N old.state new.state call a step.0 is)
       (λ refused. (
       let same : refused.0 ≡ Halted = (let both : Refuse refused.0 ≡ Refuse Halted = sym refused.1 ∙ is in cc) in
       let why : IsExcused N call old new Halted = subst (IsExcused N call old new) same refused.2 in
-      ⊎_elim (λ off. absurd (cc)) (λ (more : old.failures < new.failures). absurd (omega (arith, more, few))) why))
+      let reads = answers.failed_reads in
+      ⊎_elim (λ off. absurd (cc)) (λ (more : old.failed_orders < new.failed_orders). absurd (omega (arith, more, few, reads))) why))
+      answers.steps
+
+  -- nor Device
+  pub no_device : (call : Call) (old new : Point) (a : Answer) → Answers N call old a new → new.failures ≤ old.failures → a ≡ Refuse Device
+      → ⊥
+  no_device call old new a answers few is = ⊎_elim
+      (λ step. steps_never_fail N old.state new.state call a step.0 is)
+      (λ refused. (
+      let same : refused.0 ≡ Device = (let both : Refuse refused.0 ≡ Refuse Device = sym refused.1 ∙ is in cc) in
+      let why : IsExcused N call old new Device = subst (IsExcused N call old new) same refused.2 in
+      let more = why.1 in absurd (omega (arith, more, few))))
       answers.steps
 
   goes_on : (call : Call) (old new : Point) (a : Answer) → Answers N call old a new → old.halted ≡ false → new.failures ≤ old.failures
@@ -112,38 +124,39 @@ module _ (N : ℕ) where
 
   -- an excuse that needs neither a failure nor a last number
   excuse : (call : Call) (old new : Point) {a : Answer} (r : Refusal) → a ≡ Refuse r → IsExcused N call old new r → new.state ≡ old.state
-      → old.halted ≡ false → new.failures ≤ old.failures → old.number < 2 ^ 62 → (a ≡ Refuse Stuck → ⊥)
-      → PlainAnswers N call old a new
-  excuse call old new NoMemory is e same on few low unstuck = inr (is, e, same)
-  excuse call old new Stuck is e same on few low unstuck = absurd (unstuck is)
-  excuse call old new Device is e same on few low unstuck = absurd (let more = e.1 in omega (arith, more, few))
-  excuse call old new Halted is e same on few low unstuck =
-      ⊎_elim (λ off. absurd (cc)) (λ (more : old.failures < new.failures). absurd (omega (arith, more, few))) e
-  excuse call old new Worn is e same on few low unstuck = absurd (let past = e.0 in omega (arith, past, low))
-  excuse call old new NoEntry is e same on few low unstuck = absurd e
-  excuse call old new NotDir is e same on few low unstuck = absurd e
-  excuse call old new IsDir is e same on few low unstuck = absurd e
-  excuse call old new Exist is e same on few low unstuck = absurd e
-  excuse call old new NotEmpty is e same on few low unstuck = absurd e
-  excuse call old new Inval is e same on few low unstuck = absurd e
-  excuse call old new NameTooLong is e same on few low unstuck = absurd e
-  excuse call old new Loop is e same on few low unstuck = absurd e
-  excuse call old new Perm is e same on few low unstuck = absurd e
-  excuse call old new Busy is e same on few low unstuck = absurd e
-  excuse call old new BadHandle is e same on few low unstuck = absurd e
-  excuse call old new TooManyOpen is e same on few low unstuck = absurd e
-  excuse call old new TooManyLinks is e same on few low unstuck = absurd e
-  excuse call old new FileTooBig is e same on few low unstuck = absurd e
-  excuse call old new NoSpace is e same on few low unstuck = absurd e
-  excuse call old new NoNumber is e same on few low unstuck = absurd e
-  excuse call old new DirFull is e same on few low unstuck = absurd e
+      → old.halted ≡ false → new.failures ≤ old.failures → new.failed_orders ≤ old.failed_orders → old.number < 2 ^ 62
+      → (a ≡ Refuse Stuck → ⊥) → PlainAnswers N call old a new
+  excuse call old new NoMemory is e same on few none low unstuck = inr (is, e, same)
+  excuse call old new Stuck is e same on few none low unstuck = absurd (unstuck is)
+  excuse call old new Device is e same on few none low unstuck = absurd (let more = e.1 in omega (arith, more, few))
+  excuse call old new Halted is e same on few none low unstuck =
+      ⊎_elim (λ off. absurd (cc)) (λ (more : old.failed_orders < new.failed_orders). absurd (omega (arith, more, none))) e
+  excuse call old new Worn is e same on few none low unstuck = absurd (let past = e.0 in omega (arith, past, low))
+  excuse call old new NoEntry is e same on few none low unstuck = absurd e
+  excuse call old new NotDir is e same on few none low unstuck = absurd e
+  excuse call old new IsDir is e same on few none low unstuck = absurd e
+  excuse call old new Exist is e same on few none low unstuck = absurd e
+  excuse call old new NotEmpty is e same on few none low unstuck = absurd e
+  excuse call old new Inval is e same on few none low unstuck = absurd e
+  excuse call old new NameTooLong is e same on few none low unstuck = absurd e
+  excuse call old new Loop is e same on few none low unstuck = absurd e
+  excuse call old new Perm is e same on few none low unstuck = absurd e
+  excuse call old new Busy is e same on few none low unstuck = absurd e
+  excuse call old new BadHandle is e same on few none low unstuck = absurd e
+  excuse call old new TooManyOpen is e same on few none low unstuck = absurd e
+  excuse call old new TooManyLinks is e same on few none low unstuck = absurd e
+  excuse call old new FileTooBig is e same on few none low unstuck = absurd e
+  excuse call old new NoSpace is e same on few none low unstuck = absurd e
+  excuse call old new NoNumber is e same on few none low unstuck = absurd e
+  excuse call old new DirFull is e same on few none low unstuck = absurd e
 
   plain_line : (line : Line) (old new : Point) (a : Answer) → LineAnswers N line old a new → old.halted ≡ false
       → new.failures ≤ old.failures → old.number < 2 ^ 62 → (a ≡ Refuse Stuck → ⊥)
       → PlainAnswers N (call_of line) old a new
   plain_line line old new a (inl answers) on few low unstuck = ⊎_elim
       (λ step. inl step.0)
-      (λ refused. excuse (call_of line) old new refused.0 refused.1 refused.2 refused.3 on few low unstuck) answers.steps
+      (λ refused. excuse (call_of line) old new refused.0 refused.1 refused.2 refused.3 on few
+      (let reads = answers.failed_reads in omega (arith, few, reads)) low unstuck) answers.steps
   plain_line line old new a (inr lacks) on few low unstuck = inr (lacks.1, word_takes line lacks.0, ap (λ (x : Point). x.state) lacks.2)
 
   pub plain_run : (lines : List Line) (p : Point) (answers : List Answer) (points : List Point) → LineRun N p lines answers points
@@ -170,17 +183,17 @@ begins_new version N d d' new lines answers u =
     Some-injective (sym u.stands.found ∙ (formatted version N d.content new).0) in (
       u.same_segments ∙ ap (λ (k : CheckpointValue). k.segments) same,
       u.same_number ∙ ap (λ (k : CheckpointValue). k.number) same,
-      single_state d.content u.first.state (new_point version d.failures).state u.stands (new_volume version N d.content new),
+      single_state d.content u.first.state (new_point version d).state u.stands (new_volume version N d.content new),
     )
 
 pub new_is_pending : (version N : ℕ) (d : DeviceState) → NewIsPending version N d
 new_is_pending version N d new alone c left =
-    let stands : Stands d.content (new_point version d.failures).state = new_volume version N d.content new in
-    let same : drop_nameless (new_point version d.failures).state ≡ (new_point version d.failures).state =
-    nothing_dropped d.content (new_point version d.failures).state stands in (
-      (new_point version d.failures).state,
-      record { n = 0; point = new_point version d.failures; at = refl; none_later = tt; is = refl },
-      subst (Stands c) (sym same) (subst (λ (x : Content). Stands x (new_point version d.failures).state) (sym (alone c left)) stands),
+    let stands : Stands d.content (new_point version d).state = new_volume version N d.content new in
+    let same : drop_nameless (new_point version d).state ≡ (new_point version d).state =
+    nothing_dropped d.content (new_point version d).state stands in (
+      (new_point version d).state,
+      record { n = 0; point = new_point version d; at = refl; none_later = tt; is = refl },
+      subst (Stands c) (sym same) (subst (λ (x : Content). Stands x (new_point version d).state) (sym (alone c left)) stands),
     )
 
 pub uses_are_plain : (d : DeviceState) {d' : DeviceState} → IsLawful d' → UsesArePlain d d'

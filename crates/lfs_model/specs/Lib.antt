@@ -1,4 +1,5 @@
 pub mod Device
+pub mod Past
 pub mod Fields
 pub mod Checkpoint
 pub mod Pointers
@@ -12,6 +13,7 @@ pub mod Entry
 pub mod Reach
 pub mod Stands
 pub mod Crash
+pub mod UnitLaws
 pub mod Encodes
 pub mod Decodes
 pub mod Damage

@@ -15,8 +15,9 @@ pub record Point : Type 0 where
   pub halted : Bool
   -- the newest acknowledged checkpoint's number (the 1992 LFS paper: checkpoints)
   pub number : ℕ
-  -- how many device calls have failed
+  -- how many device calls have failed, and how many of these were writes and syncs
   pub failures : ℕ
+  pub failed_orders : ℕ
 
 -- the call would be done
 abbrev pub WouldBeOk : ℕ → State → Call → Type 0
@@ -30,7 +31,7 @@ IsPastLast N call old = (2 ^ 62 ≤ old.number) × (IsTrue (cleans call) ⊎ (Is
 abbrev pub IsExcused : ℕ → Call → Point → Point → Refusal → Type 0
 IsExcused N call old new NoMemory = takes_no_memory call ≡ false
 IsExcused N call old new Device = (never_for_device call ≡ false) × (old.failures < new.failures)
-IsExcused N call old new Halted = IsTrue old.halted ⊎ (old.failures < new.failures)
+IsExcused N call old new Halted = IsTrue old.halted ⊎ (old.failed_orders < new.failed_orders)
 IsExcused N call old new Stuck = IsTrue (changes call) ⊎ IsTrue (cleans call)
 IsExcused N call old new Worn = IsPastLast N call old
 IsExcused N call old new _ = ⊥
@@ -50,6 +51,8 @@ pub record Answers (N : ℕ) (call : Call) (old : Point) (answer : Answer) (new 
   -- the first Halted is the answer of a call that may write
   pub first_halted : answer ≡ Refuse Halted → IsTrue old.halted ⊎ IsTrue (may_write call)
   pub failures : old.failures ≤ new.failures
+  pub failed_orders : old.failed_orders ≤ new.failed_orders
+  pub failed_reads : old.failures + new.failed_orders ≤ new.failures + old.failed_orders
   -- a call commits at most once for each eighth of the segments, and once more; one that may not write never does
   pub number : old.number ≤ new.number
   pub few : new.number ≤ old.number + N / 8 + 1

@@ -52,6 +52,8 @@ pub record UsesVolume (d d' : DeviceState) (lines : List Line) (answers : List A
   -- the failures that it counts are calls of the device that failed: none did in the mount
   pub failures_before : first.failures ≡ d.failures
   pub failures_after : (final first points).failures ≡ d'.failures
+  pub orders_before : first.failed_orders ≡ d.failed_orders
+  pub orders_after : (final first points).failed_orders ≡ d'.failed_orders
   -- the last number is that of the checkpoint which a stop now leaves, unless a commit failed
   pub number_after : (final first points).halted ≡ false → AllLeft d' (IsNumbered (final first points).number)
   -- a stop at any moment, in the mount too, leaves what one before it might have left, or the state after some of the lines

@@ -17,18 +17,23 @@ use Rattle.lfs_model.specs.Volume.{LeavesPrefix, mounted}
 -- ---- the first use
 
 -- what a new volume of a version is: an empty root, and checkpoint 1
-abbrev pub new_point : ℕ → ℕ → Point
-new_point version failures =
-    record { state = mounted version ((1, Dir (new_form version) []) ∷ []); halted = false; number = 1; failures = failures }
+abbrev pub new_point : ℕ → DeviceState → Point
+new_point version d = record {
+  state = mounted version ((1, Dir (new_form version) []) ∷ []);
+  halted = false;
+  number = 1;
+  failures = d.failures;
+  failed_orders = d.failed_orders;
+}
 
 -- A use of a new volume of N segments begins there.
 abbrev pub BeginsNew : ℕ → ℕ → DeviceState → DeviceState → Type 0
 BeginsNew version N d d' = IsNew version N d.content → (lines : List Line) (answers : List Answer) (u : UsesVolume d d' lines answers)
-    → (u.segments ≡ N) × (u.first.number ≡ 1) × (u.first.state ≡ (new_point version d.failures).state)
+    → (u.segments ≡ N) × (u.first.number ≡ 1) × (u.first.state ≡ (new_point version d).state)
 
 -- Where a stop leaves the new volume alone, that is the one state that is pending after no call.
 abbrev pub NewIsPending : ℕ → ℕ → DeviceState → Type 0
-NewIsPending version N d = IsNew version N d.content → Only d.content d → LeavesPrefix d (new_point version d.failures ∷ []) [] []
+NewIsPending version N d = IsNew version N d.content → Only d.content d → LeavesPrefix d (new_point version d ∷ []) [] []
 
 -- ---- answers
 

@@ -8,6 +8,7 @@ pub mod log;
 mod number;
 pub mod objects;
 pub mod stands;
+pub mod units;
 
 pub use number::FileNumber;
 

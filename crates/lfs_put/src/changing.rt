@@ -1,5 +1,6 @@
 //! Changes that are saved at once: each is a call, and then one sync where the call was done.
 ghost use Rattle.std.specs.Prelude.{[], ◌∷◌};
+ghost use Rattle.lfs_model.specs.Device.{in_sectors};
 ghost use Rattle.lfs_model.specs.Call.{Clean, Done, Mkdir, Rename, Sync, Upgrade};
 ghost use Rattle.lfs_fs.specs.Seen.{answer_by, seen};
 ghost use Rattle.lfs_fs.specs.Volume.{Serves};
@@ -11,7 +12,7 @@ use lfs_model::Kind;
 
 // Saves what a call changed, where it was done.
 fn save<D: SectorDevice>(fs: &mut Fs<D>, done: Result<(), FsError>) -> Result<(), FsError>
-    ensures { SavesBehind D.SectorDevice.state (seen fs.old) (seen fs.new) done result }
+    ensures { SavesBehind (in_sectors D.SectorDevice.state) (seen fs.old) (seen fs.new) done result }
 {
     match done {
         Ok(()) => fs.sync(),
@@ -21,7 +22,8 @@ fn save<D: SectorDevice>(fs: &mut Fs<D>, done: Result<(), FsError>) -> Result<()
 
 // Takes away what stands at a path, which is of this kind.
 fn take_away<D: SectorDevice>(fs: &mut Fs<D>, kind: Kind, path: &[u8]) -> Result<(), FsError>
-    ensures { Serves D.SectorDevice.state (seen fs.old) (seen fs.new) (removal kind path.now)
+    ensures { Serves (in_sectors D.SectorDevice.state) (seen fs.old) (seen fs.new)
+        (removal kind path.now)
         (answer_by (λ done. Done) result) }
 {
     match kind {
@@ -33,7 +35,7 @@ fn take_away<D: SectorDevice>(fs: &mut Fs<D>, kind: Kind, path: &[u8]) -> Result
 
 // Takes away what stands at a path, which is of this kind, and saves that.
 fn remove_kind<D: SectorDevice>(fs: &mut Fs<D>, kind: Kind, path: &[u8]) -> Result<(), FsError>
-    ensures { MakesInOrder D.SectorDevice.state (seen fs.old) (seen fs.new)
+    ensures { MakesInOrder (in_sectors D.SectorDevice.state) (seen fs.old) (seen fs.new)
         (removal kind path.now ∷ Sync ∷ []) result }
 {
     let removed = take_away(fs, kind, path);
@@ -47,7 +49,7 @@ fn remove_kind<D: SectorDevice>(fs: &mut Fs<D>, kind: Kind, path: &[u8]) -> Resu
 ///
 /// Those of `lstat`; of a directory those of `rmdir`, else those of `unlink`; those of `sync`.
 pub fn remove<D: SectorDevice>(fs: &mut Fs<D>, path: &[u8]) -> Result<(), FsError>
-    ensures { Removes D.SectorDevice.state (seen fs.old) (seen fs.new) path.now result }
+    ensures { Removes (in_sectors D.SectorDevice.state) (seen fs.old) (seen fs.new) path.now result }
 {
     match fs.lstat(path) {
         Ok(stat) => remove_kind(fs, stat.kind, path),
@@ -61,7 +63,7 @@ pub fn remove<D: SectorDevice>(fs: &mut Fs<D>, path: &[u8]) -> Result<(), FsErro
 ///
 /// Those of `rename` and of `sync`.
 pub fn rename<D: SectorDevice>(fs: &mut Fs<D>, from: &[u8], to: &[u8]) -> Result<(), FsError>
-    ensures { MakesInOrder D.SectorDevice.state (seen fs.old) (seen fs.new)
+    ensures { MakesInOrder (in_sectors D.SectorDevice.state) (seen fs.old) (seen fs.new)
         (Rename from.now to.now ∷ Sync ∷ []) result }
 {
     let renamed = fs.rename(from, to);
@@ -74,7 +76,7 @@ pub fn rename<D: SectorDevice>(fs: &mut Fs<D>, from: &[u8], to: &[u8]) -> Result
 ///
 /// Those of `mkdir` and of `sync`.
 pub fn make_directory<D: SectorDevice>(fs: &mut Fs<D>, path: &[u8]) -> Result<(), FsError>
-    ensures { MakesInOrder D.SectorDevice.state (seen fs.old) (seen fs.new)
+    ensures { MakesInOrder (in_sectors D.SectorDevice.state) (seen fs.old) (seen fs.new)
         (Mkdir path.now ∷ Sync ∷ []) result }
 {
     let made = fs.mkdir(path);
@@ -87,7 +89,7 @@ pub fn make_directory<D: SectorDevice>(fs: &mut Fs<D>, path: &[u8]) -> Result<()
 ///
 /// Those of `clean` and of `sync`.
 pub fn clean<D: SectorDevice>(fs: &mut Fs<D>) -> Result<(), FsError>
-    ensures { MakesInOrder D.SectorDevice.state (seen fs.old) (seen fs.new)
+    ensures { MakesInOrder (in_sectors D.SectorDevice.state) (seen fs.old) (seen fs.new)
         (Clean ∷ Sync ∷ []) result }
 {
     let cleaned = fs.clean();
@@ -96,7 +98,7 @@ pub fn clean<D: SectorDevice>(fs: &mut Fs<D>) -> Result<(), FsError>
 
 // Makes passes of the cleaner, so many at most, while fewer than a quarter of the segments is clean.
 fn make_passes<D: SectorDevice>(fs: &mut Fs<D>, most: u32) -> Result<(), FsError>
-    ensures { MakesPasses D.SectorDevice.state (seen fs.old) (seen fs.new) most result }
+    ensures { MakesPasses (in_sectors D.SectorDevice.state) (seen fs.old) (seen fs.new) most result }
 {
     for _ in 0..most {
         if !fs.is_cleaning_due() {
@@ -114,7 +116,7 @@ fn make_passes<D: SectorDevice>(fs: &mut Fs<D>, most: u32) -> Result<(), FsError
 ///
 /// Those of `clean_once` and of `sync`.
 pub fn clean_some<D: SectorDevice>(fs: &mut Fs<D>, most: u32) -> Result<(), FsError>
-    ensures { CleansSome D.SectorDevice.state (seen fs.old) (seen fs.new) most result }
+    ensures { CleansSome (in_sectors D.SectorDevice.state) (seen fs.old) (seen fs.new) most result }
 {
     let cleaned = make_passes(fs, most);
     save(fs, cleaned)
@@ -126,7 +128,7 @@ pub fn clean_some<D: SectorDevice>(fs: &mut Fs<D>, most: u32) -> Result<(), FsEr
 ///
 /// Those of `upgrade` and of `sync`.
 pub fn upgrade<D: SectorDevice>(fs: &mut Fs<D>) -> Result<(), FsError>
-    ensures { MakesInOrder D.SectorDevice.state (seen fs.old) (seen fs.new)
+    ensures { MakesInOrder (in_sectors D.SectorDevice.state) (seen fs.old) (seen fs.new)
         (Upgrade ∷ Sync ∷ []) result }
 {
     let upgraded = fs.upgrade();

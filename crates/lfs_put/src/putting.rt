@@ -1,6 +1,7 @@
 //! The command that puts a file into a volume. Its bytes stand under another name until they are
 //! whole and synced: so the old file or the new one is there after any stop.
 ghost use Rattle.std.specs.Prelude.{◌≡◌, ◌≢◌, ◌≤◌, ◌<◌, ◌⊎◌, ◌-◌, IfOk, OnOk, ℕ, false, codes, length, slice_index};
+ghost use Rattle.lfs_model.specs.Device.{in_sectors};
 ghost use Rattle.lfs_model.specs.Call.{LstatOf, StatOf, Unlink};
 ghost use Rattle.lfs_fs.specs.Seen.{seen};
 ghost use Rattle.lfs_put.specs.Calls.{Asks, OnlyLooks};
@@ -99,7 +100,7 @@ fn unfinished_path(alloc: Global, path: &[u8]) -> Result<Vec<u8>, PutFault>
 
 // Refuses a directory. A link at the end of the path is none.
 fn refuse_directory<D: SectorDevice>(fs: &mut Fs<D>, path: &[u8]) -> Result<(), PutFault>
-    ensures { Asks D.SectorDevice.state (seen fs.old) (seen fs.new) (LstatOf path.now) }
+    ensures { Asks (in_sectors D.SectorDevice.state) (seen fs.old) (seen fs.new) (LstatOf path.now) }
 {
     match fs.lstat(path) {
         Ok(stat) => match stat.kind {
@@ -119,7 +120,7 @@ fn directory_of(path: &[u8]) -> &[u8] {
 
 // Refuses a path that leads to no directory.
 fn want_directory<D: SectorDevice>(fs: &mut Fs<D>, path: &[u8]) -> Result<(), PutFault>
-    ensures { Asks D.SectorDevice.state (seen fs.old) (seen fs.new) (StatOf path.now) }
+    ensures { Asks (in_sectors D.SectorDevice.state) (seen fs.old) (seen fs.new) (StatOf path.now) }
 {
     match fs.stat(path) {
         Ok(stat) => match stat.kind {
@@ -132,7 +133,7 @@ fn want_directory<D: SectorDevice>(fs: &mut Fs<D>, path: &[u8]) -> Result<(), Pu
 
 // Looks whether a file may stand at a path whose text is well, and changes nothing.
 fn look_for_place<D: SectorDevice>(fs: &mut Fs<D>, path: &[u8]) -> Result<(), PutFault>
-    ensures { OnlyLooks D.SectorDevice.state (seen fs.old) (seen fs.new) }
+    ensures { OnlyLooks (in_sectors D.SectorDevice.state) (seen fs.old) (seen fs.new) }
 {
     refuse_directory(fs, path)?;
     let above = directory_of(path);
@@ -155,7 +156,7 @@ pub fn check_place<D: SectorDevice>(
     fs: &mut Fs<D>,
     path: &[u8],
 ) -> Result<(), PutFault>
-    ensures { OnlyLooks D.SectorDevice.state (seen fs.old) (seen fs.new) }
+    ensures { OnlyLooks (in_sectors D.SectorDevice.state) (seen fs.old) (seen fs.new) }
 {
     unfinished_path(alloc, path)?;
     look_for_place(fs, path)
@@ -163,7 +164,8 @@ pub fn check_place<D: SectorDevice>(
 
 // Removes what a stop left.
 fn remove_left<D: SectorDevice>(fs: &mut Fs<D>, unfinished: &[u8]) -> Result<(), PutFault>
-    ensures { Asks D.SectorDevice.state (seen fs.old) (seen fs.new) (Unlink unfinished.now) }
+    ensures { Asks (in_sectors D.SectorDevice.state) (seen fs.old) (seen fs.new)
+        (Unlink unfinished.now) }
 {
     match fs.unlink(unfinished) {
         Ok(()) | Err(FsError::NoEntry) => Ok(()),
@@ -179,7 +181,7 @@ fn copy_in<D: SectorDevice, I: Read>(
     buffer: &mut [u8],
 ) -> Result<u64, PutFault>
     requires { 0 < length buffer.old }
-    ensures { Copies D.SectorDevice.state (seen fs.old) (seen fs.new) handle
+    ensures { Copies (in_sectors D.SectorDevice.state) (seen fs.old) (seen fs.new) handle
         (I.remaining input.old) (I.remaining input.new) result }
 {
     let mut offset: u64 = 0;
@@ -207,7 +209,7 @@ fn make_file<D: SectorDevice, I: Read>(
     buffer: &mut [u8],
 ) -> Result<u64, PutFault>
     requires { 0 < length buffer.old }
-    ensures { MakesFile D.SectorDevice.state (seen fs.old) (seen fs.new) unfinished.now
+    ensures { MakesFile (in_sectors D.SectorDevice.state) (seen fs.old) (seen fs.new) unfinished.now
         (I.remaining input.old) (I.remaining input.new) result }
 {
     let handle = fs.create(unfinished)?;
@@ -224,7 +226,8 @@ fn rename_file<D: SectorDevice>(
     unfinished: &[u8],
     path: &[u8],
 ) -> Result<(), PutFault>
-    ensures { RenamesFile D.SectorDevice.state (seen fs.old) (seen fs.new) unfinished.now path.now
+    ensures { RenamesFile (in_sectors D.SectorDevice.state) (seen fs.old) (seen fs.new)
+        unfinished.now path.now
         result }
 {
     fs.sync()?;
@@ -242,7 +245,8 @@ fn replace<D: SectorDevice, I: Read>(
     buffer: &mut [u8],
 ) -> Result<u64, PutFault>
     requires { 0 < length buffer.old }
-    ensures { Replaces D.SectorDevice.state (seen fs.old) (seen fs.new) unfinished.now path.now
+    ensures { Replaces (in_sectors D.SectorDevice.state) (seen fs.old) (seen fs.new) unfinished.now
+        path.now
         (I.remaining input.old) (I.remaining input.new) result }
 {
     let count = make_file(fs, unfinished, input, buffer)?;
@@ -252,7 +256,7 @@ fn replace<D: SectorDevice, I: Read>(
 
 // Removes what isn't whole, as far as the volume lets it.
 fn give_up<D: SectorDevice>(fs: &mut Fs<D>, unfinished: &[u8])
-    ensures { GivesUp D.SectorDevice.state (seen fs.old) (seen fs.new) unfinished.now }
+    ensures { GivesUp (in_sectors D.SectorDevice.state) (seen fs.old) (seen fs.new) unfinished.now }
 {
     let _ = fs.unlink(unfinished);
     let _ = fs.sync();
@@ -268,7 +272,7 @@ fn put_by<D: SectorDevice, I: Read>(
 ) -> Result<u64, PutFault>
     requires some { 0 < length buffer.old }
     requires beside { IsBeside path.now unfinished.now }
-    ensures { PutsFile D.SectorDevice.state (seen fs.old) (seen fs.new) path.now
+    ensures { PutsFile (in_sectors D.SectorDevice.state) (seen fs.old) (seen fs.new) path.now
         (I.remaining input.old) (I.remaining input.new) result }
 {
     refuse_directory(fs, path)?;
@@ -299,7 +303,7 @@ pub fn put<D: SectorDevice, I: Read>(
     path: &[u8],
     input: &mut I,
 ) -> Result<u64, PutFault>
-    ensures { PutsFile D.SectorDevice.state (seen fs.old) (seen fs.new) path.now
+    ensures { PutsFile (in_sectors D.SectorDevice.state) (seen fs.old) (seen fs.new) path.now
         (I.remaining input.old) (I.remaining input.new) result }
 {
     let Ok(mut buffer) = vec![in alloc; 0; MOST_BYTES] else {

@@ -2,8 +2,11 @@
 use Rattle.std.specs.Prelude.{◌≡◌, ◌⊎◌, ℕ, ◌+◌, ◌^◌, ◌<◌, ◌≤◌, Some, List, [], ◌∷◌, length, refl}
 use Rattle.std.specs.List.{AllByRecursion}
 use Rattle.std.proofs.Common.{inl, inr, sym, ◌∙◌, ap, subst, arith, length-set}
-use Rattle.lfs_model.specs.Device.{Cell, put, MayWrite, left_new, IsSector, AreSectorBytes, DeviceState, IsLawful}
-use Rattle.lfs_model.proofs.Cells.{all_set, bytes_prop, size_written, cells_written}
+use Rattle.lfs_model.specs.Device.{Cell, put, MayWriteUnit, left_new, IsSector, AreSectorBytes, DeviceState, IsLawful}
+use Rattle.lfs_model.proofs.Cells.{all_set, bytes_prop}
+use Rattle.lfs_model.proofs.UnitWrites.{to_unit, unit_cells}
+use Rattle.lfs_model.specs.Past.{AtSince, AtUntil}
+use Rattle.lfs_model.proofs.Pasts.{counts_at, earlier_at, only_at, until_end}
 use Rattle.lfs_model.specs.declared.Order.{Order}
 use Rattle.lfs_model.specs.declared.Order.TheVariants.{Write, Sync}
 use Rattle.lfs_queue.specs.declared.order.Done.{Done, Nothing, Then'}
@@ -23,35 +26,41 @@ abbrev pub count : Count → ℕ
 count Zero = 0
 count (Next' mark before) = count before + 1
 
-module _ (start : List Cell) where
-  -- what a device holds after these orders, the newest first
-  abbrev pub content_after : List Order → List Cell
-  content_after [] = start
-  content_after (Write sector bytes ∷ told) = put (content_after told) sector bytes
-  content_after (Sync ∷ told) = content_after told
+-- what a device holds after these orders, the newest first
+abbrev pub content_after : List Cell → List Order → List Cell
+content_after start [] = start
+content_after start (Write sector bytes ∷ told) = put (content_after start told) sector bytes
+content_after start (Sync ∷ told) = content_after start told
 
+-- where sectors are written by these units
+module _ (unit : ℕ → ℕ) (start : List Cell) where
   -- what a stop after these orders may leave
   abbrev pub MayLeave : List Order → List Cell → Type 0
   MayLeave [] c = c ≡ start
-  MayLeave (Write sector bytes ∷ told) c = (d : List Cell) × MayLeave told d × MayWrite sector bytes d c
-  MayLeave (Sync ∷ told) c = c ≡ content_after told
+  MayLeave (Write sector bytes ∷ told) c = (d : List Cell) × MayLeave told d × MayWriteUnit unit sector bytes d c
+  MayLeave (Sync ∷ told) c = c ≡ content_after start told
 
   -- what a stop after one of these orders, from the t-th on, might have left
   abbrev pub LeftSince : List Order → ℕ → List Cell → Type 0
-  LeftSince [] t c = (t ≤ 0) × MayLeave [] c
-  LeftSince (order ∷ told) t c = ((t ≤ length (order ∷ told)) × MayLeave (order ∷ told) c) ⊎ LeftSince told t c
+  LeftSince = AtSince MayLeave
 
-abbrev pub queue_state_of : ℕ → List Cell → List Order → ℕ → DeviceState
-queue_state_of n start told failures = record {
+-- a device of n sectors that bears so many orders
+abbrev pub queue_state_of : (ℕ → ℕ) → ℕ → List Cell → List Order → ℕ → ℕ → DeviceState
+queue_state_of unit n start told failed most = record {
   size = n;
   content = content_after start told;
-  may_leave = MayLeave start told;
+  may_leave = MayLeave unit start told;
   moment = length told;
-  left_since = LeftSince start told;
-  failures = failures;
+  left_since = LeftSince unit start told;
+  left_until = AtUntil (MayLeave unit start) told;
+  unit = unit;
+  failures = failed;
+  failed_orders = failed;
   keeps_model = Unit {0};
+  kept_until = λ u. Unit {0};
   start = start;
   told = told;
+  bears = λ orders. orders ≤ most;
 }
 
 -- the bytes of each write are a sector's
@@ -77,53 +86,37 @@ module _ (start : List Cell) where
       all_set IsSector (content_after start told) sector (Some bytes) whole.0 (cells_after starts told whole.1)
   cells_after starts (Sync ∷ told) whole = cells_after starts told whole
 
-  sizes_left : (told : List Order) (c : List Cell) → MayLeave start told c → length c ≡ length start
+module _ (unit : ℕ → ℕ) (start : List Cell) where
+  pub sizes_left : (told : List Order) (c : List Cell) → MayLeave unit start told c → length c ≡ length start
   sizes_left [] c left = ap (λ (l : List Cell). length l) left
-  sizes_left (Write sector bytes ∷ told) c left = size_written sector bytes left.0 c left.2 ∙ sizes_left told left.0 left.1
-  sizes_left (Sync ∷ told) c left = ap (λ (l : List Cell). length l) left ∙ size_after told
+  sizes_left (Write sector bytes ∷ told) c left = (let may = left.2 in may.size) ∙ sizes_left told left.0 left.1
+  sizes_left (Sync ∷ told) c left = ap (λ (l : List Cell). length l) left ∙ size_after start told
 
-  cells_left : AllByRecursion IsSector start → (told : List Order) → AreWhole told → (c : List Cell) → MayLeave start told c
+  cells_left : AllByRecursion IsSector start → (told : List Order) → AreWhole told → (c : List Cell) → MayLeave unit start told c
       → AllByRecursion IsSector c
   cells_left starts [] whole c left = subst (AllByRecursion IsSector) (sym left) starts
   cells_left starts (Write sector bytes ∷ told) whole c left =
-      cells_written sector bytes left.0 c whole.0 (cells_left starts told whole.1 left.0 left.1) left.2
-  cells_left starts (Sync ∷ told) whole c left = subst (AllByRecursion IsSector) (sym left) (cells_after starts told whole)
+      unit_cells unit sector bytes left.0 c whole.0 (cells_left starts told whole.1 left.0 left.1) left.2
+  cells_left starts (Sync ∷ told) whole c left = subst (AllByRecursion IsSector) (sym left) (cells_after start starts told whole)
 
-  pub present_left : (told : List Order) → MayLeave start told (content_after start told)
+  pub present_left : (told : List Order) → MayLeave unit start told (content_after start told)
   present_left [] = refl
-  present_left (Write sector bytes ∷ told) = (content_after start told, present_left told, left_new refl)
+  present_left (Write sector bytes ∷ told) = (content_after start told, present_left told, to_unit unit sector bytes _ _ (left_new refl))
   present_left (Sync ∷ told) = refl
 
-  pub counts_left : (told : List Order) (t : ℕ) (c : List Cell) → t ≤ length told → MayLeave start told c → LeftSince start told t c
-  counts_left [] t c le left = (le, left)
-  counts_left (order ∷ told) t c le left = inl (le, left)
-
-  ended : (told : List Order) (t : ℕ) (c : List Cell) → LeftSince start told t c → t ≤ length told
-  ended [] t c left = left.0
-  ended (order ∷ told) t c (inl here) = here.0
-  ended (order ∷ told) t c (inr there) = omega (arith, ended told t c there)
-
-  only_left : (told : List Order) (c : List Cell) → LeftSince start told (length told) c → MayLeave start told c
-  only_left [] c left = left.1
-  only_left (order ∷ told) c (inl here) = here.1
-  only_left (order ∷ told) c (inr there) = let late : length (order ∷ told) ≤ length told = ended told (length (order ∷ told)) c there in
-      absurd (omega arith)
-
-  earlier_left : (told : List Order) (t u : ℕ) (c : List Cell) → t ≤ u → LeftSince start told u c → LeftSince start told t c
-  earlier_left [] t u c le left = ((let was = left.0 in omega (arith, le, was)), left.1)
-  earlier_left (order ∷ told) t u c le (inl now) = inl ((let was = now.0 in omega (arith, le, was)), now.1)
-  earlier_left (order ∷ told) t u c le (inr then') = inr (earlier_left told t u c le then')
-
-pub queue_lawful : (n : ℕ) (start : List Cell) (told : List Order) (failures : ℕ) → n < 2 ^ 32 → length start ≡ n
-    → AllByRecursion IsSector start → AreWhole told → IsLawful (queue_state_of n start told failures)
-queue_lawful n start told failures fits sized starts whole = record {
+pub queue_lawful : (unit : ℕ → ℕ) (n : ℕ) (start : List Cell) (told : List Order) (failed most : ℕ) → n < 2 ^ 32 → length start ≡ n
+    → AllByRecursion IsSector start → AreWhole told → IsLawful (queue_state_of unit n start told failed most)
+queue_lawful unit n start told failed most fits sized starts whole = record {
   fits = fits;
   size = size_after start told ∙ sized;
-  sizes = λ c left. sizes_left start told c left ∙ sized;
+  sizes = λ c left. sizes_left unit start told c left ∙ sized;
   now = cells_after start starts told whole;
-  cells = cells_left start starts told whole;
-  present = λ keeps. present_left start told;
-  counts_now = counts_left start told;
-  only_now = only_left start told;
-  earlier = earlier_left start told;
+  cells = cells_left unit start starts told whole;
+  present = λ keeps. present_left unit start told;
+  counts_now = counts_at (MayLeave unit start) told;
+  only_now = only_at (MayLeave unit start) told;
+  kept_now = (λ kept. kept, λ keeps. keeps);
+  kept_earlier = λ t u le kept. kept;
+  until_now = λ t c le. until_end (MayLeave unit start) told t c;
+  earlier = earlier_at (MayLeave unit start) told;
 }

@@ -1,5 +1,5 @@
 -- A queue device as contracts see it.
-use Rattle.std.specs.Prelude.{◌≡◌, ℕ, List, [], vec_capacity}
+use Rattle.std.specs.Prelude.{◌≡◌, ◌+◌, ℕ, List, [], length, vec_capacity}
 use Rattle.lfs_model.specs.Device.{Cell, DeviceState}
 use Rattle.lfs_queue.specs.Orders.{onto, done_of, count, queue_state_of}
 use Rattle.lfs_model.specs.declared.Order.{Order}
@@ -25,11 +25,17 @@ carried_of d = done_of d.done.value
 abbrev pub told_of : QueueDevice → List Order
 told_of d = onto (due_of d) (carried_of d)
 
-abbrev pub queue_state : QueueDevice → DeviceState
-queue_state d = queue_state_of d.sectors (start_of d) (told_of d) (count d.failed.value)
+-- how many orders it bears: those that were carried out, and as many as may wait then
+abbrev pub borne_by : QueueDevice → ℕ
+borne_by d = length (carried_of d) + room_of d
 
--- all orders that waited were carried out
+-- its units are sectors, and each call of it that fails is a write or a sync
+abbrev pub queue_state : QueueDevice → DeviceState
+queue_state d = queue_state_of (λ k. k) d.sectors (start_of d) (told_of d) (count d.failed.value) (borne_by d)
+
+-- all orders that waited were carried out, and there is room for as many more
 pub record IsEmptied (old new : QueueDevice) : Type 0 where
   pub due : due_of new ≡ []
   pub carried : carried_of new ≡ onto (due_of old) (carried_of old)
   pub start : start_of new ≡ start_of old
+  pub room : room_of new ≡ room_of old

@@ -40,6 +40,8 @@ fn carry_one<D: SectorDevice>(device: &mut D, order: &Order) -> Result<(), Devic
         (D.state device.old).told (D.state device.new).told) }
     ensures goes_on { OnOk result (GoesOn (D.state device.old) (D.state device.new) order.now) }
     ensures failed { OnErr result ((D.state device.old).failures < (D.state device.new).failures) }
+    ensures failed_order { OnErr result
+        ((D.state device.old).failed_orders < (D.state device.new).failed_orders) }
     ensures no_failure { OnOk result ((D.state device.new).failures
         ≡ (D.state device.old).failures) }
     ensures left { OnErr result (LeftBy (D.state device.old) (D.state device.new) order.now) }
@@ -53,7 +55,9 @@ fn carry_one<D: SectorDevice>(device: &mut D, order: &Order) -> Result<(), Devic
 }
 
 /// Gives a device these orders in turn, up to the first that fails. What a stop leaves at any
-/// moment meanwhile is what one behind some beginning of the orders may leave.
+/// moment meanwhile is what one behind some beginning of the orders may leave, by any units that
+/// those of the device lie within. A device may be longer than the image: then this is said of as
+/// many sectors as the image has, which are its first.
 ///
 /// # Errors
 ///

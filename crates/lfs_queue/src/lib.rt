@@ -6,6 +6,7 @@ mod image;
 pub mod numbers;
 mod order;
 mod queue;
+pub mod units;
 
 pub use carrying::{are_within, carry};
 pub use image::Image;

@@ -1,5 +1,5 @@
 // A device that holds what it is told, and keeps it for a caller who does it.
-ghost use Rattle.std.specs.Prelude.{◌≡◌, ◌<◌, ◌≤◌, ◌^◌, List, length, [], ◌∷◌, IfOk, OnOk, OnErr, vec_len, vec_capacity};
+ghost use Rattle.std.specs.Prelude.{◌≡◌, ◌<◌, ◌≤◌, ◌^◌, ℕ, List, length, [], ◌∷◌, IfOk, OnOk, OnErr, vec_capacity};
 ghost use Rattle.std.specs.List.{AllByRecursion, AllByRecursion-prop};
 ghost use Rattle.lfs_model.specs.Device.{IsSector};
 ghost use Rattle.lfs_model.proofs.Cells.{sector_prop};
@@ -9,7 +9,7 @@ ghost use Rattle.lfs_model.specs.declared.Order.{Order};
 
 use crate::image::Image;
 use crate::order::{Count, Done, add_one, note};
-use lfs_device::{DeviceFault, NoMemory, ReadFault, SectorDevice, TendedDevice};
+use lfs_device::{DeviceFault, NoMemory, ReadFault, SectorDevice, SectorUnits, TendedDevice};
 use lfs_model::Order;
 use std::alloc::Global;
 use std::snapshot::Snapshot;
@@ -18,8 +18,9 @@ use std::snapshot::Snapshot;
 /// before and all that was written since. Writes and syncs wait, in order, for a caller who has
 /// the real device carry them out, and says so by `forget`.
 ///
-/// A stop leaves what it may leave of a device of the model that held the same, and to which all
-/// orders so far were given.
+/// A stop leaves what it may leave of a device of the model that held the same, whose units are
+/// sectors, and to which all orders so far were given. A call fails only where as many orders wait
+/// as there is room for, and memory is refused.
 #[derive(Drop)]
 pub struct QueueDevice {
     cells: Vec<Option<[u8; 512]>>,
@@ -45,7 +46,8 @@ impl QueueDevice {
     ghost use Rattle.lfs_queue.specs.Numbered.{HasNumber, IsNoneWaiting};
     ghost use Rattle.lfs_queue.specs.Queue.{queue_state, start_of, due_of, carried_of, told_of, room_of};
 
-    /// A device that holds an image and was told nothing, with room for so many orders.
+    /// A device that holds an image and was told nothing, with room for so many orders. No call of
+    /// it fails while fewer were told.
     ///
     /// # Errors
     ///
@@ -56,6 +58,8 @@ impl QueueDevice {
         ensures state { IfOk result (λ d. (queue_state d).content ≡ cells_of image) }
         ensures size { IfOk result (λ d. (queue_state d).size ≡ length (cells_of image)) }
         ensures room { IfOk result (λ d. room ≤ room_of d) }
+        ensures bears { IfOk result
+            (λ d. (orders : ℕ) → orders ≤ room → (queue_state d).bears orders) }
     {
         let queue = Vec::with_capacity(alloc, room)?;
         let Image { cells, sectors } = image;
@@ -111,7 +115,7 @@ impl QueueDevice {
         Some(&self.queue[place as usize])
     }
 
-    /// All orders were carried out.
+    /// All orders were carried out. There is room for as many more as before.
     pub fn forget(&mut self)
         ensures told { told_of self.new ≡ told_of self.old }
         ensures due { due_of self.new ≡ [] }
@@ -133,7 +137,8 @@ fn put_last(queue: &mut Vec<Order>, order: Order) -> Result<(), DeviceFault>
     ensures told { OnOk result ((told : List Order) → onto queue.new.items told
         ≡ order ∷ onto queue.old.items told) }
     ensures full { OnErr result (queue.new.items ≡ queue.old.items) }
-    ensures fails { OnErr result (vec_capacity queue.old ≤ vec_len queue.old) }
+    ensures fails { OnErr result (vec_capacity queue.old ≤ length queue.old.items) }
+    ensures room { vec_capacity queue.old ≤ vec_capacity queue.new }
 {
     match queue.push(order) {
         Ok(()) => Ok(()),
@@ -143,12 +148,12 @@ fn put_last(queue: &mut Vec<Order>, order: Order) -> Result<(), DeviceFault>
 
 impl SectorDevice for QueueDevice {
     ghost use Rattle.std.specs.Prelude.{Some, None, IsErrOf};
-    ghost use Rattle.lfs_model.specs.Device.{cell_at, put, Only, MayWrite, Carries, Elapses, IsUntouched, CrashWrites};
-    ghost use Rattle.lfs_queue.specs.Queue.{queue_state};
+    ghost use Rattle.lfs_model.specs.Device.{cell_at, put, Only, MayWriteUnit, Carries, Elapses, IsUntouched, CrashWritesUnit};
+    ghost use Rattle.lfs_queue.specs.Queue.{queue_state, borne_by};
 
     ghost state = { queue_state };
 
-    ghost lawful = { λ d. queue_lawful d.sectors d.start.value.items (onto d.queue.items (done_of d.done.value)) (count d.failed.value) d.fits d.started d.starts d.whole };
+    ghost lawful = { λ d. queue_lawful (λ k. k) d.sectors d.start.value.items (onto d.queue.items (done_of d.done.value)) (count d.failed.value) (borne_by d) d.fits d.started d.starts d.whole };
 
     fn sectors(&self) -> u32 {
         self.sectors
@@ -185,6 +190,10 @@ impl SectorDevice for QueueDevice {
             }
         }
     }
+}
+
+impl SectorUnits for QueueDevice {
+    ghost units = { λ d j k same. same };
 }
 
 impl TendedDevice for QueueDevice {

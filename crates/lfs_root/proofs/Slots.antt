@@ -2,14 +2,14 @@
 use Rattle.std.proofs.Common.{◌≡◌, ◌≢◌, ◌⊎◌, inl, inr, ℕ, zero, suc, ◌+◌, ◌%◌, ◌<◌, ◌≤◌, Option, Some, None, Result, Ok, Err, OnOk, List}
 use Rattle.std.proofs.Common.{length, refl, sym, ◌∙◌, ap, subst, arith, get_or-set_same, get_or-set_other}
 use Rattle.std.proofs.lemmas.Bool.{cases_eq}
-use Rattle.std.specs.Prelude.{slice_set}
 use Rattle.lfs_model.specs.Checkpoint.{CheckpointValue, FitsCheckpoint, checkpoint_sector}
-use Rattle.lfs_model.specs.Device.{Cell, cell_at, put, lose, MayWrite, left_old, left_new, left_bad, DeviceState, IsLawful, Only, AllLeft}
-use Rattle.lfs_model.specs.Device.{LeavesOnly, ComesFrom}
+use Rattle.lfs_model.specs.Device.{Cell, cell_at, put, MayWriteUnit, AreSectors, DeviceState, IsLawful, Only, AllLeft, LeavesOnly}
+use Rattle.lfs_model.specs.Device.{ComesFrom}
 use Rattle.lfs_model.proofs.Moments.{weaker}
 use Rattle.lfs_model.specs.Slots.{HoldsCheckpoint, SlotHolds, IsNewest, NewestIs, NewestIsOneOf}
 use Rattle.lfs_model.proofs.Slots.{held_same}
 use Rattle.lfs_model.proofs.CheckpointPlaces.{one_checkpoint}
+use Rattle.lfs_root.specs.Apart.{SlotsApart}
 
 some_is : {X : Type 0} {x y : X} → Some x ≡ Some y → x ≡ y
 some_is is = cc is
@@ -33,50 +33,88 @@ slot_cases zero lt = inl refl
 slot_cases (suc zero) lt = inr refl
 slot_cases (suc (suc slot)) lt = absurd (omega (arith, lt))
 
+-- slots that lie apart are of different units
+units_differ : (unit : ℕ → ℕ) → SlotsApart unit → (j k : ℕ) → j < 2 → k < 2 → (j ≡ k → ⊥) → unit j ≡ unit k → ⊥
+units_differ unit apart j k low high ne same = elim (slot_cases j low) [
+  | inl first ↦ elim (slot_cases k high) [
+    | inl is ↦ ne (first ∙ sym is)
+    | inr is ↦ apart (ap unit (sym first) ∙ same ∙ ap unit is)
+  ]
+  | inr second ↦ elim (slot_cases k high) [
+    | inl is ↦ apart (ap unit (sym is) ∙ sym same ∙ ap unit second)
+    | inr is ↦ ne (second ∙ sym is)
+  ]
+]
+
+-- units that are sectors lie apart
+pub sectors_apart : {unit : ℕ → ℕ} → AreSectors unit → SlotsApart unit
+sectors_apart sectors same = let e : 0 ≡ 1 = sectors 0 1 same in absurd (omega (arith, e))
+
 module _ {last next : CheckpointValue} (follows : next.number ≡ last.number + 1) (fits : FitsCheckpoint next) {content : List Cell}
-    (long : 2 ≤ length content) (newest : IsNewest content last) where
+    (newest : IsNewest content last) where
   abbrev at : ℕ
   at = next.number % 2
 
-  other_cell : (x : Cell) (slot : ℕ) → slot ≢ at → cell_at (slice_set content at x) slot ≡ cell_at content slot
-  other_cell x slot ne = get_or-set_other content at slot x None ne
-
-  this_cell : {x : Cell} → cell_at (slice_set content at x) at ≡ x
-  this_cell {x} = let lt : at < 2 = omega arith in get_or-set_same content at x None (omega (arith, lt, long))
-
-  -- the slot becomes unreadable
-  pub newest_lost : IsNewest (lose content at) last
-  newest_lost = record {
-    held =
+  -- a content whose other slot is as it was
+  module _ {e : List Cell} (elsewhere : (slot : ℕ) → slot < 2 → slot ≢ at → cell_at e slot ≡ cell_at content slot) where
+    still_held : HoldsCheckpoint e (last.number % 2) last
+    still_held =
         let ne : last.number % 2 ≢ at = λ same. absurd (omega (arith, follows, same)) in
-        held_same (lose content at) last (other_cell None (last.number % 2) ne) newest.held;
-    greatest = λ slot d lt held. elim (cases_eq slot at) [
-      | inl same ↦ (let none : None ≡ Some (checkpoint_sector d) = sym (this_cell {x = None})
-          ∙ ap (λ (i : ℕ). cell_at (lose content at) i) (sym same) ∙ held.spells in absurd (cc none))
-      | inr ne ↦ newest.greatest slot d lt (held_same content d (sym (other_cell None slot ne)) held)
-    ];
-  }
+        held_same e last (elsewhere (last.number % 2) (omega arith) ne) newest.held
 
-  -- the slot gets the next checkpoint
-  pub newest_written : IsNewest (put content at (checkpoint_sector next)) next
-  newest_written =
-      let written : HoldsCheckpoint (put content at (checkpoint_sector next)) at next =
-      record { fits = fits; spells = this_cell; parity = refl } in
-      record {
-        held = written;
-        greatest = λ slot d lt held. elim (cases_eq slot at) [
-          | inl same ↦ (let is : d ≡ next = one_held same held written in
-              let n : d.number ≡ next.number = ap (λ (c : CheckpointValue). c.number) is in omega (arith, n))
-          | inr ne ↦ (let le : d.number ≤ last.number = newest.greatest slot d lt (held_same
-              content d (sym (other_cell (Some (checkpoint_sector next)) slot ne)) held) in omega (arith, le, follows))
-        ];
-      }
+    -- the slot is as it was
+    newest_same : cell_at e at ≡ cell_at content at → IsNewest e last
+    newest_same is = record {
+      held = still_held;
+      greatest = λ slot d lt held. elim (cases_eq slot at) [
+        | inl same ↦ newest.greatest slot d lt (held_same content d (sym (ap (λ (i : ℕ). cell_at e i) same ∙ is
+            ∙ sym (ap (λ (i : ℕ). cell_at content i) same))) held)
+        | inr ne ↦ newest.greatest slot d lt (held_same content d (sym (elsewhere slot lt ne)) held)
+      ];
+    }
+
+    -- the slot became unreadable
+    newest_lost : cell_at e at ≡ None → IsNewest e last
+    newest_lost is = record {
+      held = still_held;
+      greatest = λ slot d lt held. elim (cases_eq slot at) [
+        | inl same ↦ (let none : None ≡ Some (checkpoint_sector d) = sym is ∙ ap (λ (i : ℕ). cell_at e i) (sym same) ∙ held.spells in
+            absurd (cc none))
+        | inr ne ↦ newest.greatest slot d lt (held_same content d (sym (elsewhere slot lt ne)) held)
+      ];
+    }
+
+    -- the slot got the next checkpoint
+    newest_written : cell_at e at ≡ Some (checkpoint_sector next) → IsNewest e next
+    newest_written is =
+        let written : HoldsCheckpoint e at next = record { fits = fits; spells = is; parity = refl } in
+        record {
+          held = written;
+          greatest = λ slot d lt held. elim (cases_eq slot at) [
+            | inl same ↦ (let is : d ≡ next = one_held same held written in
+                let n : d.number ≡ next.number = ap (λ (c : CheckpointValue). c.number) is in omega (arith, n))
+            | inr ne ↦ (let was = held_same content d (sym (elsewhere slot lt ne)) held in
+                let le : d.number ≤ last.number = newest.greatest slot d lt was in omega (arith, le, follows))
+          ];
+        }
 
   -- a stop leaves the one or the other
-  pub newest_torn : {e : List Cell} → MayWrite at (checkpoint_sector next) content e → NewestIsOneOf last next e
-  newest_torn (left_old is) = inl (subst (λ (c : List Cell). IsNewest c last) (sym is) newest)
-  newest_torn (left_new is) = inr (subst (λ (c : List Cell). IsNewest c next) (sym is) newest_written)
-  newest_torn (left_bad is) = inl (subst (λ (c : List Cell). IsNewest c last) (sym is) newest_lost)
+  pub newest_torn : (unit : ℕ → ℕ) → SlotsApart unit → {e : List Cell} → MayWriteUnit unit at (checkpoint_sector next) content e
+      → NewestIsOneOf last next e
+  newest_torn unit apart {e} may = elim may.own [
+    | inl is ↦ inl (newest_same elsewhere is)
+    | inr (inl is) ↦ inr (newest_written elsewhere is)
+    | inr (inr is) ↦ inl (newest_lost elsewhere is)
+  ]
+    where
+      elsewhere : (slot : ℕ) → slot < 2 → slot ≢ at → cell_at e slot ≡ cell_at content slot
+      elsewhere slot lt ne = may.others slot (units_differ unit apart slot at lt (omega arith) ne)
+
+  -- what is written is newest
+  pub newest_put : 2 ≤ length content → IsNewest (put content at (checkpoint_sector next)) next
+  newest_put long =
+      newest_written (λ slot lt ne. get_or-set_other content at slot (Some (checkpoint_sector next)) None ne)
+      (let lt : at < 2 = omega arith in get_or-set_same content at (Some (checkpoint_sector next)) None (omega (arith, lt, long)))
 
 -- the greater of what the two slots hold
 held_by : (content : List Cell) (slot : ℕ) {x : Option CheckpointValue} {a : CheckpointValue} → x ≡ Some a → SlotHolds content slot x
@@ -175,13 +213,15 @@ on_ok (Err e) P Q R gives p q = tt
 module _ (a b : DeviceState) (last : CheckpointValue) {next : CheckpointValue} (slot : ℕ) (bytes : List ℕ) (place : slot ≡ next.number % 2)
     (spelt : bytes ≡ checkpoint_sector next) (fits : FitsCheckpoint next) (lawful : IsLawful a) (two : 2 ≤ a.size)
     (all : AllLeft a (λ c. IsNewest c last)) (follows : next.number ≡ last.number + 1) where
-  pub one_of : (x : List Cell) → ComesFrom a (MayWrite slot bytes) x → NewestIsOneOf last next x
-  one_of x from =
-      newest_torn follows fits (omega (arith, two, lawful.sizes from.0 from.1)) (all from.0 from.1)
-      (subst (λ (s : List ℕ). MayWrite (next.number % 2) s from.0 x) spelt (subst (λ (k : ℕ). MayWrite k bytes from.0 x) place from.2))
+  pub one_of : SlotsApart a.unit → (x : List Cell) → ComesFrom a (MayWriteUnit a.unit slot bytes) x → NewestIsOneOf last next x
+  one_of apart x from =
+      newest_torn follows fits (all from.0 from.1) a.unit apart
+      (subst (λ (s : List ℕ). MayWriteUnit a.unit (next.number % 2) s from.0 x) spelt
+      (subst (λ (k : ℕ). MayWriteUnit a.unit k bytes from.0 x) place from.2))
 
-  pub one_at_each_moment : LeavesOnly a b (ComesFrom a (MayWrite slot bytes)) → LeavesOnly a b (NewestIsOneOf last next)
-  one_at_each_moment leaves = weaker (ComesFrom a (MayWrite slot bytes)) (NewestIsOneOf last next) one_of leaves
+  pub one_at_each_moment : SlotsApart a.unit → LeavesOnly a b (ComesFrom a (MayWriteUnit a.unit slot bytes))
+      → LeavesOnly a b (NewestIsOneOf last next)
+  one_at_each_moment apart leaves = weaker (ComesFrom a (MayWriteUnit a.unit slot bytes)) (NewestIsOneOf last next) (one_of apart) leaves
 
   pub next_alone : a.keeps_model → b.content ≡ put a.content slot bytes → Only b.content b → AllLeft b (λ c. IsNewest c next)
   next_alone keeps content only x left =
@@ -189,4 +229,4 @@ module _ (a b : DeviceState) (last : CheckpointValue) {next : CheckpointValue} (
       let is : x ≡ put a.content (next.number % 2) (checkpoint_sector next) = only x left ∙ content
       ∙ ap (λ (s : List ℕ). put a.content slot s) spelt ∙ ap (λ (k : ℕ). put a.content k (checkpoint_sector next)) place in
       subst (λ (c : List Cell). IsNewest c next) (sym is)
-      (newest_written follows fits (omega (arith, two, lawful.size)) (all a.content present))
+      (newest_put follows fits (all a.content present) (omega (arith, two, lawful.size)))

@@ -3,8 +3,9 @@
 
 ghost use Rattle.std.specs.Prelude.{◌≡◌, ◌+◌, ◌%◌, ◌<◌, ◌≤◌, ℕ, List, length, IsErr, IfOk, IfSome, OnOk, OnErr, IsErrOf};
 ghost use Rattle.lfs_model.specs.Checkpoint.{CheckpointValue, FitsCheckpoint, checkpoint_sector};
-ghost use Rattle.lfs_model.specs.Device.{Cell, put, MayWrite, Only, AllLeft, Carries, Elapses, IsUntouched, LeavesOnly, ComesFrom};
+ghost use Rattle.lfs_model.specs.Device.{Cell, put, MayWriteUnit, Only, AllLeft, Carries, Elapses, IsUntouched, LeavesOnly, ComesFrom};
 ghost use Rattle.lfs_model.specs.Slots.{SlotHolds, IsNewest, HasNoCheckpoint, NewestIs, NewestIsOneOf};
+ghost use Rattle.lfs_root.specs.Apart.{SlotsApart};
 
 use lfs_device::{DeviceFault, ReadFault, SectorDevice};
 use lfs_layout::Checkpoint;
@@ -31,6 +32,7 @@ fn read_slot<D: SectorDevice>(device: &mut D, slot: u32) -> Result<Option<Checkp
     ensures untouched { IsUntouched (D.state device.old) (D.state device.new) }
     ensures carries { Carries (D.state device.old) (D.state device.new) }
     ensures time { Elapses (D.state device.old) (D.state device.new) }
+    ensures told { (D.state device.new).told ≡ (D.state device.old).told }
 {
     let mut bytes = [0; 512];
     match device.read(slot, &mut bytes) {
@@ -96,6 +98,7 @@ pub fn newest<D: SectorDevice>(device: &mut D) -> Result<Checkpoint, RootFault>
     ensures any_moment { LeavesOnly (D.state device.old) (D.state device.new)
         (D.state device.old).may_leave }
     ensures carries { Carries (D.state device.old) (D.state device.new) }
+    ensures told { length (D.state device.new).told ≤ length (D.state device.old).told + 1 }
 {
     if device.sync().is_err() {
         return Err(RootFault::Device);
@@ -112,7 +115,7 @@ pub fn newest<D: SectorDevice>(device: &mut D) -> Result<Checkpoint, RootFault>
     }
 }
 
-/// Writes a sector and syncs.
+/// Writes a sector and syncs. A stop may also spoil the other sectors of its unit.
 fn write_durably<D: SectorDevice>(
     device: &mut D,
     sector: u32,
@@ -120,14 +123,20 @@ fn write_durably<D: SectorDevice>(
 ) -> Result<(), DeviceFault>
     requires { sector < (D.state device.old).size }
     ensures any_moment { LeavesOnly (D.state device.old) (D.state device.new)
-        (ComesFrom (D.state device.old) (MayWrite sector bytes.now)) }
+        (ComesFrom (D.state device.old)
+        (MayWriteUnit (D.state device.old).unit sector bytes.now)) }
     ensures left { AllLeft (D.state device.new)
-        (ComesFrom (D.state device.old) (MayWrite sector bytes.now)) }
+        (ComesFrom (D.state device.old)
+        (MayWriteUnit (D.state device.old).unit sector bytes.now)) }
     ensures content { OnOk result ((D.state device.new).keeps_model
         → (D.state device.new).content ≡ put (D.state device.old).content sector bytes.now) }
     ensures durable { OnOk result ((D.state device.new).keeps_model
         → Only (D.state device.new).content (D.state device.new)) }
     ensures failed { OnErr result ((D.state device.old).failures < (D.state device.new).failures) }
+    ensures failed_order { OnErr result
+        ((D.state device.old).failed_orders < (D.state device.new).failed_orders) }
+    ensures borne { OnErr result ((n : ℕ) → (D.state device.old).bears n
+        → n ≤ length (D.state device.old).told + 1) }
     ensures no_failure { OnOk result
         ((D.state device.new).failures ≡ (D.state device.old).failures) }
     ensures carries { Carries (D.state device.old) (D.state device.new) }
@@ -138,9 +147,10 @@ fn write_durably<D: SectorDevice>(
     Ok(())
 }
 
-/// Writes the checkpoint to its slot, the sector that is its number modulo 2, and syncs. Where the
-/// newest checkpoint is the one before it in number, a stop at any moment leaves that one or this
-/// as the newest, and after `Ok` this alone. Nothing but the slot's sector changes.
+/// Writes the checkpoint to its slot, the sector that is its number modulo 2, and syncs. After `Ok`
+/// nothing else has changed. A stop or a failure may also spoil the other sectors of the slot's unit.
+/// Where the newest checkpoint is the one before it in number, `Ok` makes this one the newest. If the
+/// slots are of different units too, a stop at any moment leaves that one or this as the newest.
 ///
 /// # Errors
 ///
@@ -149,15 +159,16 @@ pub fn replace<D: SectorDevice>(device: &mut D, checkpoint: &Checkpoint) -> Resu
     requires size { CHECKPOINT_SLOTS ≤ (D.state device.old).size }
     requires fits { FitsCheckpoint checkpoint.now }
     ensures any_moment { LeavesOnly (D.state device.old) (D.state device.new)
-        (ComesFrom (D.state device.old)
-        (MayWrite (checkpoint.now.number % 2) (checkpoint_sector checkpoint.now))) }
-    ensures newest { (last : CheckpointValue) → AllLeft (D.state device.old) (λ c. IsNewest c last)
+        (ComesFrom (D.state device.old) (MayWriteUnit (D.state device.old).unit
+        (checkpoint.now.number % 2) (checkpoint_sector checkpoint.now))) }
+    ensures newest { SlotsApart (D.state device.old).unit → (last : CheckpointValue)
+        → AllLeft (D.state device.old) (λ c. IsNewest c last)
         → checkpoint.now.number ≡ last.number + 1
         → LeavesOnly (D.state device.old) (D.state device.new) (NewestIsOneOf last checkpoint.now) }
     ensures left { AllLeft (D.state device.new)
-        (ComesFrom (D.state device.old)
-        (MayWrite (checkpoint.now.number % 2) (checkpoint_sector checkpoint.now))) }
-    ensures left_newest { (last : CheckpointValue)
+        (ComesFrom (D.state device.old) (MayWriteUnit (D.state device.old).unit
+        (checkpoint.now.number % 2) (checkpoint_sector checkpoint.now))) }
+    ensures left_newest { SlotsApart (D.state device.old).unit → (last : CheckpointValue)
         → AllLeft (D.state device.old) (λ c. IsNewest c last)
         → checkpoint.now.number ≡ last.number + 1
         → AllLeft (D.state device.new) (NewestIsOneOf last checkpoint.now) }
@@ -171,6 +182,10 @@ pub fn replace<D: SectorDevice>(device: &mut D, checkpoint: &Checkpoint) -> Resu
         → checkpoint.now.number ≡ last.number + 1
         → AllLeft (D.state device.new) (λ c. IsNewest c checkpoint.now)) }
     ensures failed { OnErr result ((D.state device.old).failures < (D.state device.new).failures) }
+    ensures failed_order { OnErr result
+        ((D.state device.old).failed_orders < (D.state device.new).failed_orders) }
+    ensures borne { OnErr result ((n : ℕ) → (D.state device.old).bears n
+        → n ≤ length (D.state device.old).told + 1) }
     ensures no_failure { OnOk result
         ((D.state device.new).failures ≡ (D.state device.old).failures) }
     ensures carries { Carries (D.state device.old) (D.state device.new) }

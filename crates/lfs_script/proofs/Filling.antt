@@ -193,6 +193,8 @@ module _ {D : Type 0} {state : D → DeviceState} {old new : Mounted D} {h off :
             goes_on = answers.goes_on;
             first_halted = answers.first_halted;
             failures = answers.failures;
+            failed_orders = answers.failed_orders;
+            failed_reads = answers.failed_reads;
             number = answers.number;
             few = answers.few;
             quiet = answers.quiet;
@@ -235,6 +237,8 @@ module _ {D : Type 0} {state : D → DeviceState} {old new : Mounted D} {h off :
             goes_on = λ on. (let e = answers.goes_on on in absurd (cc));
             first_halted = λ e. absurd (no_halt e);
             failures = answers.failures;
+            failed_orders = answers.failed_orders;
+            failed_reads = answers.failed_reads;
             number = answers.number;
             few = answers.few;
             quiet = λ e. absurd (cc);
@@ -264,6 +268,8 @@ module _ {D : Type 0} {state : D → DeviceState} {old new : Mounted D} {h off :
             goes_on = answers.goes_on;
             first_halted = λ e. inr refl;
             failures = answers.failures;
+            failed_orders = answers.failed_orders;
+            failed_reads = answers.failed_reads;
             number = answers.number;
             few = answers.few;
             quiet = λ e. absurd (cc);

@@ -1,21 +1,25 @@
 -- What a mount and a run of a script say together, and what a stop after them leaves: a use of a volume.
-use Rattle.std.proofs.Common.{◌≡◌, ◌<◌, ◌≤◌, ⊎_elim, arith, ℕ, Bool, true, false, Option, Result, Ok, Err, List, sym, ◌∙◌, subst}
+use Rattle.std.proofs.Common.{◌≡◌, ◌<◌, ◌≤◌, ⊎_elim, inl, arith, ℕ, Bool, true, false, Option, Result, Ok, Err, List, sym, ◌∙◌, subst}
 use Rattle.std.proofs.Common.{IfOk, IfErr, IsTrue}
 use Rattle.lfs_model.specs.Content.{Content}
-use Rattle.lfs_model.specs.Device.{Carries, DeviceState, Elapses, IsLawful, IsUntouched, LeavesOnly, Only}
+use Rattle.lfs_model.specs.Device.{Carries, DeviceState, Elapses, IsLawful, IsUntouched, LeavesOnly, LieWithin, Only, in_sectors}
 use Rattle.lfs_model.specs.Run.{Point}
 use Rattle.lfs_model.specs.Script.{Line}
 use Rattle.lfs_model.specs.Call.{Answer, Call}
 use Rattle.lfs_model.specs.Since.{AreKeptSince}
 use Rattle.lfs_model.specs.Use.{UsesVolume}
-use Rattle.lfs_model.proofs.Moments.{goes_on}
+use Rattle.lfs_model.proofs.Moments.{goes_on, same_orders}
+use Rattle.lfs_model.proofs.UnitStates.{units_carry, units_elapse}
+use Rattle.lfs_device.specs.MemoryDevice.{IsStopped, device_state}
+use Rattle.lfs_device.specs.declared.memory.MemDevice.{MemDevice}
+use Rattle.lfs_device.specs.declared.rows.Left.{Left}
 use Rattle.lfs_fs.specs.declared.fs.Fs.{Fs}
 use Rattle.lfs_fs.specs.Mounting.{FindsState, IsMountFault, IsRefused}
 use Rattle.lfs_fs.specs.Seen.{seen}
 use Rattle.lfs_fs.specs.Volume.{LeavesAll, Mounted}
 use Rattle.lfs_fs.specs.log.verify.declared.fault.MountFault.{MountFault}
 use Rattle.lfs_fs.specs.log.verify.declared.fault.MountFault.TheVariants.{NoMemory, Device, TooSmall, NoCheckpoint, Damaged}
-use Rattle.lfs_fs.proofs.Sessions.{told_saved, uses_told, uses_volume}
+use Rattle.lfs_fs.proofs.Sessions.{told_saved, uses_told, uses_until, uses_volume}
 use Rattle.lfs_script.specs.Running.{Ends, EndsBy, EndsNoted}
 use Rattle.lfs_script.specs.Saved.{SessionSaved}
 use Rattle.lfs_script.specs.Session.{Session, SessionNoted}
@@ -65,12 +69,12 @@ used_strictly {state} d r w v new lawful finds durable untouched carries moment 
 -- and one before a witness
 pub used_told : {D : Type 0} {state : D → DeviceState} (d : D) {strict : Bool} {end : StrictEnd} (r : Option (List ℕ))
     {r' : Option (List ℕ)} (w : Option (List ℕ)) {w' : Option (List ℕ)} (v : Fs D)
-    (new : Mounted D) (s : List Glance) {s' : List Glance} → IsLawful (state d) → FindsState state d v
+    (new : Mounted D) (s : List Glance) {s' : List Glance} → ((x : D) → IsLawful (state x)) → FindsState state d v
     → ((state (seen v).log.device).keeps_model → Only (state d).content (state (seen v).log.device))
     → IsUntouched (state d) (state (seen v).log.device) → Carries (state d) (state (seen v).log.device)
     → LeavesOnly (state d) (state (seen v).log.device) (state d).may_leave → (state (seen v).log.device).failures ≡ (state d).failures
     → EndsNoted state strict end r r' w w' (seen v) new s s' → SessionNoted strict end r r' w w' (state d) (state new.log.device) s s'
-used_told {state} d r w v new s lawful finds durable untouched carries moment no_failure ends = record {
+used_told {state} d r w v new s each finds durable untouched carries moment no_failure ends = record {
   texts = ends.ends.texts;
   script = ends.ends.script;
   answers = ends.ends.answers;
@@ -78,22 +82,25 @@ used_told {state} d r w v new s lawful finds durable untouched carries moment no
   spelled = ends.ends.spelled;
   bytes = ends.ends.bytes;
   glanced = ends.glanced;
-  uses = λ keeps. uses_told d lawful v finds durable untouched carries moment no_failure ends.told keeps;
+  uses = λ keeps. uses_told d (each d) v finds durable untouched carries moment no_failure ends.told keeps;
+  past = λ i t is. (ends.told.clocks_within i t is).1;
+  until = uses_until d (each d) v finds durable untouched carries moment no_failure (each new.log.device) (each (seen v).log.device)
+      ends.told;
 }
 
 -- and where all may be saved then
 pub used_saved : {D : Type 0} {state : D → DeviceState} (d : D) {is_saved strict : Bool} {end : StrictEnd} (r : Option (List ℕ))
     {r' : Option (List ℕ)} (w : Option (List ℕ)) {w' : Option (List ℕ)} (v : Fs D)
-    (new : Mounted D) (s : List Glance) {s' : List Glance} → IsLawful (state d) → FindsState state d v
+    (new : Mounted D) (s : List Glance) {s' : List Glance} → ((x : D) → IsLawful (state x)) → FindsState state d v
     → ((state (seen v).log.device).keeps_model → Only (state d).content (state (seen v).log.device))
     → IsUntouched (state d) (state (seen v).log.device) → Carries (state d) (state (seen v).log.device)
     → LeavesOnly (state d) (state (seen v).log.device) (state d).may_leave → (state (seen v).log.device).failures ≡ (state d).failures
     → EndsNoted state strict end r r' w w' (seen v) new s s' → (IsTrue is_saved → LeavesAll state new)
     → SessionSaved is_saved strict end r r' w w' (state d) (state new.log.device) s s'
 unfolding used_told
-used_saved {state} d r w v new s lawful finds durable untouched carries moment no_failure ends all = record {
-  session = used_told d r w v new s lawful finds durable untouched carries moment no_failure ends;
-  saved = λ is keeps. told_saved d lawful v finds durable untouched carries moment no_failure ends.told keeps (all is);
+used_saved {state} d r w v new s each finds durable untouched carries moment no_failure ends all = record {
+  session = used_told d r w v new s each finds durable untouched carries moment no_failure ends;
+  saved = λ is keeps. told_saved d (each d) v finds durable untouched carries moment no_failure ends.told keeps (all is);
 }
 
 -- where it isn't strict, no refusal ends it
@@ -124,13 +131,10 @@ pub err_more : {A E : Type 0} (P Q : E → Type 0) (r : Result A E) → ((e : E)
 err_more P Q (Ok x) more has = tt
 err_more P Q (Err e) more has = more e has
 
--- A stop, which leaves one of the contents that might be left.
+-- A stop, which leaves contents that might be left before it.
 module _ {mid new : DeviceState} (counts : (t : ℕ) (c : Content) → t ≤ mid.moment → mid.may_leave c → mid.left_since t c)
     (carries : Carries mid new) (time : Elapses mid new)
-    (same : new.failures ≡ mid.failures) (only : Only new.content new) (chosen : mid.may_leave new.content) where
-  pub was_left : (c : Content) → new.may_leave c → mid.may_leave c
-  was_left c left = subst (λ (x : Content). mid.may_leave x) (sym (only c left)) chosen
-
+    (same : new.failures ≡ mid.failures) (was_left : (c : Content) → new.may_leave c → mid.may_leave c) where
   pub stop_leaves : (d : DeviceState) (P : Content → Type 0) → LeavesOnly d mid P → LeavesOnly d new P
   stop_leaves d P leaves =
       goes_on P leaves carries time (λ c left. leaves.each c (counts d.moment c leaves.later (was_left c left)))
@@ -149,6 +153,8 @@ module _ {mid new : DeviceState} (counts : (t : ℕ) (c : Content) → t ≤ mid
     unstuck = uses.unstuck;
     failures_before = uses.failures_before;
     failures_after = uses.failures_after ∙ sym same;
+    orders_before = uses.orders_before;
+    orders_after = uses.orders_after ∙ sym (same_orders carries same);
     number_after = λ on c left. uses.number_after on c (was_left c left);
     moments = stop_leaves d _ uses.moments;
     pending = λ c left. uses.pending c (was_left c left);
@@ -195,6 +201,21 @@ module _ {mid new : DeviceState} (counts : (t : ℕ) (c : Content) → t ≤ mid
           uses = stopped_use d was.uses;
           since = kept_over was.since;
         });
+    past = λ i t is. (let was = session.past i t is in let later = carries.later in omega (arith, was, later));
+    until = λ j u is until. (
+        let high = session.past j u is in
+        let was = session.until j u is ((carries.kept_as u high).0 until) in record {
+          first = was.first;
+          segments = was.segments;
+          stands = was.stands;
+          same_segments = was.same_segments;
+          running = was.running;
+          kept = record {
+            points = was.kept.points;
+            run = was.kept.run;
+            since = λ i t le at c left. was.kept.since i t le at c ((carries.left_as t u c high).0 left);
+          };
+        });
   }
 
   -- and the reason of a mount that was refused before it stays one
@@ -222,3 +243,42 @@ module _ {mid new : DeviceState} (counts : (t : ℕ) (c : Content) → t ≤ mid
     unread = unused.unread;
     unwritten = unused.unwritten;
   }
+
+-- A stop of a device in memory, as one of sectors.
+module _ {mid new : MemDevice} {choices : List Left} {rest : Left} (stop : IsStopped choices rest mid new) where
+  counts_in_sectors : (t : ℕ) (c : Content) → t ≤ (device_state mid).moment → (in_sectors device_state mid).may_leave c
+      → (in_sectors device_state mid).left_since t c
+  counts_in_sectors t c le left = (left.0, inl left.1)
+
+  left_in_sectors : (c : Content) → (in_sectors device_state new).may_leave c → (in_sectors device_state mid).may_leave c
+  left_in_sectors c left = (
+    subst (λ (u : ℕ → ℕ). LieWithin u (λ k. k)) stop.carries.unit left.0,
+    subst (λ (x : Content). (device_state mid).may_leave x) (sym (stop.durable c left.1)) stop.chosen,
+  )
+
+  pub stop_carries : Carries (in_sectors device_state mid) (in_sectors device_state new)
+  stop_carries = units_carry (λ k. k) stop.carries
+
+  pub stopped_in_memory : {d : DeviceState} {end : ScriptEnd} (r : Option (List ℕ)) {r' : Option (List ℕ)} (w : Option (List ℕ))
+      {w' : Option (List ℕ)} → Session end r r' w w' d (in_sectors device_state mid)
+      → Session end r r' w w' d (in_sectors device_state new)
+  stopped_in_memory r w session =
+      stopped counts_in_sectors stop_carries (units_elapse (λ k. k) stop.carries stop.time) stop.same_failures left_in_sectors r w session
+
+  pub told_in_memory : {d : DeviceState} {strict : Bool} {end : StrictEnd} (r : Option (List ℕ)) {r' : Option (List ℕ)}
+      (w : Option (List ℕ)) {w' : Option (List ℕ)} (s : List Glance) {s' : List Glance}
+      → SessionNoted strict end r r' w w' d (in_sectors device_state mid) s s'
+      → SessionNoted strict end r r' w w' d (in_sectors device_state new) s s'
+  told_in_memory r w s session =
+      stopped_told
+      counts_in_sectors stop_carries (units_elapse (λ k. k) stop.carries stop.time) stop.same_failures left_in_sectors r w s session
+
+  pub unused_in_memory : {R W : Type 0} {d : DeviceState} {fault : MountFault} {r r' : R} {w w' : W}
+      → IsUnused r r' w w' d (in_sectors device_state mid) fault → IsUnused r r' w w' d (in_sectors device_state new) fault
+  unused_in_memory unused =
+      still_unused counts_in_sectors stop_carries (units_elapse (λ k. k) stop.carries stop.time) stop.same_failures left_in_sectors unused
+
+-- A device in memory that keeps its model in sectors keeps it: its units stay.
+pub keeps_in_memory : {d d' : MemDevice} → Carries (in_sectors device_state d) (in_sectors device_state d')
+    → (in_sectors device_state d).keeps_model → (in_sectors device_state d').keeps_model
+keeps_in_memory carries keeps = (carries.kept_as 0 (omega (arith))).1 keeps

@@ -25,9 +25,9 @@ abbrev pub texts_of : List StoppedScript → List (List ℕ)
 texts_of = map (λ s. s.script.items)
 
 module _ {D : Type 0} (state : D → DeviceState) where
-  -- whatever run before left what stands on the device now, P holds of what there is between that and the next use
+  -- Where the device keeps its model: whatever run before left what stands on it now, P holds of what there is between that and the next.
   abbrev pub FromAny : Option (List ℕ) → D → (Between D → Type 0) → Type 0
-  FromAny written device P = (before : List Point) (calls : List Call) (given : List Answer)
+  FromAny written device P = (state device).keeps_model → (before : List Point) (calls : List Call) (given : List Answer)
       → LeavesPrefix (state device) before calls given
       → P (record { written = written; device = device; points = before; calls = calls; given = given })
 

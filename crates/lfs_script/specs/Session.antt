@@ -1,9 +1,9 @@
 -- A whole use of a volume: mounted, a script run on it, and what a stop leaves of it. The language is an own choice.
-use Rattle.std.specs.Prelude.{ℕ, Bool, Option, List}
+use Rattle.std.specs.Prelude.{◌≡◌, ◌≤◌, ℕ, Bool, Option, Some, List, slice_get}
 use Rattle.lfs_model.specs.Call.{Answer}
 use Rattle.lfs_model.specs.Device.{DeviceState}
 use Rattle.lfs_model.specs.Script.{Line}
-use Rattle.lfs_model.specs.Since.{UsesNoted}
+use Rattle.lfs_model.specs.Since.{UsesNoted, UsesUntil}
 use Rattle.lfs_model.specs.Use.{UsesVolume}
 use Rattle.lfs_script.specs.Ending.{AreSpelled, EndOf}
 use Rattle.lfs_script.specs.Strict.{StrictEndOf}
@@ -33,3 +33,7 @@ pub record SessionNoted (strict : Bool) (end : StrictEnd) (r r' w w' : Option (L
   pub bytes : StrictEndOf strict end r r' w w' texts answers
   pub glanced : Glanced w answers clocks s s'
   pub uses : d'.keeps_model → UsesNoted d d' script answers clocks
+  -- the clocks are of moments that are past
+  pub past : (i t : ℕ) → slice_get clocks i ≡ Some t → t ≤ d'.moment
+  -- and so they are up to each reply, where it kept the model until then, whatever it does later
+  pub until : (j u : ℕ) → slice_get clocks j ≡ Some u → d'.kept_until u → UsesUntil d d' script answers clocks j u

@@ -1,5 +1,7 @@
 //! Laws of whole uses of a volume, each the contract of a function that does nothing.
 ghost use Rattle.std.specs.Prelude.{ℕ};
+ghost use Rattle.lfs_model.specs.Device.{in_sectors};
+ghost use Rattle.lfs_script.specs.OfSectors.{SessionsOfSectors};
 ghost use Rattle.lfs_model.specs.UseLaws.{BeginsNew, NewIsPending, UsesArePlain};
 
 use lfs_device::SectorDevice;
@@ -9,12 +11,18 @@ use lfs_device::SectorDevice;
 /// it, which is the premise on which a use goes on.
 pub fn new_volumes_begin_empty<D: SectorDevice>(device: &D, used: &D)
     ensures begins { (version N : ℕ)
-        → BeginsNew version N (D.state device.now) (D.state used.now) }
-    ensures pending { (version N : ℕ) → NewIsPending version N (D.state device.now) }
+        → BeginsNew version N (in_sectors D.state device.now) (in_sectors D.state used.now) }
+    ensures pending { (version N : ℕ) → NewIsPending version N (in_sectors D.state device.now) }
 {}
 
 /// Where no call of the device failed in a use, each answer is the model's, but for want of
 /// memory.
 pub fn uses_are_plain<D: SectorDevice>(device: &D, used: &D)
-    ensures { UsesArePlain (D.state device.now) (D.state used.now) }
+    ensures { UsesArePlain (in_sectors D.state device.now) (in_sectors D.state used.now) }
+{}
+
+/// Where each sector of a memory device is a unit, what is said of a use of it in sectors is said of
+/// the device itself.
+pub fn sessions_of_sectors()
+    ensures { SessionsOfSectors }
 {}

@@ -1,6 +1,6 @@
 // A whole use of a volume before a witness.
 ghost use Rattle.std.specs.Prelude.{◌≡◌, IfOk, IfErr, OnOk, OnErr};
-ghost use Rattle.lfs_model.specs.Device.{Carries, IsUntouched, Only};
+ghost use Rattle.lfs_model.specs.Device.{Carries, IsUntouched, Only, in_sectors};
 ghost use Rattle.lfs_device.specs.MemoryDevice.{device_state};
 ghost use Rattle.lfs_script.specs.Saved.{SessionSaved};
 ghost use Rattle.lfs_script.specs.Series.{FromAny, texts_of};
@@ -35,17 +35,20 @@ pub fn use_volume_noted<R: Read, W: Write, D: SectorDevice, S: Witness<D, W>>(
     device: D,
 ) -> (Result<UseEnd, MountFault>, D)
     ensures ran { IfOk result.0 (λ end. SessionNoted strict end.script (R.remaining reader.old)
-        (R.remaining reader.new) (W.contents writer.old) (W.contents writer.new) (D.state device)
-        (D.state result.1) (S.glances witness.old) (S.glances witness.new)) }
+        (R.remaining reader.new) (W.contents writer.old) (W.contents writer.new)
+        (in_sectors D.state device)
+        (in_sectors D.state result.1) (S.glances witness.old) (S.glances witness.new)) }
     ensures saved { IfOk result.0 (λ end. SessionSaved end.is_saved strict end.script
         (R.remaining reader.old) (R.remaining reader.new) (W.contents writer.old)
-        (W.contents writer.new) (D.state device) (D.state result.1) (S.glances witness.old)
+        (W.contents writer.new) (in_sectors D.state device) (in_sectors D.state result.1)
+        (S.glances witness.old)
         (S.glances witness.new)) }
     ensures refused { IfErr result.0 (IsUnused reader.old reader.new writer.old writer.new
-        (D.state device) (D.state result.1)) }
-    ensures untouched { OnErr result.0 (IsUntouched (D.state device) (D.state result.1)) }
+        (in_sectors D.state device) (in_sectors D.state result.1)) }
+    ensures untouched { OnErr result.0 (IsUntouched (in_sectors D.state device) (in_sectors D.state
+        result.1)) }
     ensures unseen { OnErr result.0 (witness.new ≡ witness.old) }
-    ensures carries { Carries (D.state device) (D.state result.1) }
+    ensures carries { Carries (in_sectors D.state device) (in_sectors D.state result.1) }
 {
     match Fs::mount(alloc, device) {
         Ok(fs) => {
@@ -71,13 +74,13 @@ pub fn use_and_stop_noted<R: Read, W: Write, S: Witness<MemDevice, W>>(
 ) -> (Result<StrictEnd, MountFault>, MemDevice)
     ensures ran { IfOk result.0 (λ end. SessionNoted strict end (R.remaining reader.old)
         (R.remaining reader.new) (W.contents writer.old) (W.contents writer.new)
-        (device_state device) (device_state result.1) (S.glances witness.old)
+        (in_sectors device_state device) (in_sectors device_state result.1) (S.glances witness.old)
         (S.glances witness.new)) }
     ensures refused { IfErr result.0 (IsUnused reader.old reader.new writer.old writer.new
-        (device_state device) (device_state result.1)) }
+        (in_sectors device_state device) (in_sectors device_state result.1)) }
     ensures unseen { OnErr result.0 (witness.new ≡ witness.old) }
     ensures alone { Only (device_state result.1).content (device_state result.1) }
-    ensures carries { Carries (device_state device) (device_state result.1) }
+    ensures carries { Carries (in_sectors device_state device) (in_sectors device_state result.1) }
 {
     let (end, used) = use_volume_noted(alloc, strict, reader, writer, witness, device);
     let mut stopped = used;
@@ -98,11 +101,15 @@ pub fn use_each_noted<W: Write, S: Witness<MemDevice, W>>(
     witness: &mut S,
     device: MemDevice,
 ) -> (Result<(), MountFault>, MemDevice)
-    ensures ran { OnOk result.0 (FromAny device_state (W.contents writer.old) device (λ before.
-        UsesInTurnNoted device_state strict (texts_of scripts.now) before (W.contents writer.new)
+    ensures ran { OnOk result.0 (FromAny (in_sectors device_state) (W.contents writer.old) device
+        (λ before.
+        UsesInTurnNoted (in_sectors device_state) strict (texts_of scripts.now) before
+        (W.contents writer.new)
         result.1 (S.glances witness.old) (S.glances witness.new))) }
-    ensures stopped { IfErr result.0 (λ fault. FromAny device_state (W.contents writer.old) device
-        (λ before. StopsAtMountNoted device_state strict (texts_of scripts.now) fault before
+    ensures stopped { IfErr result.0 (λ fault. FromAny (in_sectors device_state) (W.contents
+        writer.old) device
+        (λ before. StopsAtMountNoted (in_sectors device_state) strict (texts_of scripts.now) fault
+        before
         (W.contents writer.new) result.1 (S.glances witness.old) (S.glances witness.new))) }
 {
     let mut current = device;

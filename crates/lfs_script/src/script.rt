@@ -1,5 +1,6 @@
 // A script from its first line to its end.
 ghost use Rattle.std.specs.Prelude.{◌≤◌, length, option_map, true};
+ghost use Rattle.lfs_model.specs.Device.{in_sectors};
 ghost use Rattle.lfs_fs.specs.Seen.{seen};
 ghost use Rattle.lfs_replies.specs.Answers.{result_of};
 ghost use Rattle.lfs_script.specs.Running.{AnswersText, Ends, EndsBy, EndsNoted, Finishes, GlancesBeforeReply, RepliesBadLine, Turns};
@@ -59,7 +60,8 @@ fn answer_line<D: SectorDevice>(
     line: &[u8],
 ) -> Option<Result<Answer, FsError>>
     requires short { length line.now ≤ LONGEST_LINE }
-    ensures { AnswersText D.SectorDevice.state (option_map result_of result) (seen fs.old)
+    ensures { AnswersText (in_sectors D.SectorDevice.state) (option_map result_of result)
+        (seen fs.old)
         (seen fs.new) line.now }
 {
     match parse(alloc, line) {
@@ -90,9 +92,10 @@ fn turn<W: Write, D: SectorDevice, S: Witness<D, W>>(
     count: u64,
 ) -> Option<StrictEnd>
     requires short { length line.now ≤ LONGEST_LINE }
-    ensures turns { Turns D.SectorDevice.state strict result (W.contents writer.old)
+    ensures turns { Turns (in_sectors D.SectorDevice.state) strict result (W.contents writer.old)
         (W.contents writer.new) (seen fs.old) (seen fs.new) line.now count }
-    ensures glances { GlancesBeforeReply D.SectorDevice.state (seen fs.new) (W.contents writer.old)
+    ensures glances { GlancesBeforeReply (in_sectors D.SectorDevice.state) (seen fs.new)
+        (W.contents writer.old)
         line.now (S.glances witness.old) (S.glances witness.new) }
 {
     let Some(answer) = answer_line(alloc, fs, line) else {
@@ -116,7 +119,7 @@ fn finish<W: Write, D: SectorDevice, S: Witness<D, W>>(
     count: u64,
 ) -> StrictEnd
     requires short { length line.now ≤ LONGEST_LINE }
-    ensures { Finishes D.SectorDevice.state strict result (W.contents writer.old)
+    ensures { Finishes (in_sectors D.SectorDevice.state) strict result (W.contents writer.old)
         (W.contents writer.new) (seen fs.old) (seen fs.new) line.now count (S.glances witness.old)
         (S.glances witness.new) }
 {
@@ -138,7 +141,8 @@ pub fn run<R: Read, W: Write, D: SectorDevice>(
     writer: &mut W,
     fs: &mut Fs<D>,
 ) -> ScriptEnd
-    ensures { Ends D.SectorDevice.state result (R.remaining reader.old) (R.remaining reader.new)
+    ensures { Ends (in_sectors D.SectorDevice.state) result (R.remaining reader.old)
+        (R.remaining reader.new)
         (W.contents writer.old) (W.contents writer.new) (seen fs.old) (seen fs.new) }
 {
     let mut glances = Glances::<D, W>::new();
@@ -155,7 +159,7 @@ pub fn run_strict<R: Read, W: Write, D: SectorDevice>(
     writer: &mut W,
     fs: &mut Fs<D>,
 ) -> StrictEnd
-    ensures { EndsBy D.SectorDevice.state true result (R.remaining reader.old)
+    ensures { EndsBy (in_sectors D.SectorDevice.state) true result (R.remaining reader.old)
         (R.remaining reader.new) (W.contents writer.old) (W.contents writer.new) (seen fs.old)
         (seen fs.new) }
 {
@@ -173,7 +177,7 @@ pub fn run_noted<R: Read, W: Write, D: SectorDevice, S: Witness<D, W>>(
     witness: &mut S,
     fs: &mut Fs<D>,
 ) -> StrictEnd
-    ensures { EndsNoted D.SectorDevice.state strict result (R.remaining reader.old)
+    ensures { EndsNoted (in_sectors D.SectorDevice.state) strict result (R.remaining reader.old)
         (R.remaining reader.new) (W.contents writer.old) (W.contents writer.new) (seen fs.old)
         (seen fs.new) (S.glances witness.old) (S.glances witness.new) }
 {

@@ -1,6 +1,6 @@
 // Whole uses of a volume.
 ghost use Rattle.std.specs.Prelude.{IfOk, IfErr, OnOk, OnErr};
-ghost use Rattle.lfs_model.specs.Device.{Carries, IsUntouched, Only};
+ghost use Rattle.lfs_model.specs.Device.{Carries, IsUntouched, Only, in_sectors};
 ghost use Rattle.lfs_device.specs.MemoryDevice.{device_state};
 ghost use Rattle.lfs_script.specs.Series.{FromAny, StopsAtMount, UsesInTurn, texts_of};
 ghost use Rattle.lfs_script.specs.Session.{Session};
@@ -21,12 +21,14 @@ pub fn use_volume<R: Read, W: Write, D: SectorDevice>(
     device: D,
 ) -> (Result<ScriptEnd, MountFault>, D)
     ensures ran { IfOk result.0 (λ end. Session end (R.remaining reader.old)
-        (R.remaining reader.new) (W.contents writer.old) (W.contents writer.new) (D.state device)
-        (D.state result.1)) }
+        (R.remaining reader.new) (W.contents writer.old) (W.contents writer.new)
+        (in_sectors D.state device)
+        (in_sectors D.state result.1)) }
     ensures refused { IfErr result.0 (IsUnused reader.old reader.new writer.old writer.new
-        (D.state device) (D.state result.1)) }
-    ensures untouched { OnErr result.0 (IsUntouched (D.state device) (D.state result.1)) }
-    ensures carries { Carries (D.state device) (D.state result.1) }
+        (in_sectors D.state device) (in_sectors D.state result.1)) }
+    ensures untouched { OnErr result.0 (IsUntouched (in_sectors D.state device) (in_sectors D.state
+        result.1)) }
+    ensures carries { Carries (in_sectors D.state device) (in_sectors D.state result.1) }
 {
     match Fs::mount(alloc, device) {
         Ok(fs) => {
@@ -49,11 +51,11 @@ pub fn use_and_stop<R: Read, W: Write>(
 ) -> (Result<ScriptEnd, MountFault>, MemDevice)
     ensures ran { IfOk result.0 (λ end. Session end (R.remaining reader.old)
         (R.remaining reader.new) (W.contents writer.old) (W.contents writer.new)
-        (device_state device) (device_state result.1)) }
+        (in_sectors device_state device) (in_sectors device_state result.1)) }
     ensures refused { IfErr result.0 (IsUnused reader.old reader.new writer.old writer.new
-        (device_state device) (device_state result.1)) }
+        (in_sectors device_state device) (in_sectors device_state result.1)) }
     ensures alone { Only (device_state result.1).content (device_state result.1) }
-    ensures carries { Carries (device_state device) (device_state result.1) }
+    ensures carries { Carries (in_sectors device_state device) (in_sectors device_state result.1) }
 {
     let (end, used) = use_volume(alloc, reader, writer, device);
     let mut stopped = used;
@@ -76,10 +78,13 @@ pub fn use_each<W: Write>(
     writer: &mut W,
     device: MemDevice,
 ) -> (Result<(), MountFault>, MemDevice)
-    ensures ran { OnOk result.0 (FromAny device_state (W.contents writer.old) device (λ before.
-        UsesInTurn device_state (texts_of scripts.now) before (W.contents writer.new) result.1)) }
-    ensures stopped { IfErr result.0 (λ fault. FromAny device_state (W.contents writer.old) device
-        (λ before. StopsAtMount device_state (texts_of scripts.now) fault before
+    ensures ran { OnOk result.0 (FromAny (in_sectors device_state) (W.contents writer.old) device
+        (λ before.
+        UsesInTurn (in_sectors device_state) (texts_of scripts.now) before (W.contents writer.new)
+        result.1)) }
+    ensures stopped { IfErr result.0 (λ fault. FromAny (in_sectors device_state) (W.contents
+        writer.old) device
+        (λ before. StopsAtMount (in_sectors device_state) (texts_of scripts.now) fault before
         (W.contents writer.new) result.1)) }
 {
     let mut current = device;

@@ -6,7 +6,7 @@ use Rattle.lfs_model.specs.Entry.{Entry, entry_of}
 use Rattle.lfs_model.specs.Summary.{BlockNameValue, IsPlaced, no_block}
 use Rattle.lfs_model.specs.declared.limits.TheConstants.{CHECKPOINT_SLOTS, CHUNK_BLOCKS, SEGMENT_SECTORS}
 use Rattle.lfs_model.specs.Counting.{segment_of}
-use Rattle.lfs_model.specs.Device.{DeviceState, Carries, Elapses}
+use Rattle.lfs_model.specs.Device.{DeviceState, Carries, Elapses, BearsAll}
 use Rattle.lfs_segments.specs.Table.{UsageTable, used_of, live_of, held_of, kept_of}
 
 pub record Chunk : Type 0 where
@@ -32,6 +32,8 @@ pub record StaysInPlace (old new : Chunk) : Type 0 where
 -- A write is asked of the device, and nothing else; the result says whether it failed.
 pub record AsksOneWrite {A E : Type 0} (d d' : DeviceState) (result : Result A E) : Type 0 where
   pub failed : OnErr result (d.failures < d'.failures)
+  pub failed_order : OnErr result (d.failed_orders < d'.failed_orders)
+  pub borne : OnErr result (BearsAll d)
   pub no_failure : OnOk result (d'.failures ≡ d.failures)
   pub carries : Carries d d'
   pub time : Elapses d d'

@@ -10,7 +10,7 @@ ghost use Rattle.lfs_segments.specs.Chunk.{IsOpenChunk, AsksOneWrite, IsUnkeptBy
 
 use crate::usage::Usage;
 use arrayvec::ArrayVec;
-use lfs_device::{DeviceFault, SectorDevice};
+use lfs_device::{DeviceFault, SectorUnits};
 use lfs_layout::{BlockName, encode_summary};
 use lfs_model::limits::{CHECKPOINT_SLOTS, CHUNK_BLOCKS, MOST_SEGMENTS, SEGMENT_SECTORS};
 use std::marker::Model;
@@ -148,11 +148,7 @@ impl ChunkWriter {
     /// # Errors
     ///
     /// The device's fault: the chunk is as it was.
-    pub fn seal<D: SectorDevice>(
-        &mut self,
-        device: &mut D,
-        usage: &Usage,
-    ) -> Result<(), DeviceFault>
+    pub fn seal<D: SectorUnits>(&mut self, device: &mut D, usage: &Usage) -> Result<(), DeviceFault>
         requires opened { IsOpenChunk self.old usage.now }
         requires some { 0 < length self.old.names }
         requires inside { summary_at self.old < (D.state device.old).size }
@@ -199,13 +195,14 @@ fn last_with_room(usage: &Usage) -> Option<u32>
 }
 
 /// Writes a block or a summary to a sector that wasn't in use as the acknowledged checkpoint was
-/// written, and to no other. `again` tells whether it is likely to be read soon, and is worth
-/// keeping in front of the device.
+/// written, and to no other. The device's units are sectors, so that a stop within the write spoils
+/// no other sector. `again` tells whether it is likely to be read soon, and is worth keeping in
+/// front of the device.
 ///
 /// # Errors
 ///
 /// The device's fault.
-pub fn write<D: SectorDevice>(
+pub fn write<D: SectorUnits>(
     device: &mut D,
     usage: &Usage,
     address: u32,

@@ -13,7 +13,7 @@ use lfs_cache::CachedDevice;
 use lfs_cleaner::volume_log::verify::Tables;
 use lfs_cleaner::volume_log::{Log, LogFault, MountFault};
 use lfs_cleaner::{clean_once, has_quarter, make_clean};
-use lfs_device::SectorDevice;
+use lfs_device::SectorUnits;
 use lfs_files::StoreFault;
 use lfs_model::limits::MOST_UNSAVED;
 use std::alloc::Global;
@@ -24,7 +24,7 @@ const MOST_HEADERS: usize = 4;
 /// The most blocks that one call changes: those of a full directory that gets the second form.
 const MOST_BLOCKS: usize = 256;
 
-impl<D: SectorDevice> Store<D> {
+impl<D: SectorUnits> Store<D> {
     ghost use Rattle.lfs_cleaner.specs.log.LogState.{AreAllSaved, Halts, IsFull, Mounts, WritesEarly};
     ghost use Rattle.lfs_cleaner.specs.log.Saving.{commit_orders, orders_for};
     ghost use Rattle.lfs_cleaner.specs.log.Thresholds.{LacksReserve};

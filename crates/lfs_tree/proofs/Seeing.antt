@@ -7,7 +7,7 @@ use Rattle.std.proofs.Common.{set}
 use Rattle.std.specs.Option.{option_map}
 use Rattle.lfs_model.specs.Checkpoint.{CheckpointValue}
 use Rattle.lfs_model.specs.Content.{Content, block, bytes_of}
-use Rattle.lfs_model.specs.Device.{DeviceState, IsLawful, IsUntouched, Carries, Elapses, cell_at}
+use Rattle.lfs_model.specs.Device.{DeviceState, IsLawful, cell_at}
 use Rattle.lfs_model.specs.Entry.{Entry, Data, Leaf, Double, Inode, word}
 use Rattle.lfs_model.specs.Reach.{address, view}
 use Rattle.lfs_model.specs.Stands.{HoldsAt, LogMap}
@@ -18,6 +18,7 @@ use Rattle.lfs_model.proofs.ObjectBytes.{get_or-zeros}
 use Rattle.lfs_files.specs.declared.header.Header.{Header}
 use Rattle.lfs_files.specs.Files.{HoldsBlock}
 use Rattle.lfs_files.specs.Headers.{as_header}
+use Rattle.lfs_files.specs.Looking as files
 use Rattle.lfs_inodes.specs.MapValue.{MapValue}
 use Rattle.lfs_inodes.specs.Pointed.{data_in, leaf_in, IsLost, IsLeafLost, IsDataLost}
 use Rattle.lfs_verify.specs.Take.{Looks, ReadsContent}
@@ -26,11 +27,12 @@ use Rattle.lfs_tree.specs.Reading.{Sees, Leads, IsInodeOf, TellsHeaders}
 
 -- ---- calls that only read
 
-pub looks_call : {a b : DeviceState} → IsLawful a → Carries a b → IsUntouched a b → Elapses a b → Looks a b
-looks_call {a} {b} lawful carries untouched time = record {
-  carries = carries;
-  untouched = untouched;
-  any_moment = goes_on a.may_leave (started a.may_leave lawful (λ c left. left)) carries time untouched.crash;
+pub looks_call : {a b : DeviceState} → IsLawful a → files.Looks a b → Looks a b
+looks_call {a} {b} lawful looks = record {
+  carries = looks.carries;
+  untouched = looks.untouched;
+  any_moment = goes_on a.may_leave (started a.may_leave lawful (λ c left. left)) looks.carries looks.time looks.untouched.crash;
+  told = looks.told;
 }
 
 pub reads_of : {a b : DeviceState} {k : CheckpointValue} {m : LogMap} → Sees a b k m → ReadsContent a b a.content

@@ -11,7 +11,7 @@ use Rattle.lfs_verify.specs.declared.fault.MountFault.{MountFault}
 use Rattle.lfs_verify.specs.declared.fault.MountFault.TheVariants as fault
 use Rattle.lfs_verify.specs.declared.verify.FoundLog.{FoundLog}
 use Rattle.lfs_verify.specs.Loading.{HoldsTables}
-use Rattle.lfs_verify.specs.Take.{Looks}
+use Rattle.lfs_verify.specs.Take.{Looks, SyncsOnce}
 use Rattle.lfs_verify.specs.Verified.{IsDamagedIn, IsFound, IsRefusedWalk}
 use Rattle.lfs_verify.proofs.VerifySteps.{open_fault}
 use Rattle.lfs_tree.specs.Checking.{HasTree, IsRefusedTree, IsRefusedVolume, IsTreeFault}
@@ -26,7 +26,7 @@ refused_log old new fault.NoCheckpoint is = is
 refused_log old new (fault.Damaged code) is = λ keeps. (is keeps).1
 
 -- ---- the tree behind the log
-module _ {a b d : DeviceState} (one : Looks a b) (two : Looks b d) {found : FoundLog}
+module _ {a b d : DeviceState} (one : SyncsOnce a b) (two : Looks b d) {found : FoundLog}
     (holds : b.keeps_model → IsFound a.content found) where
   found_then : d.keeps_model → IsFound b.content found
   found_then keeps = rw one.untouched.content (holds (two.carries.kept_before keeps))

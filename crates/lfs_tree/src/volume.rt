@@ -4,7 +4,7 @@ ghost use Rattle.std.specs.Prelude.{◌≡◌, Err, OnOk, IfOk, IfErr};
 ghost use Rattle.lfs_model.specs.Device.{Only};
 ghost use Rattle.lfs_verify.specs.Faults.{IsBelowAll};
 ghost use Rattle.lfs_verify.specs.Loading.{IsLoaded};
-ghost use Rattle.lfs_verify.specs.Take.{Looks};
+ghost use Rattle.lfs_verify.specs.Take.{SyncsOnce};
 ghost use Rattle.lfs_tree.specs.Checking.{HasTree, IsRefusedVolume, IsTreeFault};
 
 use crate::check::check_tree;
@@ -39,7 +39,7 @@ pub fn verify_tree<D: SectorDevice>(
         → (result ≡ Err MountFault.TooSmall) × (device.new ≡ device.old) }
     ensures no_failure { OnOk result
         ((D.state device.new).failures ≡ (D.state device.old).failures) }
-    ensures looks { Looks (D.state device.old) (D.state device.new) }
+    ensures looks { SyncsOnce (D.state device.old) (D.state device.new) }
 {
     let found = verify_log(alloc, device)?;
     check_tree(alloc, device, &found.tables)?;

@@ -3,20 +3,26 @@ use anyhow::{Context, Result};
 use lfs_device::{DeviceCall, Left, MemDevice, SectorDevice};
 use lfs_script::fs::format_version;
 use std::alloc::{AllocError, Global};
+use std::num::NonZeroU32;
 
 /// More calls than a run makes of a kind.
 const MANY_CALLS: u64 = 1_000_000;
 
-/// A device of so many sectors, without a volume.
-pub fn device_of(alloc: Global, sectors: u32) -> Result<MemDevice> {
-    let device = MemDevice::new(alloc, sectors).ok();
+/// A device of so many sectors, without a volume. Its units are counted from sector 0.
+pub fn device_of(alloc: Global, sectors: u32, unit: NonZeroU32) -> Result<MemDevice> {
+    let device = MemDevice::with_unit(alloc, sectors, unit, 0).ok();
     device.context("no memory for a device")
 }
 
 /// A device with an empty volume.
-pub fn new_device(alloc: Global, segments: u16, version: u32) -> Result<MemDevice> {
+pub fn new_device(
+    alloc: Global,
+    segments: u16,
+    version: u32,
+    unit: NonZeroU32,
+) -> Result<MemDevice> {
     let segments = u32::from(segments);
-    let mut device = device_of(alloc, 2 + 64 * segments)?;
+    let mut device = device_of(alloc, 2 + 64 * segments, unit)?;
     format_version(&mut device, segments, version)
         .ok()
         .context(format_args!("no volume of {segments} segments"))?;

@@ -6,12 +6,14 @@
 //!
 //! - `! device N` makes a device of N sectors, without a volume.
 //! - `! new N V` makes a device with an empty volume of N segments, of version V.
+//! - `! device N U` and `! new N V U` do so with units of U sectors each, counted from sector 0.
+//!   Where U isn't given, each sector is a unit.
 //! - `! fail read N`, `write` or `sync`: the N-th such call from now on, counted from 0, fails once.
 //! - `! stop N`: the N-th write from now on fails, and each later call too, until the device stops.
 //! - `! use` mounts the device, runs the script, and takes the device back. It says the replies, and
 //!   then how that ended, or why the device wasn't mounted.
 //! - `! crash KIND ..` stops the device: the sectors that aren't synced are in turn as these say,
-//!   which are `old`, `new` or `bad`.
+//!   which are `old`, `new` or `bad`. A sector that is `bad` spoils its whole unit.
 //! - `! rest read`, `write` or `sync` makes such calls until one fails, and says how many didn't.
 //! - `! writes` says how many writes were begun since `stop`.
 //! - `! cases` checks the cases of the folder that the program runs in. The exit status is 1 where

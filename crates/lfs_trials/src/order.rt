@@ -2,13 +2,24 @@
 use anyhow::{Context, Result, bail};
 use lfs_device::{DeviceCall, Left};
 use std::alloc::Global;
+use std::num::NonZeroU32;
 
-/// What is to be done.
+/// What is to be done. A unit is of so many sectors.
 #[derive(Drop)]
 pub enum Order {
-    Device(u32),
-    New { segments: u16, version: u32 },
-    Fail { call: DeviceCall, nth: u64 },
+    Device {
+        sectors: u32,
+        unit: NonZeroU32,
+    },
+    New {
+        segments: u16,
+        version: u32,
+        unit: NonZeroU32,
+    },
+    Fail {
+        call: DeviceCall,
+        nth: u64,
+    },
     Stop(u64),
     Use,
     Crash(Vec<Left>),
@@ -43,11 +54,29 @@ fn lefts_of(alloc: Global, words: &str) -> Result<Vec<Left>> {
     Ok(lefts)
 }
 
+/// The unit that a word names: one sector, where there is no word.
+fn unit_of(word: &str) -> Result<NonZeroU32> {
+    match word {
+        "" => Ok(NonZeroU32::MIN),
+        word => word.parse::<NonZeroU32>().context("the sectors of a unit"),
+    }
+}
+
+fn new_device(words: &str) -> Result<Order> {
+    let (sectors, unit) = words.split_once(' ').unwrap_or((words, ""));
+    Ok(Order::Device {
+        sectors: sectors.parse::<u32>().context("sectors")?,
+        unit: unit_of(unit)?,
+    })
+}
+
 fn new_volume(words: &str) -> Result<Order> {
-    let (segments, version) = words.split_once(' ').context("segments and a version")?;
+    let (segments, words) = words.split_once(' ').context("segments and a version")?;
+    let (version, unit) = words.split_once(' ').unwrap_or((words, ""));
     Ok(Order::New {
         segments: segments.parse::<u16>().context("segments")?,
         version: version.parse::<u32>().context("a version")?,
+        unit: unit_of(unit)?,
     })
 }
 
@@ -63,7 +92,7 @@ fn fault(words: &str) -> Result<Order> {
 pub fn read_order(alloc: Global, line: &str) -> Result<Order> {
     let (word, words) = line.split_once(' ').unwrap_or((line, ""));
     match word {
-        "device" => Ok(Order::Device(words.parse::<u32>().context("sectors")?)),
+        "device" => new_device(words),
         "new" => new_volume(words),
         "fail" => fault(words),
         "stop" => Ok(Order::Stop(words.parse::<u64>().context("the number of a write")?)),

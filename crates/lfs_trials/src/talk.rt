@@ -64,10 +64,14 @@ impl Talk {
     /// Does what an order says.
     pub fn carry_out(&mut self, alloc: Global, order: Order) -> Result<()> {
         match order {
-            Order::Device(sectors) => self.device = Some(device_of(alloc, sectors)?),
-            Order::New { segments, version } => {
-                self.device = Some(new_device(alloc, segments, version)?);
+            Order::Device { sectors, unit } => {
+                self.device = Some(device_of(alloc, sectors, unit)?);
             }
+            Order::New {
+                segments,
+                version,
+                unit,
+            } => self.device = Some(new_device(alloc, segments, version, unit)?),
             Order::Fail { call, nth } => self.device()?.fail(call, nth),
             Order::Stop(write) => self.device()?.stop_at(write),
             Order::Use => self.use_device(alloc)?,

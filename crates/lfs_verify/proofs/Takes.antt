@@ -5,10 +5,11 @@ use Rattle.lfs_model.specs.Entry.{Entry, IsInode, word}
 use Rattle.lfs_model.specs.Inode.{inode_in, inode_of, inode_sector, may_be_inode}
 use Rattle.lfs_model.specs.Content.{Content, block, bytes_of}
 use Rattle.lfs_model.specs.Device.{Cell, DeviceState, IsLawful, cell_at}
+use Rattle.lfs_model.specs.declared.Order.{Order}
 use Rattle.lfs_model.specs.Reach.{View}
 use Rattle.lfs_model.specs.Stands.{Reached, Fresh, stage_of}
 use Rattle.lfs_verify.specs.Walk.{step_of, InBounds, IsGood, Walked, IsUnmarked}
-use Rattle.lfs_verify.specs.Take.{Looks, TakesAddress, TakesBlock, ReadsContent, SomeWord, Advances}
+use Rattle.lfs_verify.specs.Take.{Looks, SyncsOnce, TakesAddress, TakesBlock, ReadsContent, SomeWord, Advances}
 use Rattle.lfs_model.proofs.Decoding.{value_found}
 use Rattle.lfs_model.proofs.Moments.{carries_none, carries_then, started, joined}
 use Rattle.lfs_verify.proofs.Words.{word_none}
@@ -75,6 +76,7 @@ looks_none {d} lawful = record {
   carries = carries_none;
   untouched = record { content = refl; crash = λ c left. left };
   any_moment = started d.may_leave lawful (λ c left. left);
+  told = refl;
 }
 
 pub looks_then : {a b c : DeviceState} → Looks a b → Looks b c → Looks a c
@@ -85,6 +87,28 @@ looks_then {a} {b} {c} one two = record {
     crash = λ x left. one.untouched.crash x (two.untouched.crash x left);
   };
   any_moment = joined a.may_leave b.may_leave a.may_leave one.any_moment two.any_moment (λ x left. left) one.untouched.crash;
+  told = two.told ∙ one.told;
+}
+
+-- a run that only reads syncs once at most
+pub once : {a b : DeviceState} → Looks a b → SyncsOnce a b
+once looks = record {
+  carries = looks.carries;
+  untouched = looks.untouched;
+  any_moment = looks.any_moment;
+  told = let same = ap (λ (l : List Order). length l) looks.told in omega (arith, same);
+}
+
+-- and so does one that only reads once it has synced
+pub once_then : {a b c : DeviceState} → SyncsOnce a b → Looks b c → SyncsOnce a c
+once_then {a} {b} one two = record {
+  carries = carries_then one.carries two.carries;
+  untouched = record {
+    content = two.untouched.content ∙ one.untouched.content;
+    crash = λ x left. one.untouched.crash x (two.untouched.crash x left);
+  };
+  any_moment = joined a.may_leave b.may_leave a.may_leave one.any_moment two.any_moment (λ x left. left) one.untouched.crash;
+  told = let same = ap (λ (l : List Order). length l) two.told in omega (arith, same, one.told);
 }
 
 -- each of three runs reads the content that they read together

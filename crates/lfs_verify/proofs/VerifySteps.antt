@@ -11,7 +11,7 @@ use Rattle.lfs_model.specs.Stands.{LogMap, HoldsAt, StandsLog, EnoughClean, Stag
 use Rattle.lfs_model.specs.Volume.{IsTooSmall, IsWithoutCheckpoint}
 use Rattle.lfs_model.proofs.Newest.{newest_fits}
 use Rattle.lfs_verify.specs.Codes.{HoldsBelow}
-use Rattle.lfs_verify.specs.Take.{Looks, ReadsContent}
+use Rattle.lfs_verify.specs.Take.{Looks, ReadsContent, SyncsOnce}
 use Rattle.lfs_verify.specs.declared.fault.MountFault.{MountFault}
 use Rattle.lfs_verify.specs.declared.fault.MountFault.TheVariants as fault
 use Rattle.lfs_verify.specs.declared.tables.Tables.{Tables}
@@ -23,6 +23,7 @@ use Rattle.lfs_verify.specs.Totals.{CountsLog}
 use Rattle.lfs_verify.specs.Verified.{HoldsCounted, IsVerified, IsDamagedIn, IsFound, IsLogDamage, IsRefusedLog, IsRefusedWalk}
 use Rattle.lfs_verify.specs.Verified.{IsWalkDamage, LacksLogMap, StandsWhereEnough, lacks_clean, stage_fails}
 use Rattle.lfs_verify.proofs.CodeSteps.{below_1, below_next}
+use Rattle.lfs_verify.proofs.Takes.{once}
 
 some_is : {a b : CheckpointValue} → Some a ≡ Some b → a ≡ b
 some_is e = cc
@@ -103,7 +104,7 @@ stands_for_none c few m is =
     absurd (cc)
 
 -- ---- refusals
-refused_behind : {a b : DeviceState} (c : DeviceState) → Looks a b → (f : MountFault) → IsRefusedWalk b c f → IsRefusedWalk a c f
+refused_behind : {a b : DeviceState} (c : DeviceState) → SyncsOnce a b → (f : MountFault) → IsRefusedWalk b c f → IsRefusedWalk a c f
 refused_behind c looks fault.NoMemory is = tt
 refused_behind c looks fault.Device is = omega (arith, is, looks.carries.failures)
 refused_behind c looks fault.TooSmall is = λ keeps. subst IsTooSmall looks.untouched.content (is keeps)
@@ -145,7 +146,7 @@ open_fault new lawful fault.NoCheckpoint is other =
 open_fault {old} new lawful (fault.Damaged code) is other = λ m keeps stands. undamaged old lawful m stands (is keeps)
 
 -- ---- the checkpoint, the walk and the tables, one after the other
-module _ {a b c d : DeviceState} (one : Looks a b) (two : Looks b c) (three : Looks c d) {k : CheckpointValue}
+module _ {a b c d : DeviceState} (one : SyncsOnce a b) (two : Looks b c) (three : Looks c d) {k : CheckpointValue}
     (newest_at : b.keeps_model → newest a.content ≡ Some k) where
   newest_later : c.keeps_model → newest b.content ≡ Some k
   newest_later keeps = ap newest one.untouched.content ∙ newest_at (two.carries.kept_before keeps)
@@ -163,7 +164,7 @@ module _ {a b c d : DeviceState} (one : Looks a b) (two : Looks b c) (three : Lo
 
     pub load_refused : {f : MountFault} → ((f ≡ fault.NoMemory → ⊥) → IsTableFault c d k f) → IsRefusedWalk a d f
     load_refused {f} told =
-        refused_behind d one f (refused_behind d two f (table_refused c d holds_then f told))
+        refused_behind d one f (refused_behind d (once two) f (table_refused c d holds_then f told))
 
     tables_held : FitsCheckpoint k → (t : Tables) → (d.keeps_model → SaysTables c.content k t)
         → (t.data_blocks ≡ totals.data_blocks) × (t.meta_blocks ≡ totals.meta_blocks)

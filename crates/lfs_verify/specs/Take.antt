@@ -1,6 +1,6 @@
 -- What is said of a device that is only read, and of one address of the walk.
 -- All of it is an own choice.
-use Rattle.std.specs.Prelude.{◌≡◌, ◌<◌, ◌⊎◌, ℕ, suc, Bool, true, false, List, [], get_or, set}
+use Rattle.std.specs.Prelude.{◌≡◌, ◌<◌, ◌≤◌, ◌+◌, ◌⊎◌, ℕ, suc, Bool, true, false, List, [], length, get_or, set}
 use Rattle.lfs_model.specs.declared.limits.TheConstants.{BLOCK_POINTERS, FILE_NUMBERS}
 use Rattle.lfs_model.specs.Content.{Content, block}
 use Rattle.lfs_model.specs.Device.{DeviceState, Carries, IsUntouched, LeavesOnly}
@@ -8,11 +8,19 @@ use Rattle.lfs_model.specs.Entry.{Inode, word}
 use Rattle.lfs_model.specs.Reach.{View}
 use Rattle.lfs_verify.specs.Walk.{IsUnmarked, Walked}
 
--- A call that only reads leaves the content as it is, and at no moment does a stop leave what it couldn't leave before.
+-- A call that only reads leaves the content as it is, and at no moment does a stop leave what it couldn't leave before. No order is told.
 pub record Looks (old new : DeviceState) : Type 0 where
   pub carries : Carries old new
   pub untouched : IsUntouched old new
   pub any_moment : LeavesOnly old new old.may_leave
+  pub told : new.told ≡ old.told
+
+-- A call that syncs once at most, and only reads else.
+pub record SyncsOnce (old new : DeviceState) : Type 0 where
+  pub carries : Carries old new
+  pub untouched : IsUntouched old new
+  pub any_moment : LeavesOnly old new old.may_leave
+  pub told : length new.told ≤ length old.told + 1
 
 -- this content was read, by a device that keeps the device model
 pub record ReadsContent (old new : DeviceState) (c : Content) : Type 0 where

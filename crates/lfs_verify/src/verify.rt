@@ -6,7 +6,7 @@ ghost use Rattle.lfs_model.specs.Device.{Only};
 ghost use Rattle.lfs_verify.specs.Faults.{IsBelowAll, IsOpenFault};
 ghost use Rattle.lfs_verify.specs.Keeping.{OnlyLooks};
 ghost use Rattle.lfs_verify.specs.Loading.{HasTables, IsLoaded};
-ghost use Rattle.lfs_verify.specs.Take.{Looks};
+ghost use Rattle.lfs_verify.specs.Take.{SyncsOnce};
 ghost use Rattle.lfs_verify.specs.Verified.{HoldsCounted, IsFound, IsRefusedLog, IsRefusedWalk, LacksLogMap, StandsWhereEnough};
 
 use crate::fault::{MountFault, WalkFault};
@@ -44,7 +44,9 @@ fn find_checkpoint<D: SectorDevice>(device: &mut CachedDevice<D>) -> Result<Chec
     ensures reason { IfErr result (IsRefusedWalk (D.state device.old) (D.state device.new)) }
     ensures below_all { IsBelowAll (D.state device.old)
         → (result ≡ Err MountFault.TooSmall) × (device.new ≡ device.old) }
-    ensures keeps { OnlyLooks (D.state device.old) (D.state device.new) result }
+    ensures no_failure { OnOk result
+        ((D.state device.new).failures ≡ (D.state device.old).failures) }
+    ensures looks { SyncsOnce (D.state device.old) (D.state device.new) }
 {
     if device.sectors() < LEAST_SECTORS {
         return Err(MountFault::TooSmall);
@@ -108,7 +110,7 @@ pub fn verify_log<D: SectorDevice>(
         → (result ≡ Err MountFault.TooSmall) × (device.new ≡ device.old) }
     ensures no_failure { OnOk result ((D.state device.new).failures
         ≡ (D.state device.old).failures) }
-    ensures looks { Looks (D.state device.old) (D.state device.new) }
+    ensures looks { SyncsOnce (D.state device.old) (D.state device.new) }
 {
     let checkpoint = find_checkpoint(device)?;
     let walked = check(alloc, device, &checkpoint)?;
@@ -142,7 +144,7 @@ pub fn verify<D: SectorDevice>(
         → (result ≡ Err MountFault.TooSmall) × (device.new ≡ device.old) }
     ensures no_failure { OnOk result
         ((D.state device.new).failures ≡ (D.state device.old).failures) }
-    ensures looks { Looks (D.state device.old) (D.state device.new) }
+    ensures looks { SyncsOnce (D.state device.old) (D.state device.new) }
 {
     let found = verify_log(alloc, device)?;
     if !found.enough_clean {

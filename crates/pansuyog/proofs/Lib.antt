@@ -2,3 +2,4 @@ pub mod Given
 pub mod Runs
 pub mod Tells
 pub mod Tried
+mod Available

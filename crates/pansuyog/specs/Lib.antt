@@ -1,3 +1,4 @@
+pub mod Available
 pub mod Lending
 pub mod Making
 pub mod Orders

@@ -1,7 +1,7 @@
 -- What a mount and the making of a volume are of.
 use Rattle.std.specs.Prelude.{◌≡◌, ◌≢◌, ◌<◌, ◌≤◌, ◌+◌, ◌*◌, ℕ, ℤ, pos, [], ◌∷◌, Option, Some, None, Result, Ok, Err}
 use Rattle.lfs_model.specs.Checkpoint.{IsSegmentCount, IsVersion}
-use Rattle.lfs_model.specs.Device.{Carries, IsUntouched, LeavesOnly, Only}
+use Rattle.lfs_model.specs.Device.{Carries, IsUntouched, LeavesOnly, Only, in_sectors}
 use Rattle.lfs_model.specs.Image.{IsNew, new_form}
 use Rattle.lfs_model.specs.Tree.{Dir}
 use Rattle.lfs_model.specs.TreeOf.{Stands}
@@ -43,20 +43,21 @@ pub data IsNotTaken (old new : Volume) (code : ℤ) : Type 0 where
 
 -- The device's volume is mounted, over the device that is in it then.
 pub record Mounts (device : QueueDevice) (fs : Fs QueueDevice) : Type 0 where
-  pub mounts : MountsFs queue_state device fs
-  pub only : FindsState queue_state device fs
-  pub durable : Only (queue_state device).content (queue_state (seen fs).log.device)
-  pub no_failure : (queue_state (seen fs).log.device).failures ≡ (queue_state device).failures
-  pub untouched : IsUntouched (queue_state device) (queue_state (seen fs).log.device)
-  pub carries : Carries (queue_state device) (queue_state (seen fs).log.device)
-  pub any_moment : LeavesOnly (queue_state device) (queue_state (seen fs).log.device) (queue_state device).may_leave
+  pub mounts : MountsFs (in_sectors queue_state) device fs
+  pub only : FindsState (in_sectors queue_state) device fs
+  pub durable : Only (in_sectors queue_state device).content (in_sectors queue_state (seen fs).log.device)
+  pub no_failure : (in_sectors queue_state (seen fs).log.device).failures ≡ (in_sectors queue_state device).failures
+  pub untouched : IsUntouched (in_sectors queue_state device) (in_sectors queue_state (seen fs).log.device)
+  pub carries : Carries (in_sectors queue_state device) (in_sectors queue_state (seen fs).log.device)
+  pub any_moment : LeavesOnly (in_sectors queue_state device) (in_sectors queue_state (seen fs).log.device)
+      (in_sectors queue_state device).may_leave
 
 -- It isn't, for this fault.
 pub record IsNotMounted (old new : QueueDevice) (fault : MountFault) : Type 0 where
-  pub reason : IsRefused (queue_state old) (queue_state new) fault
-  pub untouched : IsUntouched (queue_state old) (queue_state new)
-  pub carries : Carries (queue_state old) (queue_state new)
-  pub any_moment : LeavesOnly (queue_state old) (queue_state new) (queue_state old).may_leave
+  pub reason : IsRefused (in_sectors queue_state old) (in_sectors queue_state new) fault
+  pub untouched : IsUntouched (in_sectors queue_state old) (in_sectors queue_state new)
+  pub carries : Carries (in_sectors queue_state old) (in_sectors queue_state new)
+  pub any_moment : LeavesOnly (in_sectors queue_state old) (in_sectors queue_state new) (in_sectors queue_state old).may_leave
 
 abbrev pub MountsOn : QueueDevice → Option (Fs QueueDevice) → Source → ℤ → Type 0
 MountsOn device (Some fs) Nothing code = (code ≡ pos 0) × Mounts device fs

@@ -8,6 +8,7 @@ use Rattle.lfs_fs.specs.Seen.{seen}
 use Rattle.lfs_fs.specs.Volume.{IsStill}
 use Rattle.lfs_fs.specs.declared.fs.Fs.{Fs}
 use Rattle.lfs_queue.specs.Numbered.{HasNumber, IsNoneWaiting}
+use Rattle.lfs_model.specs.Device.{in_sectors}
 use Rattle.lfs_queue.specs.Queue.{IsEmptied, carried_of, queue_state, told_of}
 use Rattle.lfs_queue.specs.declared.queue.QueueDevice.{QueueDevice}
 use Rattle.pansuyog_calls.specs.Codes.{code_of_count, inval, no_order, not_mounted}
@@ -72,7 +73,8 @@ pub data TellsRun (told carried : List Order) (number : ℕ) (code : ℤ) (first
 -- All orders that waited were carried out: the volume sees nothing of it.
 abbrev pub CarriesOut : Option (Fs QueueDevice) → Option (Fs QueueDevice) → Source → Source → ℤ → Type 0
 CarriesOut (Some old) (Some new) from to code =
-    (code ≡ pos 0) × (to ≡ from) × IsEmptied (seen old).log.device (seen new).log.device × IsStill queue_state (seen old) (seen new)
+    (code ≡ pos 0) × (to ≡ from) × IsEmptied (seen old).log.device (seen new).log.device × IsStill (in_sectors queue_state) (seen old)
+    (seen new)
 CarriesOut None None (Device old) (Device new) code = (code ≡ pos 0) × IsEmptied old new
 CarriesOut None None Nothing to code = (code ≡ not_mounted) × (to ≡ Nothing)
 CarriesOut None None (Image image) to code = (code ≡ not_mounted) × (to ≡ Image image)

@@ -8,6 +8,7 @@ mod listing;
 mod making;
 mod names;
 mod orders;
+pub mod rooms;
 mod saving;
 mod source;
 mod status;

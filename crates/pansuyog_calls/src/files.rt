@@ -1,5 +1,6 @@
 //! Calls on open files (POSIX.1-2017: open, close, pread, pwrite, ftruncate).
 ghost use Rattle.std.specs.Prelude.{◌-◌, ◌^◌, length, min};
+ghost use Rattle.lfs_model.specs.Device.{in_sectors};
 ghost use Rattle.lfs_model.specs.Call.{Open, Create, Close, Pread, Pwrite, Truncate};
 ghost use Rattle.pansuyog_calls.specs.Serving.{Answers, ServesBytes, ServesCall, ServesChange, TellsBytes};
 
@@ -11,7 +12,7 @@ use lfs_fs::Fs;
 
 /// Opens the file of a path: a handle on it.
 pub fn open<D: SectorDevice>(fs: &mut Option<Fs<D>>, path: &[u8]) -> i32
-    ensures serves { ServesCall D.state fs.old fs.new (Open path.now) result }
+    ensures serves { ServesCall (in_sectors D.state) fs.old fs.new (Open path.now) result }
 {
     match fs {
         Some(fs) => counted(fs.open(path)),
@@ -21,7 +22,7 @@ pub fn open<D: SectorDevice>(fs: &mut Option<Fs<D>>, path: &[u8]) -> i32
 
 /// Makes an empty file: a handle on it.
 pub fn create<D: SectorDevice>(fs: &mut Option<Fs<D>>, access: Access, path: &[u8]) -> i32
-    ensures serves { ServesChange D.state access fs.old fs.new (Create path.now) result }
+    ensures serves { ServesChange (in_sectors D.state) access fs.old fs.new (Create path.now) result }
 {
     match (fs, access) {
         (Some(fs), Access::ReadWrite) => counted(fs.create(path)),
@@ -32,7 +33,7 @@ pub fn create<D: SectorDevice>(fs: &mut Option<Fs<D>>, access: Access, path: &[u
 
 /// Gives up the handle of a file.
 pub fn close<D: SectorDevice>(fs: &mut Option<Fs<D>>, file: u32) -> i32
-    ensures serves { ServesCall D.state fs.old fs.new (Close file) result }
+    ensures serves { ServesCall (in_sectors D.state) fs.old fs.new (Close file) result }
 {
     match fs {
         Some(fs) => done(fs.close(file)),
@@ -42,7 +43,8 @@ pub fn close<D: SectorDevice>(fs: &mut Option<Fs<D>>, file: u32) -> i32
 
 /// Reads a file into C's memory.
 fn read<D: SectorDevice>(fs: &mut Fs<D>, file: u32, offset: u64, out: &mut [u8]) -> i32
-    ensures { Answers D.state fs.old fs.new (Pread file offset (min (length out.old) (2 ^ 32 - 1)))
+    ensures { Answers (in_sectors D.state) fs.old fs.new
+        (Pread file offset (min (length out.old) (2 ^ 32 - 1)))
         (TellsBytes result out.old out.new) }
 {
     let len = u32::try_from(out.len()).unwrap_or(u32::MAX);
@@ -54,7 +56,7 @@ fn read<D: SectorDevice>(fs: &mut Fs<D>, file: u32, offset: u64, out: &mut [u8])
 
 /// Reads the bytes of a file from an offset on: their number.
 pub fn pread<D: SectorDevice>(fs: &mut Option<Fs<D>>, file: u32, offset: u64, out: &mut [u8]) -> i32
-    ensures serves { ServesBytes D.state fs.old fs.new
+    ensures serves { ServesBytes (in_sectors D.state) fs.old fs.new
         (Pread file offset (min (length out.old) (2 ^ 32 - 1))) result out.old out.new }
 {
     match fs {
@@ -71,7 +73,8 @@ pub fn pwrite<D: SectorDevice>(
     offset: u64,
     bytes: &[u8],
 ) -> i32
-    ensures serves { ServesChange D.state access fs.old fs.new (Pwrite file offset bytes.now)
+    ensures serves { ServesChange (in_sectors D.state) access fs.old fs.new
+        (Pwrite file offset bytes.now)
         result }
 {
     match (fs, access) {
@@ -83,7 +86,8 @@ pub fn pwrite<D: SectorDevice>(
 
 /// Cuts a file to a length, or makes it longer with zeros.
 pub fn truncate<D: SectorDevice>(fs: &mut Option<Fs<D>>, access: Access, file: u32, len: u64) -> i32
-    ensures serves { ServesChange D.state access fs.old fs.new (Truncate file len) result }
+    ensures serves { ServesChange (in_sectors D.state) access fs.old fs.new (Truncate file len)
+        result }
 {
     match (fs, access) {
         (Some(fs), Access::ReadWrite) => done(fs.truncate(file, len)),

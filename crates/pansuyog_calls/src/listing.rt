@@ -1,5 +1,6 @@
 //! The listing of a directory, by one name a call (POSIX.1-2017: readdir).
 ghost use Rattle.std.specs.Prelude.{◌≡◌, Some, slice_get};
+ghost use Rattle.lfs_model.specs.Device.{in_sectors};
 ghost use Rattle.lfs_model.specs.Call.{Readdir};
 ghost use Rattle.pansuyog_calls.specs.Codes.{code_of_kind};
 ghost use Rattle.pansuyog_calls.specs.Serving.{Answers};
@@ -14,7 +15,7 @@ use lfs_fs::Fs;
 
 /// Lists a directory: how many names it has.
 fn list_names<D: SectorDevice>(fs: &mut Fs<D>, path: &[u8], listing: &mut Vec<lfs_fs::Entry>) -> i32
-    ensures { Answers D.state fs.old fs.new (Readdir path.now)
+    ensures { Answers (in_sectors D.state) fs.old fs.new (Readdir path.now)
         (TellsListing result listing.old.items listing.new.items) }
 {
     match fs.readdir(path) {
@@ -33,7 +34,7 @@ pub fn list<D: SectorDevice>(
     path: &[u8],
     listing: &mut Vec<lfs_fs::Entry>,
 ) -> i32
-    ensures serves { ServesListing D.state fs.old fs.new (Readdir path.now) result
+    ensures serves { ServesListing (in_sectors D.state) fs.old fs.new (Readdir path.now) result
         listing.old listing.new }
 {
     match fs {

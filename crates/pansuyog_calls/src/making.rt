@@ -1,5 +1,6 @@
 //! A volume is made, mounted and unmounted.
 ghost use Rattle.std.specs.Prelude.{◌≡◌, None};
+ghost use Rattle.lfs_model.specs.Device.{in_sectors};
 ghost use Rattle.pansuyog_calls.specs.Making.{Makes};
 ghost use Rattle.pansuyog_calls.specs.Volumes.{KeepsListingAndAccess, MakesFrom, MountsDevice, MountsFrom, Unmounts};
 
@@ -14,7 +15,7 @@ use std::alloc::Global;
 
 /// Makes an empty volume on a device.
 fn make_on<D: SectorDevice>(device: &mut D, segments: u32, version: u32) -> i32
-    ensures { Makes D.state segments version device.old device.new result }
+    ensures { Makes (in_sectors D.state) segments version device.old device.new result }
 {
     match format_version(device, segments, version) {
         Ok(()) => 0,
@@ -27,7 +28,7 @@ fn make_on<D: SectorDevice>(device: &mut D, segments: u32, version: u32) -> i32
 /// Makes an empty volume of so many segments, in a version of the layout, on a device on which none
 /// is mounted.
 pub fn format<D: SectorDevice>(volume: &mut VolumeIn<D>, segments: u32, version: u32) -> i32
-    ensures { MakesFrom D.state segments version volume.old volume.new result }
+    ensures { MakesFrom (in_sectors D.state) segments version volume.old volume.new result }
 {
     if volume.fs.is_some() {
         return ALREADY_MOUNTED;
@@ -43,7 +44,7 @@ pub fn format<D: SectorDevice>(volume: &mut VolumeIn<D>, segments: u32, version:
 fn mount_on<D: SectorDevice + Drop>(alloc: Global, volume: &mut VolumeIn<D>, device: D) -> i32
     requires unmounted { volume.old.fs ≡ None }
     requires nothing { volume.old.device ≡ None }
-    ensures mounts { MountsDevice D.state device volume.new.fs volume.new.device result }
+    ensures mounts { MountsDevice (in_sectors D.state) device volume.new.fs volume.new.device result }
     ensures rest { KeepsListingAndAccess volume.old volume.new }
 {
     match Fs::mount(alloc, device) {
@@ -60,7 +61,7 @@ fn mount_on<D: SectorDevice + Drop>(alloc: Global, volume: &mut VolumeIn<D>, dev
 
 /// Mounts the volume of a device on which none is mounted. It writes nothing.
 pub fn mount<D: SectorDevice + Drop>(alloc: Global, volume: &mut VolumeIn<D>) -> i32
-    ensures { MountsFrom D.state volume.old volume.new result }
+    ensures { MountsFrom (in_sectors D.state) volume.old volume.new result }
 {
     if volume.fs.is_some() {
         return ALREADY_MOUNTED;

@@ -1,6 +1,7 @@
 //! Calls that change names (POSIX.1-2017: mkdir, link, symlink, unlink, rmdir, rename), and the one
 //! by which a directory takes longer ones.
 ghost use Rattle.lfs_model.specs.Call.{Mkdir, LinkTo, Symlink, Unlink, Rmdir, Rename, Widen};
+ghost use Rattle.lfs_model.specs.Device.{in_sectors};
 ghost use Rattle.pansuyog_calls.specs.Serving.{ServesChange};
 
 use crate::access::Access;
@@ -10,7 +11,7 @@ use lfs_fs::Fs;
 
 /// Makes an empty directory.
 pub fn mkdir<D: SectorDevice>(fs: &mut Option<Fs<D>>, access: Access, path: &[u8]) -> i32
-    ensures serves { ServesChange D.state access fs.old fs.new (Mkdir path.now) result }
+    ensures serves { ServesChange (in_sectors D.state) access fs.old fs.new (Mkdir path.now) result }
 {
     match (fs, access) {
         (Some(fs), Access::ReadWrite) => done(fs.mkdir(path)),
@@ -21,7 +22,8 @@ pub fn mkdir<D: SectorDevice>(fs: &mut Option<Fs<D>>, access: Access, path: &[u8
 
 /// Gives an object a further name.
 pub fn link<D: SectorDevice>(fs: &mut Option<Fs<D>>, access: Access, from: &[u8], to: &[u8]) -> i32
-    ensures serves { ServesChange D.state access fs.old fs.new (LinkTo from.now to.now) result }
+    ensures serves { ServesChange (in_sectors D.state) access fs.old fs.new (LinkTo from.now to.now)
+        result }
 {
     match (fs, access) {
         (Some(fs), Access::ReadWrite) => done(fs.link(from, to)),
@@ -37,7 +39,8 @@ pub fn symlink<D: SectorDevice>(
     text: &[u8],
     path: &[u8],
 ) -> i32
-    ensures serves { ServesChange D.state access fs.old fs.new (Symlink text.now path.now) result }
+    ensures serves { ServesChange (in_sectors D.state) access fs.old fs.new
+        (Symlink text.now path.now) result }
 {
     match (fs, access) {
         (Some(fs), Access::ReadWrite) => done(fs.symlink(text, path)),
@@ -48,7 +51,7 @@ pub fn symlink<D: SectorDevice>(
 
 /// Takes the name of a file or a link away.
 pub fn unlink<D: SectorDevice>(fs: &mut Option<Fs<D>>, access: Access, path: &[u8]) -> i32
-    ensures serves { ServesChange D.state access fs.old fs.new (Unlink path.now) result }
+    ensures serves { ServesChange (in_sectors D.state) access fs.old fs.new (Unlink path.now) result }
 {
     match (fs, access) {
         (Some(fs), Access::ReadWrite) => done(fs.unlink(path)),
@@ -59,7 +62,7 @@ pub fn unlink<D: SectorDevice>(fs: &mut Option<Fs<D>>, access: Access, path: &[u
 
 /// Takes an empty directory away.
 pub fn rmdir<D: SectorDevice>(fs: &mut Option<Fs<D>>, access: Access, path: &[u8]) -> i32
-    ensures serves { ServesChange D.state access fs.old fs.new (Rmdir path.now) result }
+    ensures serves { ServesChange (in_sectors D.state) access fs.old fs.new (Rmdir path.now) result }
 {
     match (fs, access) {
         (Some(fs), Access::ReadWrite) => done(fs.rmdir(path)),
@@ -75,7 +78,8 @@ pub fn rename<D: SectorDevice>(
     from: &[u8],
     to: &[u8],
 ) -> i32
-    ensures serves { ServesChange D.state access fs.old fs.new (Rename from.now to.now) result }
+    ensures serves { ServesChange (in_sectors D.state) access fs.old fs.new (Rename from.now to.now)
+        result }
 {
     match (fs, access) {
         (Some(fs), Access::ReadWrite) => done(fs.rename(from, to)),
@@ -86,7 +90,7 @@ pub fn rename<D: SectorDevice>(
 
 /// Gives a directory the form that takes names of up to 123 bytes.
 pub fn widen<D: SectorDevice>(fs: &mut Option<Fs<D>>, access: Access, path: &[u8]) -> i32
-    ensures serves { ServesChange D.state access fs.old fs.new (Widen path.now) result }
+    ensures serves { ServesChange (in_sectors D.state) access fs.old fs.new (Widen path.now) result }
 {
     match (fs, access) {
         (Some(fs), Access::ReadWrite) => done(fs.widen(path)),

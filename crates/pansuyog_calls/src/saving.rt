@@ -1,5 +1,6 @@
 //! Calls on the whole volume (POSIX.1-2017: fsync, sync), and those that the volume has besides.
 ghost use Rattle.lfs_model.specs.Call.{Fsync, Sync, Clean, Version, Upgrade};
+ghost use Rattle.lfs_model.specs.Device.{in_sectors};
 ghost use Rattle.pansuyog_calls.specs.Cleaning.{CleansOnceIn, TellsDue};
 ghost use Rattle.pansuyog_calls.specs.Serving.{ServesCall, ServesChange};
 
@@ -10,7 +11,7 @@ use lfs_fs::Fs;
 
 /// Saves the whole volume, with the file of a handle.
 pub fn fsync<D: SectorDevice>(fs: &mut Option<Fs<D>>, access: Access, file: u32) -> i32
-    ensures serves { ServesChange D.state access fs.old fs.new (Fsync file) result }
+    ensures serves { ServesChange (in_sectors D.state) access fs.old fs.new (Fsync file) result }
 {
     match (fs, access) {
         (Some(fs), Access::ReadWrite) => done(fs.fsync(file)),
@@ -22,7 +23,7 @@ pub fn fsync<D: SectorDevice>(fs: &mut Option<Fs<D>>, access: Access, file: u32)
 /// Saves the whole volume: behind `0` every call before survives a stop, once the device did what it
 /// was told.
 pub fn sync<D: SectorDevice>(fs: &mut Option<Fs<D>>, access: Access) -> i32
-    ensures serves { ServesChange D.state access fs.old fs.new Sync result }
+    ensures serves { ServesChange (in_sectors D.state) access fs.old fs.new Sync result }
 {
     match (fs, access) {
         (Some(fs), Access::ReadWrite) => done(fs.sync()),
@@ -33,7 +34,7 @@ pub fn sync<D: SectorDevice>(fs: &mut Option<Fs<D>>, access: Access) -> i32
 
 /// Cleans segments until a quarter of them is clean.
 pub fn clean<D: SectorDevice>(fs: &mut Option<Fs<D>>, access: Access) -> i32
-    ensures serves { ServesChange D.state access fs.old fs.new Clean result }
+    ensures serves { ServesChange (in_sectors D.state) access fs.old fs.new Clean result }
 {
     match (fs, access) {
         (Some(fs), Access::ReadWrite) => done(fs.clean()),
@@ -56,8 +57,8 @@ pub fn is_cleaning_due<D: SectorDevice>(fs: &Option<Fs<D>>) -> i32
 /// One pass of the cleaner where that is so, and none else. What isn't saved is saved before it. The
 /// device is told at most 520 orders, and 8 more for each segment.
 pub fn clean_once<D: SectorDevice>(fs: &mut Option<Fs<D>>, access: Access) -> i32
-    ensures serves { ServesChange D.state access fs.old fs.new Clean result }
-    ensures once { CleansOnceIn D.state fs.old fs.new result }
+    ensures serves { ServesChange (in_sectors D.state) access fs.old fs.new Clean result }
+    ensures once { CleansOnceIn (in_sectors D.state) fs.old fs.new result }
 {
     match (fs, access) {
         (Some(fs), Access::ReadWrite) => done(fs.clean_once()),
@@ -68,7 +69,7 @@ pub fn clean_once<D: SectorDevice>(fs: &mut Option<Fs<D>>, access: Access) -> i3
 
 /// The version of the volume's layout: 1 or 2.
 pub fn version<D: SectorDevice>(fs: &mut Option<Fs<D>>) -> i32
-    ensures serves { ServesCall D.state fs.old fs.new Version result }
+    ensures serves { ServesCall (in_sectors D.state) fs.old fs.new Version result }
 {
     match fs {
         Some(fs) => counted(fs.version()),
@@ -78,7 +79,7 @@ pub fn version<D: SectorDevice>(fs: &mut Option<Fs<D>>) -> i32
 
 /// Raises the version of the volume's layout to 2.
 pub fn upgrade<D: SectorDevice>(fs: &mut Option<Fs<D>>, access: Access) -> i32
-    ensures serves { ServesChange D.state access fs.old fs.new Upgrade result }
+    ensures serves { ServesChange (in_sectors D.state) access fs.old fs.new Upgrade result }
 {
     match (fs, access) {
         (Some(fs), Access::ReadWrite) => done(fs.upgrade()),

@@ -1,5 +1,6 @@
 //! What is told of an object and of the volume (POSIX.1-2017: stat, lstat, readlink).
 ghost use Rattle.lfs_model.specs.Call as call;
+ghost use Rattle.lfs_model.specs.Device.{in_sectors};
 ghost use Rattle.lfs_model.specs.Call.{StatOf, LstatOf, Readlink, Status};
 ghost use Rattle.std.specs.Prelude.{◌≡◌};
 ghost use Rattle.lfs_fs.specs.Answers.{status_of};
@@ -54,7 +55,7 @@ fn tell(found: Result<lfs_fs::Stat, FsError>, out: &mut Stat) -> i32
 
 /// What is told of the object of a path.
 pub fn stat<D: SectorDevice>(fs: &mut Option<Fs<D>>, path: &[u8], out: &mut Stat) -> i32
-    ensures serves { ServesStat D.state fs.old fs.new (StatOf path.now) result
+    ensures serves { ServesStat (in_sectors D.state) fs.old fs.new (StatOf path.now) result
         out.old out.new }
 {
     match fs {
@@ -65,7 +66,7 @@ pub fn stat<D: SectorDevice>(fs: &mut Option<Fs<D>>, path: &[u8], out: &mut Stat
 
 /// The same, where the last piece of the path may be a link that isn't followed.
 pub fn lstat<D: SectorDevice>(fs: &mut Option<Fs<D>>, path: &[u8], out: &mut Stat) -> i32
-    ensures serves { ServesStat D.state fs.old fs.new (LstatOf path.now) result
+    ensures serves { ServesStat (in_sectors D.state) fs.old fs.new (LstatOf path.now) result
         out.old out.new }
 {
     match fs {
@@ -76,7 +77,8 @@ pub fn lstat<D: SectorDevice>(fs: &mut Option<Fs<D>>, path: &[u8], out: &mut Sta
 
 /// Reads the text of a link into C's memory.
 fn read_link<D: SectorDevice>(fs: &mut Fs<D>, path: &[u8], out: &mut [u8]) -> i32
-    ensures { Answers D.state fs.old fs.new (Readlink path.now) (TellsBytes result out.old out.new) }
+    ensures { Answers (in_sectors D.state) fs.old fs.new (Readlink path.now)
+        (TellsBytes result out.old out.new) }
 {
     match fs.readlink(path) {
         Ok(text) => put(text.as_slice(), out),
@@ -86,7 +88,7 @@ fn read_link<D: SectorDevice>(fs: &mut Fs<D>, path: &[u8], out: &mut [u8]) -> i3
 
 /// The text of the link of a path, as much as there is room for: its whole length.
 pub fn readlink<D: SectorDevice>(fs: &mut Option<Fs<D>>, path: &[u8], out: &mut [u8]) -> i32
-    ensures serves { ServesBytes D.state fs.old fs.new (Readlink path.now) result
+    ensures serves { ServesBytes (in_sectors D.state) fs.old fs.new (Readlink path.now) result
         out.old out.new }
 {
     match fs {
@@ -97,7 +99,8 @@ pub fn readlink<D: SectorDevice>(fs: &mut Option<Fs<D>>, path: &[u8], out: &mut 
 
 /// Tells C what the tree needs.
 fn measure<D: SectorDevice>(fs: &mut Fs<D>, out: &mut Space) -> i32
-    ensures { Answers D.state fs.old fs.new call.Space (TellsSpace result out.old out.new) }
+    ensures { Answers (in_sectors D.state) fs.old fs.new call.Space
+        (TellsSpace result out.old out.new) }
 {
     match fs.space() {
         Ok(space) => {
@@ -115,7 +118,7 @@ fn measure<D: SectorDevice>(fs: &mut Fs<D>, out: &mut Space) -> i32
 
 /// What the tree needs, and the most that it may need.
 pub fn space<D: SectorDevice>(fs: &mut Option<Fs<D>>, out: &mut Space) -> i32
-    ensures serves { ServesSpace D.state fs.old fs.new result out.old out.new }
+    ensures serves { ServesSpace (in_sectors D.state) fs.old fs.new result out.old out.new }
 {
     match fs {
         Some(fs) => measure(fs, out),

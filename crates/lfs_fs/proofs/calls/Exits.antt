@@ -22,7 +22,13 @@ not_acknowledged call r e = no_commit (commits call) e
 module _ {D : Type 0} (state : D → DeviceState) where
   -- a point of the volume in this state
   abbrev pub point_of : Mounted D → State → Point
-  point_of v s = record { state = s; halted = v.log.halted; number = v.log.number; failures = (state v.log.device).failures }
+  point_of v s = record {
+    state = s;
+    halted = v.log.halted;
+    number = v.log.number;
+    failures = (state v.log.device).failures;
+    failed_orders = (state v.log.device).failed_orders;
+  }
 
   -- What holds at each point of a volume, with the log maps that it has there, where the device keeps the model to the end of the call.
   abbrev pub AtEach : Mounted D → Mounted D → (Point → CheckpointValue → LogMap → LogMap → Type 0) → Type 0
@@ -75,11 +81,12 @@ module _ {D : Type 0} (state : D → DeviceState) where
   -- the volume as it is seen, in this state
   at_state : (v : Mounted D) {s : State} → (v.log.halted ≡ false → Runs state v s) → LeavesSome state (state v.log.device)
       → IsAt state v (point_of v s)
-  at_state v running leaves = record { halted = refl; number = refl; failures = refl; running = running; leaves = leaves }
+  at_state v running leaves =
+      record { halted = refl; number = refl; failures = refl; failed_orders = refl; running = running; leaves = leaves }
 
   -- ---- what a call answers
   module _ {old new : Mounted D} {call : Call} {a : Answer} {p : Point} (at : IsAt state old p)
-      (failures : (state old.log.device).failures ≤ (state new.log.device).failures) (later : old.log.number ≤ new.log.number)
+      (carries : Carries (state old.log.device) (state new.log.device)) (later : old.log.number ≤ new.log.number)
       (behaves : Behaves state old new call a) {next : State} (steps : StepsOr (segments_of old) call p a (point_of new next)) where
     answers_by : (p.halted ≡ true → a ≡ Refuse Halted) → (a ≡ Refuse Halted → new.log.halted ≡ true)
         → (new.log.halted ≡ true → a ≡ Refuse Halted) → Answers (segments_of old) call p a (point_of new next)
@@ -89,7 +96,9 @@ module _ {D : Type 0} (state : D → DeviceState) where
       halts = halts;
       goes_on = goes_on;
       first_halted = λ e. ⊎_elim (λ before. inl (at.halted ∙ before)) (λ may. inr may) (behaves.first_halted e);
-      failures = (let f = at.failures in omega (arith, f, failures));
+      failures = (let f = at.failures in let more = carries.failures in omega (arith, f, more));
+      failed_orders = (let o = at.failed_orders in let more = carries.failed_orders in omega (arith, o, more));
+      failed_reads = (let f = at.failures in let o = at.failed_orders in let more = carries.failed_reads in omega (arith, f, o, more));
       number = (let n = at.number in omega (arith, n, later));
       few = (let n = at.number in let few = behaves.few in omega (arith, n, few));
       quiet = λ e. behaves.number e ∙ sym at.number;
@@ -117,7 +126,7 @@ module _ {D : Type 0} (state : D → DeviceState) where
         at = at_state new
             (λ e. record { checkpoint = r.checkpoint; saved = r.saved; present = r.present; is = still_in still r.is })
             (λ c left. is.leaves c (still.reads.looks.untouched.crash c left));
-        answers = answers_on is still.reads.looks.carries.failures (let same = still.reads.number in omega (arith, same)) behaves
+        answers = answers_on is still.reads.looks.carries (let same = still.reads.number in omega (arith, same)) behaves
             (steps p keeps is r.checkpoint r.saved r.present r.is) was (still.reads.halted ∙ was) fine;
         leaves = left_still (drop_nameless p.state ∷ drop_nameless p.state ∷ []) lawful is.leaves still.reads.looks;
         saves = λ e. absurd (none e);
@@ -144,7 +153,7 @@ module _ {D : Type 0} (state : D → DeviceState) where
     model = λ p keeps is. record {
       next = point_of v p.state;
       at = at_state v is.running is.leaves;
-      answers = answers_by is (omega arith) (omega arith) (halted_behaves state v call was)
+      answers = answers_by is carries_none (omega arith) (halted_behaves state v call was)
           (inr (Halted, refl, inl (is.halted ∙ was), refl)) (λ e. refl) (λ e. was) (λ e. refl);
       leaves = left_still (drop_nameless p.state ∷ drop_nameless p.state ∷ []) lawful is.leaves (reads_none state v.log).looks;
       saves = λ e. absurd (not_acknowledged call Halted e);
@@ -183,19 +192,19 @@ module _ {D : Type 0} (state : D → DeviceState) where
       goes_on_at running behaves fine {next} runs steps saves = record {
         next = point_of new next;
         at = at_state new (λ e. runs) (some_left next);
-        answers = answers_on at carries.failures later behaves steps was running fine;
+        answers = answers_on at carries later behaves steps was running fine;
         leaves = states next;
         saves = saves;
       }
 
       -- a commit failed
       pub halts_at : new.log.halted ≡ true → Behaves state old new call (Refuse Halted)
-          → (state old.log.device).failures < (state new.log.device).failures → ServesAt state old new call (Refuse Halted) p
+          → (state old.log.device).failed_orders < (state new.log.device).failed_orders → ServesAt state old new call (Refuse Halted) p
       halts_at halted behaves rose = record {
         next = point_of new p.state;
         at = at_state new (λ e. absurd (cc)) (some_left p.state);
-        answers = answers_by at carries.failures later behaves
-            (inr (Halted, refl, inr (let f = at.failures in omega (arith, f, rose)), refl)) (λ e. refl) (λ e. halted) (λ e. refl);
+        answers = answers_by at carries later behaves
+            (inr (Halted, refl, inr (let o = at.failed_orders in omega (arith, o, rose)), refl)) (λ e. refl) (λ e. halted) (λ e. refl);
         leaves = states p.state;
         saves = λ e. absurd (not_acknowledged call Halted e);
       }

@@ -1,12 +1,12 @@
 -- What a mount finds with the tables that a walk over the whole volume took in: the state that the device stands for.
-use Rattle.lfs_fs.proofs.Prelude.{◌≡◌, true, [], refl, sym, subst, Content, DeviceState, IsLawful, Only, State, Stands}
+use Rattle.lfs_fs.proofs.Prelude.{◌≡◌, ◌≤◌, ◌+◌, length, true, [], refl, sym, subst, Content, DeviceState, IsLawful, Only, State, Stands}
 use Rattle.lfs_fs.proofs.Prelude.{tree_in, Mounts, Fs, FindsState, IsMountFault, MountsFs, seen}
 use Rattle.lfs_model.specs.Checkpoint.{layout_version}
 use Rattle.lfs_store.specs.log.verify.declared.fault.MountFault.{MountFault}
 use Rattle.lfs_store.specs.log.verify.declared.fault.MountFault.TheVariants.{NoMemory}
 use Rattle.lfs_store.specs.log.verify.declared.tables.Tables.{Tables}
 use Rattle.lfs_store.specs.log.verify.Loading.{HasTables}
-use Rattle.lfs_store.specs.log.verify.Take.{Looks}
+use Rattle.lfs_store.specs.log.verify.Take.{SyncsOnce}
 use Rattle.lfs_store.specs.Recounting.{MountsTotals}
 use Rattle.lfs_tree.specs.Checking.{HasTree}
 use Rattle.lfs_fs.specs.Mounting.{IsRefused}
@@ -14,7 +14,7 @@ use Rattle.lfs_fs.proofs.mount.State.{found_at, found_running}
 use Rattle.lfs_fs.proofs.calls.Exits.{point_of}
 
 -- ---- the walk, which only read
-module _ {old new : DeviceState} (looks : Looks old new) where
+module _ {old new : DeviceState} (looks : SyncsOnce old new) where
   -- the tables lead to what is still there
   pub tables_there : {t : Tables} → (new.keeps_model → HasTree old.content t) → new.keeps_model → HasTables new.content t
   tables_there {t} has keeps = rw looks.untouched.content (has keeps).tables
@@ -40,8 +40,13 @@ state_found t has =
       },
     )
 
+-- ---- what the device was told
+pub told_volume : {D : Type 0} (state : D → DeviceState) (d : D) {d' : D} (v : Fs D) → SyncsOnce (state d) (state d')
+    → (seen v).log.device ≡ d' → length (state (seen v).log.device).told ≤ length (state d).told + 1
+told_volume state d v looks same = rw same looks.told
+
 -- ---- the volume behind it
-module _ {D : Type 0} (state : D → DeviceState) (d : D) {d' : D} (lawful : IsLawful (state d)) (looks : Looks (state d) (state d'))
+module _ {D : Type 0} (state : D → DeviceState) (d : D) {d' : D} (lawful : IsLawful (state d)) (looks : SyncsOnce (state d) (state d'))
     (v : Fs D)
     (same : (seen v).log.device ≡ d')
     (mounts : Mounts state d' (seen v).log) (counts : MountsTotals state d' (seen v).log (seen v).log.totals)

@@ -47,6 +47,7 @@ module _ {D : Type 0} (state : D → DeviceState) (d : D) (v : Mounted D) (mount
     halted = refl;
     number = refl;
     failures = refl;
+    failed_orders = refl;
     running = λ e. record { checkpoint = is.checkpoint; saved = is.log; present = is.log; is = found_in closed counted saved };
     leaves = λ c left. (s, rw (only c left) is);
   }

@@ -69,6 +69,8 @@ module _ {D : Type 0} {state : D → DeviceState} {old new : Mounted D} (was : o
       halts = sync.answers.halts;
       goes_on = sync.answers.goes_on;
       failures = sync.answers.failures;
+      failed_orders = sync.answers.failed_orders;
+      failed_reads = sync.answers.failed_reads;
       number = sync.answers.number;
       few = sync.answers.few;
       quiet = sync.answers.quiet;

@@ -43,6 +43,8 @@ module _ {D : Type 0} (state : D → DeviceState) where
       goes_on = λ e. refl;
       first_halted = λ e. inl (at.halted ∙ was);
       failures = omega arith;
+      failed_orders = omega arith;
+      failed_reads = omega arith;
       number = omega arith;
       few = omega arith;
       quiet = λ e. refl;

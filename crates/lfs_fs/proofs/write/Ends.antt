@@ -141,7 +141,7 @@ module _ {D : Type 0} (state : D → DeviceState) (lawful : (d : D) → IsLawful
         number = (let few = halts.number in let same = reads.number in omega (arith, few, same));
         cause = λ k m0 m keeps is log. (
             let rose = halts.cause k m0 m keeps (held_still state reads is) log in
-            let before = reads.looks.carries.failures in
+            let before = reads.looks.carries.failed_orders in
             omega (arith, rose, before));
         left = λ k m0 m keeps is log. halts.left k m0 m keeps (held_still state reads is) log;
         moment = λ k m0 m keeps is log. leaves_after is (halts.moment k m0 m keeps (held_still state reads is) log);

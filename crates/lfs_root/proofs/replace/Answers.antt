@@ -4,15 +4,15 @@ use Rattle.lfs_root.proofs.Slots.{one_of, one_at_each_moment, next_alone, on_ok}
 use Rattle.lfs_root.proofs.replace.Goals as goal
 
 pub returns-clause-newest : goal.returns-clause-newest
-returns-clause-newest g c last all follows =
+returns-clause-newest g c apart last all follows =
     one_at_each_moment _ _ last _ _ (ap (λ (v : CheckpointValue). v.number % 2) c.checkpoint.view_is) c.encode.ensures c.requires.fits
-    (g.met.D.SectorDevice.lawful c.args.device.now) c.requires.size all follows c.write_durably.ensures.any_moment
+    (g.met.D.SectorDevice.lawful c.args.device.now) c.requires.size all follows apart c.write_durably.ensures.any_moment
 
 pub returns-clause-left_newest : goal.returns-clause-left_newest
-returns-clause-left_newest g c last all follows x left =
+returns-clause-left_newest g c apart last all follows x left =
     one_of _ (g.D.SectorDevice.state c.write_durably.new.device) last _ _
     (ap (λ (v : CheckpointValue). v.number % 2) c.checkpoint.view_is) c.encode.ensures c.requires.fits
-    (g.met.D.SectorDevice.lawful c.args.device.now) c.requires.size all follows x (c.write_durably.ensures.left x left)
+    (g.met.D.SectorDevice.lawful c.args.device.now) c.requires.size all follows apart x (c.write_durably.ensures.left x left)
 
 pub returns-clause-acknowledged : goal.returns-clause-acknowledged
 returns-clause-acknowledged g c =

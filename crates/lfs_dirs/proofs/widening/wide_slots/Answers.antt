@@ -1,5 +1,6 @@
 use Rattle.std.proofs.lemmas.Result.{err_from_is_err_and}
 use Rattle.std.proofs.Common.{◌*◌, ◌<◌, ◌≤◌, refl, arith, rules}
+use Rattle.lfs_files.proofs.FilesCompose.{reads_more}
 use Rattle.lfs_dirs.specs.Directory.{per_block, slot_count}
 use Rattle.lfs_dirs.specs.Searching.{count_in_nth}
 use Rattle.lfs_dirs.proofs.Widenings.{widening_begins, widening_ends, widening_fails, widening_few, widening_goes_on, widening_long}
@@ -18,6 +19,13 @@ loop-index-preserved g c =
     widening_goes_on c.args.directory.value c.args.header (g.F.Files.state c.widen_nth.new.files)
     (count_in_nth c.args.header c.loop-index.index) refl low c.loop-index.invariant
     (g.met.F.Files.lawful c.args.files.now) c.widen_nth.ensures.gathers.reads c.in_ok-widen_nth.ensures.long c.in_ok-widen_nth.ensures.done
+
+pub returns-in_err-widen_nth-clause-gathers : goal.returns-in_err-widen_nth-clause-gathers
+returns-in_err-widen_nth-clause-gathers g c = record {
+  reads = reads_more (g.met.F.Files.lawful c.args.files.now) c.loop-index.invariant.reads c.widen_nth.ensures.gathers.reads;
+  halted = search rules;
+  other = search rules;
+}
 
 pub returns-in_err-widen_nth-clause-failed : goal.returns-in_err-widen_nth-clause-failed
 returns-in_err-widen_nth-clause-failed g c =

@@ -1,7 +1,8 @@
 use Rattle.std.proofs.lemmas.Result.{IfErr-weaker, err_from_is_err_and}
-use Rattle.std.proofs.Common.{◌≡◌, ◌∙◌, subst}
+use Rattle.std.proofs.Common.{◌≡◌, ◌∙◌, rules, subst}
 use Rattle.std.specs.Prelude.{IfErr, if◌then◌else◌, ◌==◌}
 use Rattle.lfs_files.specs.declared.header.Header.{Header}
+use Rattle.lfs_files.proofs.FilesCompose.{redrafts_more}
 use Rattle.lfs_path.specs.dirs.Taking.{CountsDropped, Takes, shrunk}
 use Rattle.lfs_entries.specs.Drafting.{HasNamed}
 use Rattle.lfs_entries.specs.Moving.{HasFoundName, NamesFound, second_holder}
@@ -85,3 +86,13 @@ returns-clause-failed g c =
     c.draft_target.ensures.only.redrafts) (subst (λ (h : Header).
     IfErr c.draft_target.result (FailsWhere (g.F.Files.state c.take_name.new.files) (g.F.Files.state c.draft_target.new.files)
     (HasFoundName c.args.target.replaced c.args.target.directory.value h c.args.target.name.now))) holder c.draft_target.ensures.failed)
+
+pub returns-clause-only : goal.returns-clause-only
+returns-clause-only g c = record {
+  redrafts = redrafts_more (g.met.F.Files.lawful c.args.files.now) c.drop_replaced.ensures.only.redrafts
+      (redrafts_more (g.met.F.Files.lawful c.drop_replaced.new.files) c.relink_holders.ensures.redrafts
+      (redrafts_more (g.met.F.Files.lawful c.relink_holders.new.files) c.take_name.ensures.only.redrafts
+      c.draft_target.ensures.only.redrafts));
+  halted = search rules;
+  other = search rules;
+}

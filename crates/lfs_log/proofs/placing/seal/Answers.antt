@@ -9,7 +9,7 @@ returns-in_err-seal-clause-stopped g c =
     (g.met.D.SectorDevice.lawful c.args.device.now) c.in_err-seal.ensures.entries c.in_err-seal.ensures.crash
     c.in_err-seal.ensures.asks.carries
     c.in_err-seal.ensures.asks.time
-    c.in_err-seal.ensures.failed_write c.in_err-seal.ensures.asks.failed)
+    c.in_err-seal.ensures.failed_write c.in_err-seal.ensures.asks.failed_order)
 
 -- src/placing.rt:9:1
 pub returns-clause-done : goal.returns-clause-done

@@ -16,7 +16,7 @@ returns-in_err-write-clause-writes g c =
     writing_failed _ _ c.from_residual.ensures (place_stops c.requires.memory c.next_place-address.ensures.placed
     c.in_err-write.ensures.crash c.in_err-write.ensures.asks.carries c.in_err-write.ensures.asks.time
     (g.met.D.SectorDevice.lawful c.args.device.now)
-    c.in_err-write.ensures.failed_write c.in_err-write.ensures.asks.failed) (let room = takes_place
+    c.in_err-write.ensures.failed_write c.in_err-write.ensures.asks.failed_order) (let room = takes_place
     c.requires.memory c.next_place-address.ensures.placed in
     omega (arith, room)) (search rules)
 

@@ -25,5 +25,5 @@ returns-in_err-write-clause-stopped g c =
     let e = c.in_err-write.ensures in
     on_err _ _ (write_stops_at c.args.memory.now c.args.index
     (g.met.D.SectorDevice.lawful c.args.device.now) (c.requires.anew c.args.index c.requires.index stale) at e.failed_write e.crash
-    e.asks.failed
+    e.asks.failed_order
     e.asks.carries e.asks.time)

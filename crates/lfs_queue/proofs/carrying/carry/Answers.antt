@@ -21,5 +21,5 @@ returns-in_err-carry_one-clause-stopped g c =
     let lt : c.loop-order.order-index < length c.args.orders.now = omega arith in
     failed_here c.from_residual.result
     c.args.orders.now c.loop-order.order-index _ lt c.loop-order.invariant c.in_err-carry_one.ensures.carries
-    c.in_err-carry_one.ensures.time
-    c.in_err-carry_one.ensures.failed c.in_err-carry_one.ensures.may_tell c.in_err-carry_one.ensures.left
+    c.in_err-carry_one.ensures.time c.in_err-carry_one.ensures.failed c.in_err-carry_one.ensures.failed_order
+    c.in_err-carry_one.ensures.may_tell c.in_err-carry_one.ensures.left

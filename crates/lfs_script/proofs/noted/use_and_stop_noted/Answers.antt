@@ -1,29 +1,22 @@
-use Rattle.std.proofs.Common.{inl}
 use Rattle.lfs_model.proofs.Moments.{carries_then}
-use Rattle.lfs_script.proofs.Used.{err_of, ok_of, still_unused, stopped_told}
+use Rattle.lfs_script.proofs.Used.{err_of, ok_of, stop_carries, told_in_memory, unused_in_memory}
 use Rattle.lfs_script.proofs.noted.use_and_stop_noted.Goals as goal
 
 pub returns-in-Ok-clause-ran : goal.returns-in-Ok-clause-ran
 returns-in-Ok-clause-ran g c =
-    let stop = c.crash.ensures in
-    stopped_told
-    (λ t x le left. inl left) stop.carries stop.time stop.same_failures stop.durable stop.chosen
-    _ _ _ (ok_of _ c.in-Ok.is c.use_volume_noted-end.ensures.ran)
+    told_in_memory c.crash.ensures _ _ _ (ok_of _ c.in-Ok.is c.use_volume_noted-end.ensures.ran)
 
 pub returns-in-Ok-clause-carries : goal.returns-in-Ok-clause-carries
 returns-in-Ok-clause-carries g c =
-    carries_then c.use_volume_noted-end.ensures.carries c.crash.ensures.carries
+    carries_then c.use_volume_noted-end.ensures.carries (stop_carries c.crash.ensures)
 
 pub returns-in-Err-clause-refused : goal.returns-in-Err-clause-refused
 returns-in-Err-clause-refused g c =
-    let stop = c.crash.ensures in
-    still_unused
-    (λ t x le left. inl left) stop.carries stop.time stop.same_failures stop.durable stop.chosen
-    (err_of _ c.in-Err.is c.use_volume_noted-end.ensures.refused)
+    unused_in_memory c.crash.ensures (err_of _ c.in-Err.is c.use_volume_noted-end.ensures.refused)
 
 pub returns-in-Err-clause-carries : goal.returns-in-Err-clause-carries
 returns-in-Err-clause-carries g c =
-    carries_then c.use_volume_noted-end.ensures.carries c.crash.ensures.carries
+    carries_then c.use_volume_noted-end.ensures.carries (stop_carries c.crash.ensures)
 
 pub returns-in-Err-clause-unseen : goal.returns-in-Err-clause-unseen
 returns-in-Err-clause-unseen g c =

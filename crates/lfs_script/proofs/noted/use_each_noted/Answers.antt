@@ -1,29 +1,46 @@
 use Rattle.std.proofs.Common.{ap, rules}
 use Rattle.lfs_device.specs.MemoryDevice.{device_state}
 use Rattle.lfs_script.proofs.InTurnNoted.{all_told, more_told, none_told, stops_told}
-use Rattle.lfs_script.proofs.Used.{err_of, ok_of}
+use Rattle.lfs_script.proofs.Used.{err_of, keeps_in_memory, ok_of}
+use Rattle.lfs_model.specs.Device.{in_sectors}
+use Rattle.lfs_model.proofs.UnitStates.{units_only}
 use Rattle.lfs_script.proofs.noted.use_each_noted.Goals as goal
 
 pub loop-script-init : goal.loop-script-init
-loop-script-init g c = λ before calls given was. none_told device_state c.args.strict
-    (record { written = g.W.Write.contents c.args.writer.now; device = c.args.device; points = before; calls = calls; given = given }) _ was
+loop-script-init g c = λ keeps. (
+  keeps,
+  λ before calls given was.
+      none_told (in_sectors device_state) c.args.strict
+      (record {
+        written = g.W.Write.contents c.args.writer.now;
+        device = c.args.device;
+        points = before;
+        calls = calls;
+        given = given;
+      }) _ was,
+)
 
 pub loop-script-preserved : goal.loop-script-preserved
-loop-script-preserved g c = λ before calls given was. more_told
-    device_state c.args.strict c.args.scripts.now c.loop-script.script-index c.script-item.result
-    c.loop-script-test.true (search rules) c.as_slice-reader.ensures.value _ _ _ _ _ _ _ _
-    (c.loop-script.invariant before calls given was) (let session = ok_of _ c.in-Ok-default.is-0 c.use_and_stop_noted.ensures.ran in
-    (_, _, session, session.uses tt)) c.use_and_stop_noted.ensures.alone
+loop-script-preserved g c = λ keeps.
+    let so_far = c.loop-script.invariant keeps in
+    let next = keeps_in_memory c.use_and_stop_noted.ensures.carries so_far.0 in (
+      next,
+      λ before calls given was. more_told
+          (in_sectors device_state) c.args.strict c.args.scripts.now c.loop-script.script-index c.script-item.result
+          c.loop-script-test.true (search rules) c.as_slice-reader.ensures.value _ _ _ _ _ _ _ _
+          (so_far.1 before calls given was) (let session = ok_of _ c.in-Ok-default.is-0 c.use_and_stop_noted.ensures.ran in
+          (_, _, session, session.uses next)) (units_only (λ k. k) _ _ c.use_and_stop_noted.ensures.alone),
+    )
 
 pub returns-in-Err-default-clause-stopped : goal.returns-in-Err-default-clause-stopped
-returns-in-Err-default-clause-stopped g c = λ before calls given was.
+returns-in-Err-default-clause-stopped g c = λ keeps before calls given was.
     let is = c.in-Err-default.is-0 in
     let unused = err_of _ is c.use_and_stop_noted.ensures.refused in
-    stops_told device_state c.args.strict c.args.scripts.now c.loop-script.script-index _ _ _ _ _ _ c.loop-script-test.true
+    stops_told (in_sectors device_state) c.args.strict c.args.scripts.now c.loop-script.script-index _ _ _ _ _ _ c.loop-script-test.true
     (ap g.W.Write.contents unused.unwritten) (ap g.S.Witness.glances (err_of _ is c.use_and_stop_noted.ensures.unseen))
-    (c.loop-script.invariant before calls given was) unused.cause unused.reason unused.any_moment unused.left
+    ((c.loop-script.invariant keeps).1 before calls given was) unused.cause unused.reason unused.any_moment unused.left
 
 pub returns-clause-ran : goal.returns-clause-ran
-returns-clause-ran g c = λ before calls given was.
-    all_told device_state c.args.strict c.args.scripts.now c.loop-script.script-index _ _ _ _ _ c.loop-script-test.false
-    (c.loop-script.invariant before calls given was)
+returns-clause-ran g c = λ keeps before calls given was.
+    all_told (in_sectors device_state) c.args.strict c.args.scripts.now c.loop-script.script-index _ _ _ _ _ c.loop-script-test.false
+    ((c.loop-script.invariant keeps).1 before calls given was)

@@ -1,22 +1,15 @@
-use Rattle.std.proofs.Common.{inl}
 use Rattle.lfs_model.proofs.Moments.{carries_then}
-use Rattle.lfs_script.proofs.Used.{err_more, ok_more, still_unused, stopped}
+use Rattle.lfs_script.proofs.Used.{err_more, ok_more, stop_carries, stopped_in_memory, unused_in_memory}
 use Rattle.lfs_script.proofs.session.use_and_stop.Goals as goal
 
 pub returns-clause-ran : goal.returns-clause-ran
 returns-clause-ran g c =
-    let stop = c.crash.ensures in
-    ok_more _ _ c.use_volume-end.result.0 (λ end session.
-    stopped
-    (λ t x le left. inl left) stop.carries stop.time stop.same_failures stop.durable stop.chosen _ _ session) c.use_volume-end.ensures.ran
+    ok_more _ _ c.use_volume-end.result.0 (λ end session. stopped_in_memory c.crash.ensures _ _ session) c.use_volume-end.ensures.ran
 
 pub returns-clause-refused : goal.returns-clause-refused
 returns-clause-refused g c =
-    let stop = c.crash.ensures in
-    err_more _ _ c.use_volume-end.result.0 (λ fault unused.
-    still_unused
-    (λ t x le left. inl left) stop.carries stop.time stop.same_failures stop.durable stop.chosen unused) c.use_volume-end.ensures.refused
+    err_more _ _ c.use_volume-end.result.0 (λ fault unused. unused_in_memory c.crash.ensures unused) c.use_volume-end.ensures.refused
 
 pub returns-clause-carries : goal.returns-clause-carries
 returns-clause-carries g c =
-    carries_then c.use_volume-end.ensures.carries c.crash.ensures.carries
+    carries_then c.use_volume-end.ensures.carries (stop_carries c.crash.ensures)

@@ -16,9 +16,7 @@ returns-then-address-eq0-clause-answer g c k m n sees is =
 
 pub returns-clause-answer : goal.returns-clause-answer
 returns-clause-answer g c = on_ok_weaker c.read_sector.result (λ read k m n sees is.
-    let looks = looks_call (g.met.D.SectorDevice.lawful c.args.device.now) c.locate.ensures.follows.looks.carries
-    c.locate.ensures.follows.looks.untouched
-    c.locate.ensures.follows.looks.time in
+    let looks = looks_call (g.met.D.SectorDevice.lawful c.args.device.now) c.locate.ensures.follows.looks in
     let some = c.if-address-eq0.false in
     block_there sees.sized sees.holds n (c.in-Ok.ensures.value (sees_first sees c.read_sector.ensures.keeps.looks).keeps
     ∙ data_is sees.sized sees.holds n is c.args.index)
@@ -27,9 +25,7 @@ returns-clause-answer g c = on_ok_weaker c.read_sector.result (λ read k m n see
 
 pub returns-clause-failed : goal.returns-clause-failed
 returns-clause-failed g c = on_err_weaker c.read_sector.result (λ fails k m n sees is.
-    let looks = looks_call (g.met.D.SectorDevice.lawful c.args.device.now) c.locate.ensures.follows.looks.carries
-    c.locate.ensures.follows.looks.untouched
-    c.locate.ensures.follows.looks.time in
+    let looks = looks_call (g.met.D.SectorDevice.lawful c.args.device.now) c.locate.ensures.follows.looks in
     let some = c.if-address-eq0.false in
     let at = c.in-Ok.ensures.value (sees_first sees c.read_sector.ensures.keeps.looks).keeps
     ∙ data_is sees.sized sees.holds n is c.args.index in

@@ -17,22 +17,22 @@ returns-in_err-checkpoint-clause-below_all g c = λ low.
 pub returns-in_err-walked-clause-reason : goal.returns-in_err-walked-clause-reason
 returns-in_err-walked-clause-reason g c =
     same_error c.from_residual-in_err-walked.result c.in_err-walked.field-0.0 _ c.from_residual-in_err-walked.ensures (check_refused
-    c.find_checkpoint.ensures.keeps.looks c.check.ensures.keeps.looks
+    c.find_checkpoint.ensures.looks c.check.ensures.keeps.looks
     (looks_none (g.met.D.SectorDevice.lawful _)) c.in_ok-checkpoint.ensures.found
     c.in_err-walked.field-0.0 c.in_err-walked.ensures.reason)
 
 pub returns-in_err-tables-clause-reason : goal.returns-in_err-tables-clause-reason
 returns-in_err-tables-clause-reason g c =
     same_error c.from_residual-in_err-tables.result c.in_err-tables.field-0.0 _ c.from_residual-in_err-tables.ensures (load_refused
-    c.find_checkpoint.ensures.keeps.looks c.check.ensures.keeps.looks c.load_tables.ensures.looks c.in_ok-checkpoint.ensures.found
+    c.find_checkpoint.ensures.looks c.check.ensures.keeps.looks c.load_tables.ensures.looks c.in_ok-checkpoint.ensures.found
     c.in_ok-walked.ensures.holds c.in_err-tables.ensures.cause)
 
 pub returns-clause-found : goal.returns-clause-found
 returns-clause-found g c =
-    log_found c.find_checkpoint.ensures.keeps.looks c.check.ensures.keeps.looks c.load_tables.ensures.looks c.in_ok-checkpoint.ensures.found
+    log_found c.find_checkpoint.ensures.looks c.check.ensures.keeps.looks c.load_tables.ensures.looks c.in_ok-checkpoint.ensures.found
     c.in_ok-walked.ensures.holds c.in_ok-checkpoint.ensures.fits c.in_ok-tables.ensures.says c.in_ok-tables.ensures.totals
 
 pub returns-clause-durable : goal.returns-clause-durable
 returns-clause-durable g c =
-    only_then c.find_checkpoint.ensures.keeps.looks c.check.ensures.keeps.looks c.load_tables.ensures.looks c.in_ok-checkpoint.ensures.found
+    only_then c.find_checkpoint.ensures.looks c.check.ensures.keeps.looks c.load_tables.ensures.looks c.in_ok-checkpoint.ensures.found
     c.in_ok-walked.ensures.holds c.in_ok-checkpoint.ensures.durable

@@ -10,5 +10,5 @@ returns-in-Ok c =
       number = refl;
       made = (ensured.made.image tt, ensured.made.durable tt, ensured.made.volume tt);
       carries = ensured.making.carries;
-      any_moment = ensured.making.any_moment tt;
+      any_moment = ensured.making.any_moment (λ j k same. same) tt;
     }

@@ -3,7 +3,9 @@ use Rattle.lfs_device.proofs.Syncs.{synced_untouched}
 use Rattle.lfs_device.proofs.file.FileDeviceInSectorDevice.sync.Goals as goal
 
 pub returns-clause-untouched : goal.returns-clause-untouched
-returns-clause-untouched g c = synced_untouched (g.W.World.fate c.args.self.now.opened.value c.args.self.now.sectors) _ c.note-2.ensures
+returns-clause-untouched g c =
+    synced_untouched (g.W.World.fate c.args.self.now.opened.value c.args.self.now.sectors) _ c.in_default.ensures.synced
 
 pub returns-clause-carries : goal.returns-clause-carries
-returns-clause-carries g c = call_carries (g.W.World.fate c.args.self.now.opened.value c.args.self.now.sectors) _ _ c.note-2.ensures
+returns-clause-carries g c =
+    call_carries (g.W.World.fate c.args.self.now.opened.value c.args.self.now.sectors) _ _ c.in_default.ensures.synced

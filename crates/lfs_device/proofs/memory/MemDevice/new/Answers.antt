@@ -1,27 +1,20 @@
-use Rattle.std.proofs.Common.{◌∙◌, ap, replicate, rules}
-use Rattle.lfs_device.specs.declared.rows.Row.{Row}
-use Rattle.lfs_model.proofs.Cells.{zeros_are_bytes}
-use Rattle.lfs_device.proofs.Whole.{whole_if_new}
-use Rattle.lfs_device.proofs.Stops.{present_if_new, only_if_new}
-use Rattle.lfs_device.proofs.UnsyncedLists.{none_if_new}
+use Rattle.std.proofs.Common.{◌≡◌, ℕ, ◌∙◌, sym, subst}
+use Rattle.std.proofs.lemmas.Result.{IfOk-weaker}
+use Rattle.lfs_model.specs.Device.{AreSectors}
+use Rattle.lfs_device.specs.Units.{unit_from, unit_of}
+use Rattle.lfs_device.specs.declared.memory.MemDevice.{MemDevice}
+use Rattle.lfs_device.proofs.UnitBounds.{are_sectors, one_is}
 use Rattle.lfs_device.proofs.memory.MemDevice.new.Goals as goal
 
-pub returns-clause-zeros : goal.returns-clause-zeros
-returns-clause-zeros c =
-    present_if_new _ _ (c.in_ok-from_elem.ensures.items_if_clones_equal (λ y is. search rules)
-    ∙ ap (λ (r : Row). replicate c.args.sectors r) c.stands.ensures)
+abbrev Begins : MemDevice → Type 0
+Begins d = unit_of d.units ≡ unit_from 1 0
 
-pub returns-clause-durable : goal.returns-clause-durable
-returns-clause-durable c =
-    only_if_new _ _ _ _ (c.in_ok-from_elem.ensures.items_if_clones_equal (λ y is. search rules)
-    ∙ ap (λ (r : Row). replicate c.args.sectors r) c.stands.ensures)
+pub returns-clause-units : goal.returns-clause-units
+returns-clause-units c =
+    IfOk-weaker c.with_unit.result Begins (λ (d : MemDevice). AreSectors (unit_of d.units))
+    (λ d is. subst AreSectors (sym is) (are_sectors 0)) c.with_unit.ensures.unit
 
-pub invariant_of-result-clause-whole : goal.invariant_of-result-clause-whole
-invariant_of-result-clause-whole c =
-    whole_if_new _ _ zeros_are_bytes
-    (c.in_ok-from_elem.ensures.items_if_clones_equal (λ y is. search rules) ∙ ap (λ (r : Row). replicate c.args.sectors r) c.stands.ensures)
-
-pub invariant_of-result-clause-listed : goal.invariant_of-result-clause-listed
-invariant_of-result-clause-listed c =
-    none_if_new _ _ _ c.in_ok-with_capacity.ensures.items
-    (c.in_ok-from_elem.ensures.items_if_clones_equal (λ y is. search rules) ∙ ap (λ (r : Row). replicate c.args.sectors r) c.stands.ensures)
+pub returns-clause-unit : goal.returns-clause-unit
+returns-clause-unit c =
+    IfOk-weaker c.with_unit.result Begins (λ (d : MemDevice). unit_of d.units ≡ (λ (k : ℕ). k))
+    (λ d is. is ∙ (λ i k. one_is 0 k i)) c.with_unit.ensures.unit

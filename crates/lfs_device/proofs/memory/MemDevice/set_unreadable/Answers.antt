@@ -9,7 +9,7 @@ pub returns-clause-lost : goal.returns-clause-lost
 returns-clause-lost c = lost_row _ _ _ c.stands.ensures
 
 pub returns-clause-durable : goal.returns-clause-durable
-returns-clause-durable c = lost_leaves c.note.ensures _ _ c.stands.ensures
+returns-clause-durable c = lost_leaves _ c.note.ensures _ _ c.requires c.stands.ensures
 
 pub invariant_of-self-clause-listed : goal.invariant_of-self-clause-listed
 invariant_of-self-clause-listed c = let_go_of _ c.args.self.now.listed c.requires _ c.let_go.ensures.others c.stands.ensures

@@ -1,0 +1,51 @@
+-- Devices whose units are larger than a sector: what a stop within a write of one leaves, and what of that can't hurt. Drives write units
+-- of 4 KiB and more (their reports of a physical sector: SCSI's READ CAPACITY, ATA's IDENTIFY DEVICE). What one makes of them is an own
+-- choice.
+use Rattle.std.specs.Prelude.{◌≡◌, ◌↔◌, ◌<◌, ◌≤◌, ◌+◌, ◌*◌, ◌/◌, ℕ, zero, suc, List}
+use Rattle.lfs_model.specs.Checkpoint.{CheckpointValue}
+use Rattle.lfs_model.specs.Content.{Content}
+use Rattle.lfs_model.specs.Crash.{Keeps, IsFreeSector}
+use Rattle.lfs_model.specs.Device.{AreSectors, Cell, CrashWrites, CrashWritesUnit, DeviceState, LieWithin, MayWrite, MayWriteUnit}
+use Rattle.lfs_model.specs.Device.{in_units}
+use Rattle.lfs_model.specs.Reach.{view, segment_start}
+use Rattle.lfs_model.specs.Stands.{LogMap, StandsLog, used_in}
+use Rattle.lfs_model.specs.declared.limits.TheConstants.{SEGMENT_SECTORS}
+
+-- the units of a volume: each slot is one by itself, and the segments are cut into units of u sectors
+abbrev pub unit_by : ℕ → ℕ → ℕ
+unit_by u zero = 0
+unit_by u (suc zero) = 1
+unit_by u (suc (suc k)) = 2 + k / u
+
+-- A write to a sector that is a unit by itself does what it does where all units are sectors.
+abbrev pub UnitOfOne : Type 0
+UnitOfOne = (unit : ℕ → ℕ) (sector : ℕ) → ((k : ℕ) → unit k ≡ unit sector → k ≡ sector) → (bytes : List ℕ) (old new : List Cell)
+    → MayWriteUnit unit sector bytes old new ↔ MayWrite sector bytes old new
+
+-- Units that lie within larger ones: a write does no more harm than it may with those.
+abbrev pub UnitsWithin : Type 0
+UnitsWithin = (unit within : ℕ → ℕ) → LieWithin unit within → (sector : ℕ) (bytes : List ℕ) (old new : List Cell)
+    → MayWriteUnit unit sector bytes old new → MayWriteUnit within sector bytes old new
+
+-- So what a stop leaves of a device is what one leaves of the device as one of larger units.
+abbrev pub CrashWithin : Type 1
+CrashWithin = (unit : ℕ → ℕ) (old new : DeviceState) (sector : ℕ) (bytes : List ℕ) → new.unit ≡ old.unit
+    → CrashWritesUnit sector bytes old new → CrashWritesUnit sector bytes (in_units unit old) (in_units unit new)
+
+-- Where units are sectors, each sector is by itself.
+abbrev pub CrashOfSectors : Type 1
+CrashOfSectors = (old new : DeviceState) (sector : ℕ) (bytes : List ℕ) → AreSectors old.unit → CrashWritesUnit sector bytes old new
+    → CrashWrites sector bytes old new
+
+-- A write into a unit of which each sector is free leaves the acknowledged checkpoint as it is, at each stop.
+abbrev pub FreeUnitWrites : Type 0
+FreeUnitWrites = (unit : ℕ → ℕ) (c : Content) (m : LogMap) (s : StandsLog c m) (at : ℕ) (bytes : List ℕ)
+    → ((j : ℕ) → unit j ≡ unit at → IsFreeSector c s.checkpoint j) → (d d' : Content)
+    → Keeps c s.checkpoint d → MayWriteUnit unit at bytes d d' → Keeps c s.checkpoint d'
+
+-- Each is, where the used part of its segment ends on a unit, and units fill a segment.
+abbrev pub AlignedFree : Type 0
+AlignedFree = (u e f : ℕ) (c : Content) (k : CheckpointValue) (s place : ℕ) → 0 < u → e * u ≡ SEGMENT_SECTORS
+    → used_in (view c k) s ≡ f * u
+    → used_in (view c k) s ≤ place → place < SEGMENT_SECTORS → s < k.segments
+    → (j : ℕ) → unit_by u j ≡ unit_by u (segment_start s + place) → IsFreeSector c k j

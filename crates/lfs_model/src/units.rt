@@ -1,0 +1,23 @@
+//! The laws of units, each the contract of a function that does nothing.
+
+ghost use Rattle.lfs_model.specs.UnitLaws.{AlignedFree, FreeUnitWrites, UnitOfOne, UnitsWithin};
+
+/// A sector that is a unit by itself is written as where all units are sectors.
+pub fn unit_of_one()
+    ensures { UnitOfOne }
+{}
+
+/// Units within larger ones do no more harm than those may.
+pub fn units_lie_within()
+    ensures { UnitsWithin }
+{}
+
+/// A write into a unit that is free as a whole keeps what the acknowledged checkpoint needs.
+pub fn free_units_keep()
+    ensures { FreeUnitWrites }
+{}
+
+/// What lies behind a used part that ends on a unit is a free unit.
+pub fn units_behind_are_free()
+    ensures { AlignedFree }
+{}
