@@ -9,7 +9,7 @@ use Rattle.lfs_model.specs.Call.{Answer, Call}
 use Rattle.lfs_model.specs.Since.{AreKeptSince}
 use Rattle.lfs_model.specs.Use.{UsesVolume}
 use Rattle.lfs_model.proofs.Moments.{goes_on, same_orders}
-use Rattle.lfs_model.proofs.UnitStates.{units_carry, units_elapse}
+use Rattle.lfs_model.proofs.UnitStates.{units_carry, units_elapse, units_only}
 use Rattle.lfs_device.specs.MemoryDevice.{IsStopped, device_state}
 use Rattle.lfs_device.specs.declared.memory.MemDevice.{MemDevice}
 use Rattle.lfs_device.specs.declared.rows.Left.{Left}
@@ -279,6 +279,11 @@ module _ {mid new : MemDevice} {choices : List Left} {rest : Left} (stop : IsSto
       still_unused counts_in_sectors stop_carries (units_elapse (λ k. k) stop.carries stop.time) stop.same_failures left_in_sectors unused
 
 -- A device in memory that keeps its model in sectors keeps it: its units stay.
-pub keeps_in_memory : {d d' : MemDevice} → Carries (in_sectors device_state d) (in_sectors device_state d')
+pub keeps_in_memory : (d d' : MemDevice) → Carries (in_sectors device_state d) (in_sectors device_state d')
     → (in_sectors device_state d).keeps_model → (in_sectors device_state d').keeps_model
-keeps_in_memory carries keeps = (carries.kept_as 0 (omega (arith))).1 keeps
+keeps_in_memory d d' carries keeps = (carries.kept_as 0 (omega (arith))).1 keeps
+
+-- and where it is known what a stop leaves of it, this is known of it in sectors
+pub alone_in_sectors : (d : MemDevice) → Only (device_state d).content (device_state d)
+    → Only (in_sectors device_state d).content (in_sectors device_state d)
+alone_in_sectors d alone = units_only (λ k. k) (device_state d).content (device_state d) alone

@@ -1,9 +1,8 @@
 use Rattle.std.proofs.Common.{ap, rules}
 use Rattle.lfs_device.specs.MemoryDevice.{device_state}
 use Rattle.lfs_script.proofs.InTurnNoted.{all_told, more_told, none_told, stops_told}
-use Rattle.lfs_script.proofs.Used.{err_of, keeps_in_memory, ok_of}
+use Rattle.lfs_script.proofs.Used.{alone_in_sectors, err_of, keeps_in_memory, ok_of}
 use Rattle.lfs_model.specs.Device.{in_sectors}
-use Rattle.lfs_model.proofs.UnitStates.{units_only}
 use Rattle.lfs_script.proofs.noted.use_each_noted.Goals as goal
 
 pub loop-script-init : goal.loop-script-init
@@ -23,13 +22,13 @@ loop-script-init g c = λ keeps. (
 pub loop-script-preserved : goal.loop-script-preserved
 loop-script-preserved g c = λ keeps.
     let so_far = c.loop-script.invariant keeps in
-    let next = keeps_in_memory c.use_and_stop_noted.ensures.carries so_far.0 in (
+    let next = keeps_in_memory c.loop-script.current c.use_and_stop_noted.result.1 c.use_and_stop_noted.ensures.carries so_far.0 in (
       next,
       λ before calls given was. more_told
           (in_sectors device_state) c.args.strict c.args.scripts.now c.loop-script.script-index c.script-item.result
           c.loop-script-test.true (search rules) c.as_slice-reader.ensures.value _ _ _ _ _ _ _ _
           (so_far.1 before calls given was) (let session = ok_of _ c.in-Ok-default.is-0 c.use_and_stop_noted.ensures.ran in
-          (_, _, session, session.uses next)) (units_only (λ k. k) _ _ c.use_and_stop_noted.ensures.alone),
+          (_, _, session, session.uses next)) (alone_in_sectors c.use_and_stop_noted.result.1 c.use_and_stop_noted.ensures.alone),
     )
 
 pub returns-in-Err-default-clause-stopped : goal.returns-in-Err-default-clause-stopped
