@@ -3,3 +3,4 @@ pub mod Runs
 pub mod Tells
 pub mod Tried
 mod Available
+mod Numbers
