@@ -1,6 +1,9 @@
+pub mod Beginnings
 pub mod Carried
 pub mod Firsts
+pub mod KeptOrders
 pub mod Numbering
 pub mod Queues
+pub mod Sequences
 pub mod Syncs
 pub mod UnitOrders

@@ -16,16 +16,16 @@ pub counted_on : (queue told : List Order) (n : ℕ) → n ≡ as_told (length t
     → as_told (n + length queue) ≡ as_told (length (onto queue told))
 counted_on queue told n is = let all = length_onto queue told in omega (arith, is, all)
 
-begins_behind : (first told : List Order) (order : Order) → IsBeginning first told → IsBeginning first (order ∷ told)
+pub begins_behind : (first told : List Order) (order : Order) → IsBeginning first told → IsBeginning first (order ∷ told)
 unfolding IsBeginning
 begins_behind first told order begins = inr begins
 
-begins_whole : (told : List Order) → IsBeginning told told
+pub begins_whole : (told : List Order) → IsBeginning told told
 unfolding IsBeginning
 begins_whole [] = refl
 begins_whole (order ∷ told) = inl refl
 
-begins_before : (queue first told : List Order) → IsBeginning first told → IsBeginning first (onto queue told)
+pub begins_before : (queue first told : List Order) → IsBeginning first told → IsBeginning first (onto queue told)
 begins_before [] first told begins = begins
 begins_before (order ∷ queue) first told begins = begins_before queue first (order ∷ told) (begins_behind first told order begins)
 
@@ -34,14 +34,14 @@ unfolding IsBeginning
 begins_none [] = refl
 begins_none (order ∷ told) = inr (begins_none told)
 
-begins_short : (first told : List Order) → IsBeginning first told → length first ≤ length told
+pub begins_short : (first told : List Order) → IsBeginning first told → length first ≤ length told
 unfolding IsBeginning
 begins_short first [] is = let same = ap (λ (l : List Order). length l) is in omega (arith, same)
 begins_short first (order ∷ told) (inl is) = let same = ap (λ (l : List Order). length l) is in omega (arith, same)
 begins_short first (order ∷ told) (inr begins) = let le = begins_short first told begins in omega (arith, le)
 
 -- two beginnings of one length are the same
-begins_once : {a b : List Order} (told : List Order) → IsBeginning a told → IsBeginning b told → length a ≡ length b → a ≡ b
+pub begins_once : {a b : List Order} (told : List Order) → IsBeginning a told → IsBeginning b told → length a ≡ length b → a ≡ b
 unfolding IsBeginning
 begins_once [] one two same = one ∙ sym two
 begins_once (order ∷ told) (inl one) (inl two) same = one ∙ sym two
@@ -51,7 +51,7 @@ begins_once {a} (order ∷ told) (inr one) (inl two) same =
     let long = ap (λ (l : List Order). length l) two in let short = begins_short a told one in absurd (omega (arith, long, short, same))
 begins_once {a} {b} (order ∷ told) (inr one) (inr two) same = begins_once told one two same
 
-begins_less : (order : Order) (first told : List Order) → IsBeginning (order ∷ first) told → IsBeginning first told
+pub begins_less : (order : Order) (first told : List Order) → IsBeginning (order ∷ first) told → IsBeginning first told
 unfolding IsBeginning
 begins_less order first [] is = let same = ap (λ (l : List Order). length l) is in absurd (omega (arith, same))
 begins_less order first (x ∷ told) (inl is) =

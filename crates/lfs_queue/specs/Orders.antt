@@ -1,7 +1,7 @@
 -- What the orders to a device make of it, and what a stop leaves.
-use Rattle.std.specs.Prelude.{◌≡◌, ◌⊎◌, ℕ, ◌+◌, ◌^◌, ◌<◌, ◌≤◌, Some, List, [], ◌∷◌, length, refl}
+use Rattle.std.specs.Prelude.{◌≡◌, ℕ, ◌+◌, ◌^◌, ◌<◌, ◌≤◌, Some, List, [], ◌∷◌, length, refl}
 use Rattle.std.specs.List.{AllByRecursion}
-use Rattle.std.proofs.Common.{inl, inr, sym, ◌∙◌, ap, subst, arith, length-set}
+use Rattle.std.proofs.Common.{sym, ◌∙◌, ap, subst, length-set}
 use Rattle.lfs_model.specs.Device.{Cell, put, MayWriteUnit, left_new, IsSector, AreSectorBytes, DeviceState, IsLawful}
 use Rattle.lfs_model.proofs.Cells.{all_set, bytes_prop}
 use Rattle.lfs_model.proofs.UnitWrites.{to_unit, unit_cells}

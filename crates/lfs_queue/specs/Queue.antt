@@ -1,5 +1,5 @@
 -- A queue device as contracts see it.
-use Rattle.std.specs.Prelude.{◌≡◌, ◌+◌, ℕ, List, [], length, vec_capacity}
+use Rattle.std.specs.Prelude.{◌≡◌, ◌≤◌, ◌+◌, ℕ, List, [], length, vec_capacity}
 use Rattle.lfs_model.specs.Device.{Cell, DeviceState}
 use Rattle.lfs_queue.specs.Orders.{onto, done_of, count, queue_state_of}
 use Rattle.lfs_model.specs.declared.Order.{Order}
@@ -33,9 +33,19 @@ borne_by d = length (carried_of d) + room_of d
 abbrev pub queue_state : QueueDevice → DeviceState
 queue_state d = queue_state_of (λ k. k) d.sectors (start_of d) (told_of d) (count d.failed.value) (borne_by d)
 
--- all orders that waited were carried out, and there is room for as many more
+-- all orders that waited were carried out, none more has failed, and there is room for as many more
 pub record IsEmptied (old new : QueueDevice) : Type 0 where
   pub due : due_of new ≡ []
   pub carried : carried_of new ≡ onto (due_of old) (carried_of old)
   pub start : start_of new ≡ start_of old
+  pub failures : (queue_state new).failures ≡ (queue_state old).failures
   pub room : room_of new ≡ room_of old
+
+-- it holds what it held, and was told what it was told, and there is no less room
+pub record IsRoomier (old new : QueueDevice) : Type 0 where
+  pub size : new.sectors ≡ old.sectors
+  pub start : start_of new ≡ start_of old
+  pub due : due_of new ≡ due_of old
+  pub carried : carried_of new ≡ carried_of old
+  pub failures : (queue_state new).failures ≡ (queue_state old).failures
+  pub room : room_of old ≤ room_of new

@@ -3,9 +3,11 @@
 
 mod carrying;
 mod image;
+pub mod kept;
 pub mod numbers;
 mod order;
 mod queue;
+pub mod stops;
 pub mod units;
 
 pub use carrying::{are_within, carry};

@@ -42,9 +42,9 @@ pub struct QueueDevice {
 
 impl QueueDevice {
     ghost use Rattle.lfs_queue.specs.Images.{cells_of};
-    ghost use Rattle.std.specs.Prelude.{◌-◌, IfSome, IfNone};
+    ghost use Rattle.std.specs.Prelude.{◌+◌, ◌-◌, IfSome, IfNone};
     ghost use Rattle.lfs_queue.specs.Numbered.{HasNumber, IsNoneWaiting};
-    ghost use Rattle.lfs_queue.specs.Queue.{queue_state, start_of, due_of, carried_of, told_of, room_of};
+    ghost use Rattle.lfs_queue.specs.Queue.{IsRoomier, queue_state, start_of, due_of, carried_of, told_of, room_of};
 
     /// A device that holds an image and was told nothing, with room for so many orders. No call of
     /// it fails while fewer were told.
@@ -113,6 +113,24 @@ impl QueueDevice {
             return None;
         }
         Some(&self.queue[place as usize])
+    }
+
+    /// Takes memory for so many orders besides those that wait.
+    ///
+    /// # Errors
+    ///
+    /// Where memory is refused.
+    pub fn reserve(&mut self, orders: usize) -> Result<(), NoMemory>
+        ensures same { IsRoomier self.old self.new }
+        ensures room { OnOk result (length (due_of self.new) + orders ≤ room_of self.new) }
+        ensures bears { OnOk result ((n : ℕ) → n ≤ length (told_of self.new) + orders
+            → (queue_state self.new).bears n) }
+        ensures full { OnErr result (room_of self.old < length (due_of self.old) + orders) }
+    {
+        match self.queue.reserve(orders) {
+            Ok(()) => Ok(()),
+            Err(_) => Err(NoMemory),
+        }
     }
 
     /// All orders were carried out. There is room for as many more as before.
