@@ -21,4 +21,5 @@ mod mount
 mod widen
 mod scripts
 pub mod ScriptRuns
+pub mod CallRuns
 pub mod Sessions

@@ -8,7 +8,7 @@ use Rattle.std.proofs.Common.{length-append, slice_get, take, Some, ◌≤◌}
 use Rattle.std.proofs.lemmas.List.{length-map, take-append-le, take_all}
 use Rattle.std.proofs.lemmas.Option.{slice_get_within}
 use Rattle.std.proofs.lemmas.List.Elements.{Contains-append_left, Contains-append_right}
-use Rattle.lfs_model.specs.Run.{LineRun}
+use Rattle.lfs_model.specs.Run.{LineRun, RunOf}
 use Rattle.lfs_model.proofs.CrashRuns.{IsRunSoFar, leaves_first, leaves_more}
 use Rattle.lfs_model.proofs.Lefts.{left_only}
 use Rattle.lfs_model.proofs.Moments.{weaker}
@@ -22,14 +22,17 @@ use Rattle.lfs_fs.proofs.scripts.Lines.{StepsLine, left_none, line_carries, line
 
 -- ---- the points of a run
 
--- one line more
-run_more : (N : ℕ) (p : Point) (lines : List Line) (answers : List Answer) (points : List Point) (line : Line) (answer : Answer)
-    (next : Point) → LineRun N p lines answers points
-    → LineAnswers N line (final p points) answer next → LineRun N p (lines ++ line ∷ []) (answers ++ answer ∷ []) (points ++ next ∷ [])
-run_more N p [] [] [] line answer next run more = (more, tt)
-run_more N p (l ∷ lines) (a ∷ answers) (q ∷ points) line answer next run more =
-    (run.0, run_more N q lines answers points line answer next run.1 more)
-run_more N p lines answers points line answer next run more = absurd run
+-- one line or call more
+pub run_more : {A : Type 0} (Does : A → Point → Answer → Point → Type 0) (p : Point) (xs : List A) (answers : List Answer)
+    (points : List Point) (x : A) (answer : Answer) (next : Point) → RunOf Does p xs answers points
+    → Does x (final p points) answer next → RunOf Does p (xs ++ x ∷ []) (answers ++ answer ∷ []) (points ++ next ∷ [])
+run_more Does p [] [] [] x answer next run more = (more, tt)
+run_more Does p (y ∷ xs) (a ∷ answers) (q ∷ points) x answer next run more =
+    (run.0, run_more Does q xs answers points x answer next run.1 more)
+run_more Does p [] [] (q ∷ points) x answer next run more = absurd run
+run_more Does p [] (a ∷ answers) points x answer next run more = absurd run
+run_more Does p (y ∷ xs) [] points x answer next run more = absurd run
+run_more Does p (y ∷ xs) (a ∷ answers) [] x answer next run more = absurd run
 
 -- one answer and one point for each line
 line_lengths : (N : ℕ) (p : Point) (lines : List Line) (answers : List Answer) (points : List Point) → LineRun N p lines answers points
@@ -48,7 +51,7 @@ so_far N p lines answers points run =
       at = ap (slice_get (p ∷ points)) h.0 ∙ at_final p points;
     }
 
-final_more : (p : Point) (points : List Point) (next : Point) → final p (points ++ next ∷ []) ≡ next
+pub final_more : (p : Point) (points : List Point) (next : Point) → final p (points ++ next ∷ []) ≡ next
 final_more p [] next = refl
 final_more p (q ∷ points) next = final_more q points next
 
@@ -77,11 +80,11 @@ next_state points next = rw (states_more points next)
 
 -- ---- what a stop leaves
 
-abbrev OneOf : DeviceState → List State → Content → Type 0
+abbrev pub OneOf : DeviceState → List State → Content → Type 0
 OneOf d ss c = (s : State) × Stands c s × (Left d s ⊎ Contains ss s)
 
 -- where a stop at the start left one state alone, the states of the points are all
-moments_from : {a b : DeviceState} (p : Point) (points : List Point) → LeavesStates a b (left_states (p ∷ points))
+pub moments_from : {a b : DeviceState} (p : Point) (points : List Point) → LeavesStates a b (left_states (p ∷ points))
     → LeavesOne a (drop_nameless p.state) → LeavesOnly a b (StandsForSome (p ∷ points))
 moments_from {a} {b} p points leaves one =
     weaker (OneOf a (left_states (p ∷ points))) (StandsForSome (p ∷ points)) (λ c is. (is.0, each is.0 is.2, is.1)) leaves
@@ -119,7 +122,7 @@ module _ (a b c : DeviceState) (p : Point) (points : List Point) (next : Point) 
       rw (← same) (more was.0 was.2)
   then_one one s (inr of) = inr (at_index of.0 of.1 of.2)
 
-  leaves_step : LeavesStates a b so_far_states → LeavesStates b c pair → LeavesStates a c all
+  pub leaves_step : LeavesStates a b so_far_states → LeavesStates b c pair → LeavesStates a c all
   leaves_step one two = joined (OneOf a so_far_states) (OneOf b pair) (OneOf a all) one two (λ x is. (is.0, is.1, more is.0 is.2))
       (λ x is. (is.0, is.1, then_one one is.0 is.2))
 
@@ -186,7 +189,7 @@ module _ {D : Type 0} {state : D → DeviceState} (lawful : (d : D) → IsLawful
         let leaves = leaves_step (state old.log.device) (state mid.log.device) (state new.log.device) p ran.points step.next
         (lawful mid.log.device) ran.leaves step.leaves in record {
           points = ran.points ++ step.next ∷ [];
-          run = run_more (segments_of old) p lines answers ran.points line answer step.next ran.run step.does;
+          run = run_more (LineAnswers (segments_of old)) p lines answers ran.points line answer step.next ran.run step.does;
           at = subst (IsAt state new) (sym (final_more p ran.points step.next)) step.at;
           leaves = leaves;
           moments = moments_from p (ran.points ++ step.next ∷ []) leaves;

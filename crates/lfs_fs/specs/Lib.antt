@@ -11,6 +11,7 @@ pub mod Mounting
 pub mod Reading
 pub mod Naming
 pub mod Scripts
+pub mod InARow
 pub mod Drafted
 pub mod Renaming
 pub mod Upgrading

@@ -9,6 +9,7 @@ mod finishing;
 mod fs;
 mod handles;
 mod hard_links;
+pub mod laws;
 mod linking;
 mod listing;
 mod mounting;

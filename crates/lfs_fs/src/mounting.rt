@@ -137,6 +137,8 @@ impl<D: TendedDevice> Fs<D> {
     pub fn tend(&mut self)
         ensures tended { D.tends (seen self.old).log.device (seen self.new).log.device }
         ensures still { IsStill (in_sectors D.SectorDevice.state) (seen self.old) (seen self.new) }
+        ensures no_failure { (D.SectorDevice.state (seen self.new).log.device).failures
+            ≡ (D.SectorDevice.state (seen self.old).log.device).failures }
     {
         self.store.tend();
     }

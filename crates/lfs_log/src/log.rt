@@ -728,6 +728,8 @@ impl<D: TendedDevice> Log<D> {
     pub fn tend(&mut self)
         ensures tended { D.tends self.old.device self.new.device }
         ensures reads { Reads D.SectorDevice.state self.old self.new }
+        ensures no_failure { (D.SectorDevice.state self.new.device).failures
+            ≡ (D.SectorDevice.state self.old.device).failures }
     {
         self.device.tend();
     }

@@ -76,6 +76,8 @@ impl<D: TendedDevice> Store<D> {
         ensures reads { Reads D.SectorDevice.state (volume_of self.old) (volume_of self.new) }
         ensures draft { draft_of self.new ≡ draft_of self.old }
         ensures drafted { drafted_of self.new ≡ drafted_of self.old }
+        ensures no_failure { (D.SectorDevice.state (volume_of self.new).device).failures
+            ≡ (D.SectorDevice.state (volume_of self.old).device).failures }
     {
         self.log.tend();
     }

@@ -1,13 +1,22 @@
--- One line of a script on a volume at a point: a step of a run, and what a stop in it leaves.
-use Rattle.lfs_fs.proofs.Prelude.{◌≡◌, ◌⊎◌, ℕ, true, false, List, [], ◌∷◌, refl, sym, ◌∙◌, ap, inl, inr, arith, Answer, Refuse}
+-- One call, or one line of a script, on a volume at a point: a step of a run, and what a stop in it leaves.
+use Rattle.lfs_fs.proofs.Prelude.{◌≡◌, ◌⊎◌, ℕ, true, false, List, [], ◌∷◌, refl, sym, ◌∙◌, ap, inl, inr, arith, Answer, Call, Refuse}
 use Rattle.lfs_fs.proofs.Prelude.{DeviceState, IsLawful, Carries, Halted, LineAnswers, Point, acknowledges, Line, call_of, State}
 use Rattle.lfs_fs.proofs.Prelude.{drop_nameless, LeavesOne, LeavesStates, Left, Stands, carries_none, started, ServesLine, IsAt, LeavesSome}
 use Rattle.lfs_fs.proofs.Prelude.{Mounted, Serves, segments_of, Contains}
 use Rattle.lfs_model.specs.Refusal.{NoMemory}
+use Rattle.lfs_model.specs.Run.{Answers}
 use Rattle.lfs_fs.proofs.calls.Drafts.{not_acknowledged}
 
 module _ {D : Type 0} (state : D → DeviceState) where
-  -- a line of a run on a volume of N segments
+  -- a call of a run on a volume of N segments
+  pub record StepsCall (N : ℕ) (old new : Mounted D) (call : Call) (answer : Answer) (p : Point) : Type 0 where
+    pub next : Point
+    pub at : IsAt state new next
+    pub does : Answers N call p answer next
+    pub leaves : LeavesStates (state old.log.device) (state new.log.device) (drop_nameless p.state ∷ drop_nameless next.state ∷ [])
+    pub saves : acknowledges call answer ≡ true → LeavesOne (state new.log.device) (drop_nameless next.state)
+
+  -- a line of one
   pub record StepsLine (N : ℕ) (old new : Mounted D) (line : Line) (answer : Answer) (p : Point) : Type 0 where
     pub next : Point
     pub at : IsAt state new next
@@ -33,48 +42,55 @@ module _ {D : Type 0} (state : D → DeviceState) where
       saves = λ e. absurd (none e);
     }
 
-    -- one of a volume that was halted
-    line_halted : (N : ℕ) (v : Mounted D) (line : Line) (p : Point) → IsAt state v p → v.log.halted ≡ true
-        → StepsLine N v v line (Refuse Halted) p
-    line_halted N v line p at was = stays N v line p at (inl (record {
-      steps = inr (Halted, refl, inl (at.halted ∙ was), refl);
-      halted = λ e. refl;
-      halts = λ e. at.halted ∙ was;
-      goes_on = λ e. refl;
-      first_halted = λ e. inl (at.halted ∙ was);
-      failures = omega arith;
-      failed_orders = omega arith;
-      failed_reads = omega arith;
-      number = omega arith;
-      few = omega arith;
-      quiet = λ e. refl;
-    }))
-        (not_acknowledged (call_of line) Halted)
+    -- a call of a volume that was halted
+    call_halted : (N : ℕ) (v : Mounted D) (call : Call) (p : Point) → IsAt state v p → v.log.halted ≡ true
+        → StepsCall N v v call (Refuse Halted) p
+    call_halted N v call p at was = record {
+      next = p;
+      at = at;
+      does = record {
+        steps = inr (Halted, refl, inl (at.halted ∙ was), refl);
+        halted = λ e. refl;
+        halts = λ e. at.halted ∙ was;
+        goes_on = λ e. refl;
+        first_halted = λ e. inl (at.halted ∙ was);
+        failures = omega arith;
+        failed_orders = omega arith;
+        failed_reads = omega arith;
+        number = omega arith;
+        few = omega arith;
+        quiet = λ e. refl;
+      };
+      leaves = left_none (drop_nameless p.state ∷ drop_nameless p.state ∷ []) (lawful v.log.device) at.leaves;
+      saves = λ e. absurd (not_acknowledged call Halted e);
+    }
+
+    pub call_steps : (old new : Mounted D) (call : Call) (answer : Answer) (N : ℕ) {p : Point}
+        → (old.log.halted ≡ false → segments_of old ≡ N) → (state new.log.device).keeps_model → IsAt state old p
+        → Serves state old new call answer → StepsCall N old new call answer p
+    call_steps old new call answer N {p} same keeps at serves =
+        elim old.log.halted as (λ b. old.log.halted ≡ b → StepsCall N old new call answer p) [
+          | true ↦ λ was. (
+              let none = serves.orderly was in
+              rw none.1 (rw none.0 (call_halted N old call p at was)))
+          | false ↦ λ was. (
+              let served = serves.model p keeps at in record {
+                next = served.next;
+                at = served.at;
+                does = rw (same was) at served.answers;
+                leaves = served.leaves;
+                saves = served.saves;
+              })
+        ] refl
 
     module _ (old new : Mounted D) (line : Line) (answer : Answer) where
-      -- the line's call
-      line_served : (N : ℕ) (p : Point) → (old.log.halted ≡ false → segments_of old ≡ N) → (state new.log.device).keeps_model
-          → IsAt state old p → Serves state old new (call_of line) answer
-          → StepsLine N old new line answer p
-      line_served N p same keeps at serves = elim old.log.halted as (λ b. old.log.halted ≡ b → StepsLine N old new line answer p) [
-        | true ↦ λ was. (
-            let none = serves.orderly was in
-            rw none.1 (rw none.0 (line_halted N old line p at was)))
-        | false ↦ λ was. (
-            let served = serves.model p keeps at in record {
-              next = served.next;
-              at = served.at;
-              does = inl (rw (same was) at served.answers);
-              leaves = served.leaves;
-              saves = served.saves;
-            })
-      ] refl
-
       -- a line, its call made or not
       pub line_steps : (N : ℕ) {p : Point} → (old.log.halted ≡ false → segments_of old ≡ N) → (state new.log.device).keeps_model
           → IsAt state old p → ServesLine state old new line answer
           → StepsLine N old new line answer p
-      line_steps N {p} same keeps at (inl serves) = line_served N p same keeps at serves
+      line_steps N same keeps at (inl serves) =
+          let step = call_steps old new (call_of line) answer N same keeps at serves in
+          record { next = step.next; at = step.at; does = inl step.does; leaves = step.leaves; saves = step.saves }
       line_steps N {p} same keeps at (inr none) =
           rw none.2 (stays N old line {answer = answer} p at (inr (none.0, none.1, refl))
           (λ e. not_acknowledged (call_of line) NoMemory (rw none.1 at e)))
