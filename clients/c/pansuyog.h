@@ -32,8 +32,8 @@
  *
  * Memory. The library keeps the sectors, of 514 bytes each, the orders that wait, of 520 each, and 0.7 to 4.7 MB besides. Where memory
  * for an order is refused the volume is halted, as by a device that failed: unmount it, and begin anew. pansuyog_mount takes memory for
- * `room` orders before; 1,100 are enough, where orders are carried out after each call, unless the cleaner has to make much room at once
- * on a large volume that is nearly full. Then more memory is asked for.
+ * `room` orders before, besides those that wait; 1,100 are enough, where orders are carried out after each call, unless the cleaner has
+ * to make much room at once on a large volume that is nearly full. Then more memory is asked for.
  *
  * So many orders come of one call of a mounted volume at most, also where it is refused, where the volume has N segments:
  *  - none of a call that only reads, nor of pansuyog_open and pansuyog_close;
@@ -71,10 +71,11 @@ int32_t pansuyog_begin(pansuyog *volume, uint32_t sectors);
 int32_t pansuyog_give(pansuyog *volume, uint32_t first, const void *bytes, size_t length);
 
 /* Makes an empty volume of 64 to 1,024 segments, a multiple of 8, in version 1 or 2 of the layout. It takes 2 + 64 * segments sectors.
- * Memory for `room` orders is taken. INVAL, TOO_SMALL, NO_MEMORY (what was given is gone then), ALREADY_MOUNTED. */
+ * Memory for `room` orders is taken, besides those that wait. INVAL, TOO_SMALL, ALREADY_MOUNTED; NO_MEMORY, also where memory for an
+ * order is refused. Where sectors were given and no memory is taken for `room` orders, they are gone. */
 int32_t pansuyog_format(pansuyog *volume, uint32_t segments, uint32_t version, uint32_t room);
-/* Mounts the volume that the sectors hold, with no open handles. It writes nothing. INVAL where no sectors were given; NO_MEMORY,
- * DEVICE, TOO_SMALL, NO_CHECKPOINT, DAMAGED, ALREADY_MOUNTED. */
+/* Mounts the volume that the sectors hold, with no open handles. It writes nothing. Memory is taken as by pansuyog_format. INVAL where no
+ * sectors were given; NO_MEMORY, TOO_SMALL, NO_CHECKPOINT, DAMAGED, ALREADY_MOUNTED. */
 int32_t pansuyog_mount(pansuyog *volume, uint32_t room);
 /* Saves nothing: call pansuyog_sync before. Orders that wait stay. It can be mounted again without reading the device. NOT_MOUNTED. */
 int32_t pansuyog_unmount(pansuyog *volume);

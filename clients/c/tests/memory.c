@@ -50,7 +50,14 @@ int main(int argc, char **argv) {
     volume.inside = NULL;
     check(pansuyog_new(&volume) == PANSUYOG_NO_MEMORY && volume.inside == NULL);
     calls_left = -1;
-    check(pansuyog_new(&first) == 0 && pansuyog_begin(&first, SECTORS(SEGMENTS)) == 0 && pansuyog_format(&first, SEGMENTS, 1, 0) == 0);
+    check(pansuyog_new(&first) == 0 && pansuyog_begin(&first, SECTORS(SEGMENTS)) == 0);
+    /* No memory for the first order; then none for 8 orders on the device that is there. */
+    calls_left = 0;
+    check(pansuyog_format(&first, SEGMENTS, 1, 0) == PANSUYOG_NO_MEMORY);
+    calls_left = 0;
+    check(pansuyog_format(&first, SEGMENTS, 1, 8) == PANSUYOG_NO_MEMORY);
+    calls_left = -1;
+    check(pansuyog_format(&first, SEGMENTS, 1, 0) == 0);
     carry(&first);
     check(pansuyog_mount(&first, ROOM) == 0 && pansuyog_create(&first, PATH("/kept")) == 0 && pansuyog_sync(&first) == 0);
     carry(&first);

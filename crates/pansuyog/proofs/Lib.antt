@@ -4,3 +4,5 @@ pub mod Tells
 pub mod Tried
 mod Available
 mod Numbers
+mod CallsInARow
+mod Standing

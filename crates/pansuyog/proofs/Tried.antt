@@ -1,7 +1,11 @@
 -- A volume that was taken from its handle.
-use Rattle.std.proofs.Common.{◌≡◌, ℕ, ℤ, None, sym, subst}
+use Rattle.std.proofs.Common.{◌≡◌, ◌∙◌, ℕ, ℤ, None, ap, refl, sym, subst}
+use mir.Syntax.{w32}
+use mir.Val.{of_z, to_z}
+use Rattle.pansuyog_calls.specs.Codes.{already_mounted, inval, no_memory}
 use Rattle.lfs_queue.specs.declared.queue.QueueDevice.{QueueDevice}
-use Rattle.pansuyog.specs.Making.{IsTaken, Makes, MakesFrom, MakesOn, MountsFrom, MountsOn, is_tried, was_tried}
+use Rattle.pansuyog.specs.Making.{IsNotTaken, IsTaken, Makes, MakesFrom, MakesOn, MountsFrom, MountsOn, is_full, is_mounted, is_not_tried}
+use Rattle.pansuyog.specs.Making.{is_nothing, is_refused, is_tried, was_not_tried, was_tried}
 use Rattle.pansuyog.specs.declared.handle.Source.TheVariants.{Device}
 use Rattle.pansuyog.specs.declared.handle.Volume.{Volume}
 
@@ -22,3 +26,27 @@ make_tried new {room} {segments} {version} code device after same none taken lis
     let on : MakesOn segments version device new.fs new.source code =
     subst (λ s. MakesOn segments version device new.fs s code) (sym source) here in
     subst (λ (v : Volume). MakesFrom v new room segments version code) same (was_tried device none taken on listing)
+
+-- ---- none was taken: the number is of 32 bits
+abbrev as_told : ℤ → ℤ
+as_told code = to_z w32 (of_z w32 code)
+
+same : (code told : ℤ) → as_told told ≡ told → code ≡ told → as_told code ≡ told
+same code told fits is = ap as_told is ∙ fits
+
+told : {old new : Volume} {code : ℤ} → IsNotTaken old new code → IsNotTaken old new (as_told code)
+told {code} (is_mounted some is stays) = is_mounted some (same code already_mounted refl is) stays
+told {code} (is_nothing none is stays) = is_nothing none (same code inval refl is) stays
+told {code} (is_refused none is unmounted nothing listing) = is_refused none (same code no_memory refl is) unmounted nothing listing
+told {code} (is_full was device none from is unmounted kept roomier listing) =
+    is_full was device none from (same code no_memory refl is) unmounted kept roomier listing
+
+pub mount_not_tried : {held old new : Volume} {room : ℕ} {code : ℤ} → held ≡ old → IsNotTaken held new code
+    → MountsFrom old new room (as_told code)
+mount_not_tried {new} {room} {code} same refused =
+    subst (λ (v : Volume). MountsFrom v new room (as_told code)) same (is_not_tried (told refused))
+
+pub make_not_tried : {held old new : Volume} {room segments version : ℕ} {code : ℤ} → held ≡ old → IsNotTaken held new code
+    → MakesFrom old new room segments version (as_told code)
+make_not_tried {new} {room} {segments} {version} {code} same refused =
+    subst (λ (v : Volume). MakesFrom v new room segments version (as_told code)) same (was_not_tried (told refused))

@@ -1,6 +1,9 @@
 pub mod Available
+pub mod InARow
+pub mod Beginning
 pub mod Lending
 pub mod Making
 pub mod Orders
 pub mod Serving
 pub mod Sources
+pub mod Standing

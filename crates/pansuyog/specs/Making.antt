@@ -1,5 +1,5 @@
 -- What a mount and the making of a volume are of.
-use Rattle.std.specs.Prelude.{◌≡◌, ◌≢◌, ◌<◌, ◌≤◌, ◌+◌, ◌*◌, ℕ, ℤ, pos, [], ◌∷◌, Option, Some, None, Result, Ok, Err}
+use Rattle.std.specs.Prelude.{◌≡◌, ◌≢◌, ◌<◌, ◌≤◌, ◌+◌, ◌*◌, ℕ, ℤ, pos, [], ◌∷◌, length, Option, Some, None, Result, Ok, Err}
 use Rattle.lfs_model.specs.Checkpoint.{IsSegmentCount, IsVersion}
 use Rattle.lfs_model.specs.Device.{Carries, IsUntouched, LeavesOnly, Only, in_sectors}
 use Rattle.lfs_model.specs.Image.{IsNew, new_form}
@@ -14,10 +14,11 @@ use Rattle.lfs_fs.specs.Mounting.{FindsState, IsRefused, MountsFs}
 use Rattle.lfs_fs.specs.Seen.{seen}
 use Rattle.lfs_fs.specs.declared.fs.Fs.{Fs}
 use Rattle.lfs_queue.specs.Images.{cells_of}
-use Rattle.lfs_queue.specs.Queue.{queue_state, room_of, start_of, told_of}
+use Rattle.lfs_queue.specs.Queue.{IsRoomier, due_of, queue_state, room_of, start_of, told_of}
 use Rattle.lfs_queue.specs.declared.image.Image.{Image as Given}
 use Rattle.lfs_queue.specs.declared.queue.QueueDevice.{QueueDevice}
 use Rattle.lfs_store.specs.log.verify.declared.fault.MountFault.{MountFault}
+use Rattle.lfs_store.specs.log.verify.declared.fault.MountFault.TheVariants as mount_fault
 use Rattle.pansuyog_calls.specs.Codes.{already_mounted, code_of_format_fault, code_of_mount_fault, inval, no_memory, not_mounted}
 use Rattle.pansuyog.specs.declared.handle.Source.{Source}
 use Rattle.pansuyog.specs.declared.handle.Source.TheVariants.{Nothing, Image, Device}
@@ -29,17 +30,24 @@ pub record IsNewDevice (image : Given) (room : ℕ) (device : QueueDevice) : Typ
   pub told : told_of device ≡ []
   pub reserved : room ≤ room_of device
 
+-- A device that was there, with room for so many orders besides those that wait.
+pub record IsReserved (was : QueueDevice) (room : ℕ) (device : QueueDevice) : Type 0 where
+  pub same : IsRoomier was device
+  pub reserved : length (due_of device) + room ≤ room_of device
+
 -- the device that is taken from a source
 abbrev pub IsTaken : Source → ℕ → QueueDevice → Type 0
 IsTaken Nothing room device = ⊥
 IsTaken (Image image) room device = IsNewDevice image room device
-IsTaken (Device was) room device = device ≡ was
+IsTaken (Device was) room device = IsReserved was room device
 
--- Why none is: a volume is mounted, nothing was given, or memory is refused, and then what was given is gone.
+-- Why none is: a volume is mounted, nothing was given, or memory is refused. Sectors that were given are gone then, and a device stays.
 pub data IsNotTaken (old new : Volume) (code : ℤ) : Type 0 where
   is_mounted : old.fs ≢ None → code ≡ already_mounted → new ≡ old → IsNotTaken old new code
   is_nothing : old.source ≡ Nothing → code ≡ inval → new ≡ old → IsNotTaken old new code
   is_refused : old.fs ≡ None → code ≡ no_memory → new.fs ≡ None → new.source ≡ Nothing → new.listing ≡ old.listing → IsNotTaken old new code
+  is_full : (was device : QueueDevice) → old.fs ≡ None → old.source ≡ Device was → code ≡ no_memory → new.fs ≡ None
+      → new.source ≡ Device device → IsRoomier was device → new.listing ≡ old.listing → IsNotTaken old new code
 
 -- The device's volume is mounted, over the device that is in it then.
 pub record Mounts (device : QueueDevice) (fs : Fs QueueDevice) : Type 0 where
@@ -59,9 +67,14 @@ pub record IsNotMounted (old new : QueueDevice) (fault : MountFault) : Type 0 wh
   pub carries : Carries (in_sectors queue_state old) (in_sectors queue_state new)
   pub any_moment : LeavesOnly (in_sectors queue_state old) (in_sectors queue_state new) (in_sectors queue_state old).may_leave
 
+-- The number of a fault. A call of a queue device fails only where memory for an order is refused.
+abbrev pub code_of_mounting : MountFault → ℤ
+code_of_mounting mount_fault.Device = no_memory
+code_of_mounting fault = code_of_mount_fault fault
+
 abbrev pub MountsOn : QueueDevice → Option (Fs QueueDevice) → Source → ℤ → Type 0
 MountsOn device (Some fs) Nothing code = (code ≡ pos 0) × Mounts device fs
-MountsOn device None (Device after) code = (fault : MountFault) × (code ≡ code_of_mount_fault fault) × IsNotMounted device after fault
+MountsOn device None (Device after) code = (fault : MountFault) × (code ≡ code_of_mounting fault) × IsNotMounted device after fault
 MountsOn device fs source code = ⊥
 
 -- A mount from what a volume holds: it was done or refused on a device that was taken, or none was taken.
@@ -82,6 +95,7 @@ IsMade segments version old new (Err format_fault.Device) = (queue_state old).fa
 
 abbrev pub code_of_making : Result (Unit {0}) FormatFault → ℤ
 code_of_making (Ok done) = pos 0
+code_of_making (Err format_fault.Device) = no_memory
 code_of_making (Err fault) = code_of_format_fault fault
 
 -- An empty volume was to be made on a device.

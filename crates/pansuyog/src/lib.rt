@@ -4,10 +4,12 @@
 
 mod files;
 mod handle;
+pub mod laws;
 mod listing;
 mod making;
 mod names;
 mod orders;
+mod place;
 pub mod rooms;
 mod saving;
 mod source;

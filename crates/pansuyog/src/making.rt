@@ -1,20 +1,29 @@
 //! A volume is made, mounted and unmounted.
 ghost use Rattle.std.specs.Prelude.{◌≡◌, None, IfOk, IfErr};
-ghost use Rattle.pansuyog.specs.Making.{IsNotTaken, IsTaken, Makes, MakesFrom, MountsFrom, MountsOn, Unmounts};
+ghost use Rattle.pansuyog.specs.Making.{
+  IsNotTaken,
+  IsTaken,
+  Makes,
+  MakesFrom,
+  MountsFrom,
+  MountsOn,
+  Unmounts,
+  code_of_mounting,
+};
 ghost use Rattle.pansuyog.specs.Serving.{KeepsListing};
 ghost use Rattle.pansuyog.specs.declared.handle.Source.TheVariants as source_of;
 
 use crate::handle::{Handle, Source, Volume};
-use lfs_fs::{FormatFault, Fs, format_version};
+use lfs_fs::{FormatFault, Fs, MountFault, format_version};
 use lfs_queue::QueueDevice;
 use pansuyog_calls::codes::{
-    ALREADY_MOUNTED, DEVICE, INVAL, NO_MEMORY, NOT_MOUNTED, TOO_SMALL, code_of_mount,
+    ALREADY_MOUNTED, INVAL, NO_MEMORY, NOT_MOUNTED, TOO_SMALL, code_of_mount,
 };
 use std::alloc::Global;
 use std::mem;
 
 /// The device that a volume is to be made on or mounted from: one that none is mounted on any more,
-/// or one that holds the sectors that were given.
+/// or one that holds the sectors that were given. It has room for so many orders.
 fn take_device(alloc: Global, volume: &mut Volume, room: u32) -> Result<QueueDevice, i32>
     ensures unmounted { IfOk result (λ device. volume.old.fs ≡ None) }
     ensures taken { IfOk result (λ device. IsTaken volume.old.source room device) }
@@ -27,7 +36,13 @@ fn take_device(alloc: Global, volume: &mut Volume, room: u32) -> Result<QueueDev
         return Err(ALREADY_MOUNTED);
     }
     match mem::replace(&mut volume.source, Source::Nothing) {
-        Source::Device(device) => Ok(device),
+        Source::Device(mut device) => match device.reserve(room as usize) {
+            Ok(()) => Ok(device),
+            Err(_) => {
+                volume.source = Source::Device(device);
+                Err(NO_MEMORY)
+            }
+        },
         Source::Image(image) => match QueueDevice::new(alloc, image, room as usize) {
             Ok(device) => Ok(device),
             Err(_) => Err(NO_MEMORY),
@@ -36,7 +51,7 @@ fn take_device(alloc: Global, volume: &mut Volume, room: u32) -> Result<QueueDev
     }
 }
 
-/// Makes an empty volume on a device.
+/// Makes an empty volume on a device. It fails only where memory for an order is refused.
 fn make_on(device: &mut QueueDevice, segments: u32, version: u32) -> i32
     ensures { Makes segments version device.old device.new result }
 {
@@ -44,7 +59,7 @@ fn make_on(device: &mut QueueDevice, segments: u32, version: u32) -> i32
         Ok(()) => 0,
         Err(FormatFault::Inval) => INVAL,
         Err(FormatFault::TooSmall) => TOO_SMALL,
-        Err(FormatFault::Device) => DEVICE,
+        Err(FormatFault::Device) => NO_MEMORY,
     }
 }
 
@@ -69,6 +84,17 @@ pub extern "C" fn pansuyog_format(
     code
 }
 
+/// The number of a mount that is refused. A call of the device fails only where memory for an order
+/// is refused.
+fn code_of(fault: MountFault) -> i32
+    ensures { result ≡ code_of_mounting fault }
+{
+    match fault {
+        MountFault::Device => NO_MEMORY,
+        other => code_of_mount(other),
+    }
+}
+
 /// Mounts a device's volume, where none is mounted.
 fn mount_on(alloc: Global, volume: &mut Volume, device: QueueDevice) -> i32
     requires unmounted { volume.old.fs ≡ None }
@@ -83,7 +109,7 @@ fn mount_on(alloc: Global, volume: &mut Volume, device: QueueDevice) -> i32
         }
         Err((fault, device)) => {
             volume.source = Source::Device(device);
-            code_of_mount(fault)
+            code_of(fault)
         }
     }
 }

@@ -2,19 +2,22 @@
 ghost use Rattle.std.specs.Prelude.{◌≡◌, ◌≤◌, ◌+◌, ◌⊎◌, ℕ, pos, None, length, replicate};
 ghost use Rattle.lfs_queue.specs.Images.{cells_of};
 ghost use Rattle.pansuyog_calls.specs.Codes.{no_memory};
+ghost use Rattle.pansuyog.specs.Beginning.{Begins};
 ghost use Rattle.pansuyog.specs.Sources.{AreGiven, Gives, HoldsCells, sectors_in};
 ghost use Rattle.pansuyog.specs.Serving.{KeepsListing};
 ghost use Rattle.pansuyog.specs.declared.handle.Source.TheVariants as source_of;
 
-use crate::handle::{Handle, Source, Volume, expose};
+use crate::handle::{Handle, Source, Volume};
+use crate::place::Place;
 use lfs_queue::Image;
 use pansuyog_calls::codes::{INVAL, NO_MEMORY};
+use pansuyog_heap::Loose;
 use std::alloc::Global;
 
 /// A volume that holds nothing, whose address is put into C's memory.
 #[unsafe(no_mangle)]
-pub extern "C" fn pansuyog_new(alloc: Global, at: &mut *mut u8) -> i32
-    ensures { (result ≡ pos 0) ⊎ ((result ≡ no_memory) × (at.new ≡ at.old)) }
+pub extern "C" fn pansuyog_new(alloc: Global, at: &mut Place) -> i32
+    ensures { Begins at.old at.new result }
 {
     let volume = Volume {
         fs: None,
@@ -23,7 +26,7 @@ pub extern "C" fn pansuyog_new(alloc: Global, at: &mut *mut u8) -> i32
     };
     match Box::new(alloc, volume) {
         Ok(volume) => {
-            *at = expose(volume);
+            *at = Place::of(Loose::of(volume));
             0
         }
         Err(_) => NO_MEMORY,

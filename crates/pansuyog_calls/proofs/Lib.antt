@@ -1,3 +1,4 @@
+pub mod CallsInARow
 pub mod Filled
 pub mod Places
 pub mod Told

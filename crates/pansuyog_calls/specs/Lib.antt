@@ -1,6 +1,7 @@
 pub mod Bytes
 pub mod Cleaning
 pub mod Codes
+pub mod InARow
 pub mod Laws
 pub mod Making
 pub mod Serving

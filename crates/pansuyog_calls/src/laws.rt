@@ -1,4 +1,5 @@
 //! The laws of the calls, each the contract of a function that does nothing.
+ghost use Rattle.pansuyog_calls.specs.InARow.{CallsAreKept, MountsAreSaved};
 ghost use Rattle.pansuyog_calls.specs.Laws.{LooksTellNothing, RefusalsTellNothing};
 ghost use Rattle.lfs_model.specs.Device.{in_sectors};
 
@@ -8,4 +9,15 @@ use lfs_device::SectorDevice;
 pub fn readers_tell_nothing<D: SectorDevice>()
     ensures looks { LooksTellNothing (in_sectors D.state) }
     ensures refused { RefusalsTellNothing (in_sectors D.state) }
+{}
+
+/// Calls of C in a row on a mounted volume, over a device that keeps the device model: a stop at any
+/// moment since one answered leaves every call that was acknowledged by then.
+pub fn calls_are_kept<D: SectorDevice>()
+    ensures { CallsAreKept (in_sectors D.SectorDevice.state) }
+{}
+
+/// They may begin behind a mount.
+pub fn mounts_are_saved<D: SectorDevice>()
+    ensures { MountsAreSaved (in_sectors D.SectorDevice.state) }
 {}

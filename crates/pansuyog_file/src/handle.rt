@@ -17,9 +17,8 @@ pub struct Volume {
     pub inner: VolumeIn<FileDevice>,
 }
 
-/// A volume by its address, as C passes it.
+/// A volume by its address, as C passes it. It can't be dropped: what takes one has to free it.
 #[repr(C)]
-#[derive(Drop)]
 pub struct Handle {
     at: *mut u8,
     alloc: Global,
@@ -52,9 +51,4 @@ impl Handle {
             alloc,
         }
     }
-}
-
-/// The address of a volume. It stays until the volume is freed.
-pub fn expose(volume: Box<Volume>) -> *mut u8 {
-    Box::into_raw(volume) as *mut u8
 }

@@ -7,6 +7,7 @@ mod lent;
 mod listing;
 mod making;
 mod names;
+mod place;
 mod saving;
 mod source;
 mod status;

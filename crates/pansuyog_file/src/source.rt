@@ -1,22 +1,24 @@
 //! A volume is begun, given a file, and given up.
-ghost use Rattle.std.specs.Prelude.{◌≡◌, ◌⊎◌, pos, None};
-ghost use Rattle.pansuyog_calls.specs.Codes.{no_memory};
+ghost use Rattle.std.specs.Prelude.{◌≡◌, None};
 ghost use Rattle.pansuyog_calls.specs.Volumes.{KeepsListingAndAccess};
+ghost use Rattle.pansuyog_file.specs.Beginning.{Begins};
 ghost use Rattle.pansuyog_file.specs.Sources.{Opens};
 ghost use Rattle.pansuyog_file.specs.Serving.{IsUnchanged};
 
-use crate::handle::{Handle, Volume, expose};
+use crate::handle::{Handle, Volume};
 use crate::lent::Lent;
+use crate::place::Place;
 use pansuyog_calls::access::Access;
 use pansuyog_calls::codes::{INVAL, NO_MEMORY};
 use pansuyog_calls::volume::VolumeIn;
 use pansuyog_calls::{making, taking};
+use pansuyog_heap::Loose;
 use std::alloc::Global;
 
 /// A volume that holds nothing, whose address is put into C's memory.
 #[unsafe(no_mangle)]
-pub extern "C" fn pansuyog_file_new(alloc: Global, at: &mut *mut u8) -> i32
-    ensures { (result ≡ pos 0) ⊎ ((result ≡ no_memory) × (at.new ≡ at.old)) }
+pub extern "C" fn pansuyog_file_new(alloc: Global, at: &mut Place) -> i32
+    ensures { Begins at.old at.new result }
 {
     let inner = VolumeIn {
         fs: None,
@@ -26,7 +28,7 @@ pub extern "C" fn pansuyog_file_new(alloc: Global, at: &mut *mut u8) -> i32
     };
     match Box::new(alloc, Volume { inner }) {
         Ok(volume) => {
-            *at = expose(volume);
+            *at = Place::of(Loose::of(volume));
             0
         }
         Err(_) => NO_MEMORY,

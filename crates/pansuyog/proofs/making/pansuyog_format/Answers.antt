@@ -1,5 +1,5 @@
 use Rattle.std.proofs.Common.{refl, rules}
-use Rattle.pansuyog.proofs.Tried.{make_tried}
+use Rattle.pansuyog.proofs.Tried.{make_not_tried, make_tried}
 use Rattle.pansuyog.proofs.making.pansuyog_format.Goals as goal
 
 pub returns : goal.returns
@@ -7,3 +7,6 @@ returns c =
     make_tried _ _ c.in-Ok.device c.make_on-code.new.device
     c.volume-volume.ensures.value c.in-Ok.ensures.unmounted c.in-Ok.ensures.taken c.in-Ok.ensures.listing c.in-Ok.ensures.fs refl
     (search rules)
+
+pub returns-in-Err : goal.returns-in-Err
+returns-in-Err c = make_not_tried c.volume-volume.ensures.value c.in-Err.ensures.refused
