@@ -1,16 +1,16 @@
 -- The calls of a get, one after the other.
-use Rattle.std.proofs.Common.{◌≡◌, ◌<◌, ◌⊎◌, ℕ, zero, suc, ◌+◌, get_or, List, [], ◌∷◌, ◌++◌, All, Option, Ok, Err, length, refl}
+use Rattle.std.proofs.Common.{◌≡◌, ◌≢◌, ◌<◌, ◌⊎◌, ℕ, zero, suc, ◌+◌, get_or, List, [], ◌∷◌, ◌++◌, All, Option, Ok, Err, length, refl}
 use Rattle.std.proofs.Common.{sym, ◌∙◌, ap, subst, inl, inr, append_assoc, append-nil, length-append, arith}
 use Rattle.std.specs.List.{AllByRecursion, concat}
 use Rattle.std.specs.Io.KnownBytes.{Appends}
 use Rattle.std.proofs.KnownBytes.{Appends-nil, Appends-trans}
 use Rattle.lfs_model.specs.Call.{Answer, Close, Data, Done, Handle, Open, Pread, Refuse}
 use Rattle.lfs_model.specs.Device.{DeviceState}
-use Rattle.lfs_model.specs.Refusal.{Refusal}
 use Rattle.lfs_fs.specs.Refusals.{refusal_of}
 use Rattle.lfs_fs.specs.Volume.{Mounted, Serves}
 use Rattle.lfs_fs.specs.declared.error.FsError.{FsError}
-use Rattle.lfs_model.specs.declared.limits.TheConstants.{LONGEST_TRANSFER}
+use Rattle.lfs_fs.specs.declared.error.FsError.TheVariants as error
+use Rattle.lfs_model.specs.declared.limits.TheConstants.{LARGEST_FILE, LONGEST_TRANSFER}
 use Rattle.lfs_put.specs.declared.getting.GetFault.{GetFault}
 use Rattle.lfs_put.specs.declared.getting.GetFault.TheVariants as why
 use Rattle.lfs_put.proofs.CallLists.{serves_append}
@@ -39,6 +39,10 @@ reads_more handle o [] p = ap (read_at handle p) (at_start o)
 reads_more handle o (q ∷ ps) p =
     ap (λ (ms : List Made). made (Pread handle o LONGEST_TRANSFER) (Data q) ∷ ms)
     (reads_more handle (o + length q) ps p ∙ ap (λ (n : ℕ). reads handle (o + length q) ps ++ read_at handle p n) (at_next o q (concat ps)))
+
+some_more : (ps : List (List ℕ)) (p : List ℕ) → ps ++ p ∷ [] ≢ []
+some_more [] p = λ same. cc same
+some_more (q ∷ ps) p = λ same. cc same
 
 all_more : (P : List ℕ → Type 0) (ps : List (List ℕ)) (p : List ℕ) → AllByRecursion P ps → P p → AllByRecursion P (ps ++ p ∷ [])
 all_more P [] p all one = (one, tt)
@@ -121,17 +125,85 @@ module _ {D : Type 0} (state : D → DeviceState) where
   }
 
   -- a piece that is longer than was asked for
-  pub copy_breaks : (old mid new : Mounted D) {handle : ℕ} {w w' w'' : Option (List ℕ)} {offset : ℕ} (count : ℕ) (refused : FsError)
+  pub copy_breaks : (old mid new : Mounted D) {handle : ℕ} {w w' w'' : Option (List ℕ)} {offset : ℕ} (count : ℕ)
       → CopyingOut old mid handle w w' offset
-      → SendsPart state mid new handle offset w' w'' (Ok count) → CopiesOut state old new handle w w'' (Err (why.CutShort refused))
-  copy_breaks old mid new {handle} {w} {w'} {w''} {offset} count refused so_far (piece, serves, more, long) = record {
+      → SendsPart state mid new handle offset w' w'' (Ok count) → LONGEST_TRANSFER < count
+      → CopiesOut state old new handle w w'' (Err (why.CutShort error.Device))
+  copy_breaks old mid new {handle} {w} {w'} {w''} {offset} count so_far (piece, serves, more, long) past = record {
     calls = reads handle 0 (so_far.pieces ++ piece ∷ []);
     served = reads_one so_far serves;
     outcome = (
       so_far.pieces ++ piece ∷ [],
-      inl refl,
+      inr (record {
+        order = refl;
+        is = refl;
+        more = inl (so_far.pieces, piece, refl, subst (λ (n : ℕ). LONGEST_TRANSFER < n) long past);
+      }),
       (sends_one w w'' piece {end = offset + length piece} so_far.sent more refl).sent,
     );
+  }
+
+  -- no file is longer
+  pub copy_ends : (old new : Mounted D) (handle : ℕ) (w w' : Option (List ℕ)) (offset : ℕ)
+      → CopyingOut old new handle w w' offset → LARGEST_FILE < offset
+      → CopiesOut state old new handle w w' (Err (why.CutShort error.Device))
+  copy_ends old new handle w w' offset so_far long = record {
+    calls = reads handle 0 so_far.pieces;
+    served = so_far.served;
+    outcome = (
+      so_far.pieces,
+      inr (record {
+        order = refl;
+        is = refl;
+        more = inr (subst (λ (n : ℕ). LARGEST_FILE < n) so_far.sent.counted long);
+      }),
+      so_far.sent.sent,
+    );
+  }
+
+  -- the calls of a read that was refused behind others
+  refused_read : {old mid new : Mounted D} {handle : ℕ} {w w' : Option (List ℕ)} {offset : ℕ} (refused : FsError)
+      (so_far : CopyingOut old mid handle w w' offset)
+      → Serves state mid new (Pread handle offset LONGEST_TRANSFER) (Refuse (refusal_of refused))
+      → ServesAll state old new (reads handle 0 so_far.pieces
+      ++ made (Pread handle (length (concat so_far.pieces)) LONGEST_TRANSFER) (Refuse (refusal_of refused)) ∷ [])
+  refused_read {old} {mid} {new} {handle} refused so_far serves =
+      let at = λ (n : ℕ). made (Pread handle n LONGEST_TRANSFER) (Refuse (refusal_of refused)) ∷ [] in
+      let last : ServesAll state mid new (at (length (concat so_far.pieces))) =
+      subst (λ (n : ℕ). ServesAll state mid new (at n)) so_far.sent.counted (new, serves, refl) in
+      serves_append state old mid new (reads handle 0 so_far.pieces) _ so_far.served last
+
+  -- a read was refused, or the writer failed
+  pub copy_stops : (old mid new : Mounted D) {handle : ℕ} {w w' w'' : Option (List ℕ)} {offset : ℕ} (fault : GetFault)
+      → CopyingOut old mid handle w w' offset
+      → SendsPart state mid new handle offset w' w'' (Err fault) → CopiesOut state old new handle w w'' (Err fault)
+  copy_stops old mid new {handle} {w} {w'} {offset} (why.Call refused) so_far ((serves, same), none) = record {
+    calls = reads handle 0 so_far.pieces
+        ++ made (Pread handle (length (concat so_far.pieces)) LONGEST_TRANSFER) (Refuse (refusal_of refused)) ∷ [];
+    served = refused_read refused so_far serves;
+    outcome = (
+      so_far.pieces,
+      refl,
+      record {
+        sent = subst (λ (v : Option (List ℕ)). Appends w v (concat so_far.pieces)) (sym same) so_far.sent.sent;
+        counted = sym none ∙ so_far.sent.counted;
+      },
+    );
+  }
+  copy_stops old mid new {handle} {w} {w'} {offset} (why.CutShort refused) so_far (serves, same) = record {
+    calls = reads handle 0 so_far.pieces
+        ++ made (Pread handle (length (concat so_far.pieces)) LONGEST_TRANSFER) (Refuse (refusal_of refused)) ∷ [];
+    served = refused_read refused so_far serves;
+    outcome = (
+      so_far.pieces,
+      inl refl,
+      subst (λ (v : Option (List ℕ)). Appends w v (concat so_far.pieces)) (sym same) so_far.sent.sent,
+    );
+  }
+  copy_stops old mid new {handle} {w} {w'} {offset} why.Output so_far (piece, serves) = record {
+    calls = reads handle 0 (so_far.pieces ++ piece ∷ []);
+    served = reads_one so_far serves;
+    outcome = (so_far.pieces ++ piece ∷ [], (refl, some_more so_far.pieces piece), tt);
   }
 
   -- a refusal behind what was sent, as its number says
@@ -142,58 +214,11 @@ module _ {D : Type 0} (state : D → DeviceState) where
       subst (SendsTo w w' pieces) (sym is) (record { sent = sent.sent; counted = sym none ∙ sent.counted })
   sends_behind w w' {pieces} refused sent (inr is) = subst (SendsTo w w' pieces) (sym is) sent.sent
 
-  -- no file is longer
-  pub copy_ends : (old new : Mounted D) (handle : ℕ) (w w' : Option (List ℕ)) (offset : ℕ) (refused : FsError) (fault : GetFault)
-      → CopyingOut old new handle w w' offset
-      → (((fault ≡ why.Call refused) × (offset ≡ 0)) ⊎ (fault ≡ why.CutShort refused)) → CopiesOut state old new handle w w' (Err fault)
-  copy_ends old new handle w w' offset refused fault so_far is = record {
-    calls = reads handle 0 so_far.pieces;
-    served = so_far.served;
-    outcome = (so_far.pieces, inl refl, sends_behind w w' refused so_far.sent is);
-  }
-
-  -- the calls of a read that was refused behind others
-  refused_read : {old mid new : Mounted D} {handle : ℕ} {w w' : Option (List ℕ)} {offset : ℕ} {refusal : Refusal}
-      (so_far : CopyingOut old mid handle w w' offset)
-      → Serves state mid new (Pread handle offset LONGEST_TRANSFER) (Refuse refusal)
-      → ServesAll state old new
-      (reads handle 0 so_far.pieces ++ made (Pread handle (length (concat so_far.pieces)) LONGEST_TRANSFER) (Refuse refusal) ∷ [])
-  refused_read {old} {mid} {new} {handle} {refusal} so_far serves =
-      let last : ServesAll state mid new (made (Pread handle (length (concat so_far.pieces)) LONGEST_TRANSFER) (Refuse refusal) ∷ []) =
-      subst (λ (n : ℕ). ServesAll state mid new (made (Pread handle n LONGEST_TRANSFER) (Refuse refusal) ∷ [])) so_far.sent.counted
-      (new, serves, refl) in
-      serves_append state old mid new (reads handle 0 so_far.pieces) _ so_far.served last
-
-  -- a read was refused, or the writer failed
-  pub copy_stops : (old mid new : Mounted D) {handle : ℕ} {w w' w'' : Option (List ℕ)} {offset : ℕ} (fault : GetFault)
-      → CopyingOut old mid handle w w' offset
-      → SendsPart state mid new handle offset w' w'' (Err fault) → CopiesOut state old new handle w w'' (Err fault)
-  copy_stops old mid new {handle} {w} {w'} {offset} (why.Call refused) so_far ((refusal, serves, same), none) = record {
-    calls = reads handle 0 so_far.pieces ++ made (Pread handle (length (concat so_far.pieces)) LONGEST_TRANSFER) (Refuse refusal) ∷ [];
-    served = refused_read so_far serves;
-    outcome = (
-      so_far.pieces,
-      inr (refusal, refl),
-      record {
-        sent = subst (λ (v : Option (List ℕ)). Appends w v (concat so_far.pieces)) (sym same) so_far.sent.sent;
-        counted = sym none ∙ so_far.sent.counted;
-      },
-    );
-  }
-  copy_stops old mid new {handle} {w} {w'} {offset} (why.CutShort refused) so_far (refusal, serves, same) = record {
-    calls = reads handle 0 so_far.pieces ++ made (Pread handle (length (concat so_far.pieces)) LONGEST_TRANSFER) (Refuse refusal) ∷ [];
-    served = refused_read so_far serves;
-    outcome = (
-      so_far.pieces,
-      inr (refusal, refl),
-      subst (λ (v : Option (List ℕ)). Appends w v (concat so_far.pieces)) (sym same) so_far.sent.sent,
-    );
-  }
-  copy_stops old mid new {handle} {w} {w'} {offset} why.Output so_far (piece, serves) = record {
-    calls = reads handle 0 (so_far.pieces ++ piece ∷ []);
-    served = reads_one so_far serves;
-    outcome = (so_far.pieces ++ piece ∷ [], inl refl, tt);
-  }
+  told_as : {offset : ℕ} (refused : FsError) {fault : GetFault}
+      → (((fault ≡ why.Call refused) × (offset ≡ 0)) ⊎ (fault ≡ why.CutShort refused))
+      → (fault ≡ why.Call refused) ⊎ (fault ≡ why.CutShort refused)
+  told_as refused (inl (is, none)) = inl is
+  told_as refused (inr is) = inr is
 
   -- ---- a whole get
 
@@ -227,28 +252,37 @@ module _ {D : Type 0} (state : D → DeviceState) where
       body = copies.calls;
       closed = closed;
       order = refl;
-      read = copies.outcome.1;
       sent = copies.outcome.2;
+      cause = inl copies.outcome.1;
     });
   }
 
   pub not_closed : (a b c d : Mounted D) {path : List ℕ} {handle : ℕ} (w w' : Option (List ℕ)) {count : ℕ} (refused : FsError)
-      (fault : GetFault) (closed : Answer)
-      → Serves state a b (Open path) (Handle handle) → CopiesOut state b c handle w w' (Ok count) → Serves state c d (Close handle) closed
+      (fault : GetFault)
+      → Serves state a b (Open path) (Handle handle) → CopiesOut state b c handle w w' (Ok count)
+      → Serves state c d (Close handle) (Refuse (refusal_of refused))
       → (((fault ≡ why.Call refused) × (count ≡ 0)) ⊎ (fault ≡ why.CutShort refused)) → GetsFile state a d path w w' (Err fault)
-  not_closed a b c d {path} {handle} w w' {count} refused fault closed opens copies closes is = record {
-    calls = made (Open path) (Handle handle) ∷ (copies.calls ++ made (Close handle) closed ∷ []);
-    served = between b c d copies.calls opens copies.served closes;
-    outcome = inr (record {
-      handle = handle;
-      pieces = copies.outcome.0;
-      body = copies.calls;
-      closed = closed;
-      order = refl;
-      read = inl copies.outcome.1;
-      sent = sends_behind w w' refused copies.outcome.3 is;
-    });
-  }
+  not_closed a b c d {path} {handle} w w' {count} refused fault opens copies closes is =
+      let closed = Refuse (refusal_of refused) in
+      record {
+        calls = made (Open path) (Handle handle) ∷ (copies.calls ++ made (Close handle) closed ∷ []);
+        served = between b c d copies.calls opens copies.served closes;
+        outcome = inr (record {
+          handle = handle;
+          pieces = copies.outcome.0;
+          body = copies.calls;
+          closed = closed;
+          order = refl;
+          sent = sends_behind w w' refused copies.outcome.3 is;
+          cause = inr (record {
+            refused = refused;
+            is = told_as refused is;
+            order = copies.outcome.1;
+            whole = copies.outcome.2;
+            told = refl;
+          });
+        });
+      }
 
   pub got : (a b c d : Mounted D) {path : List ℕ} {handle : ℕ} (w : Option (List ℕ)) {w' : Option (List ℕ)} {count : ℕ}
       → Serves state a b (Open path) (Handle handle)

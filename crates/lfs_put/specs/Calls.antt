@@ -19,18 +19,12 @@ IsLook (LstatOf path) = Unit {0}
 IsLook (StatOf path) = Unit {0}
 IsLook _ = ⊥
 
+-- each of these calls only tells what stands at a path
+abbrev pub AreLooks : List Made → Type 0
+AreLooks = AllByRecursion (λ (m : Made). IsLook m.call)
+
 module _ {D : Type 0} (state : D → DeviceState) where
   -- a volume serves these calls, one after the other, with these answers
   abbrev pub ServesAll : Mounted D → Mounted D → List Made → Type 0
   ServesAll old new [] = new ≡ old
   ServesAll old new (m ∷ rest) = (mid : Mounted D) × Serves state old mid m.call m.answer × ServesAll mid new rest
-
-  -- this call, whatever its answer
-  abbrev pub Asks : Mounted D → Mounted D → Call → Type 0
-  Asks old new call = (answer : Answer) × Serves state old new call answer
-
-  -- A volume serves some calls, each of which only tells what stands at a path.
-  pub record OnlyLooks (old new : Mounted D) : Type 0 where
-    pub calls : List Made
-    pub served : ServesAll old new calls
-    pub looks : AllByRecursion (λ (m : Made). IsLook m.call) calls

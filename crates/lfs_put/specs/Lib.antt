@@ -2,4 +2,5 @@ pub mod Calls
 pub mod Changing
 pub mod Getting
 pub mod Largest
+pub mod Placing
 pub mod Putting

@@ -80,7 +80,7 @@ fn copy_out<D: SectorDevice, W: Write>(
         }
     }
     // No volume has a longer file.
-    Err(refused(offset, FsError::Device))
+    Err(GetFault::CutShort(FsError::Device))
 }
 
 /// Gives a writer all bytes of the file of a path, in order, and answers their number.

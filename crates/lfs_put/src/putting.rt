@@ -1,11 +1,12 @@
 //! The command that puts a file into a volume. Its bytes stand under another name until they are
 //! whole and synced: so the old file or the new one is there after any stop.
-ghost use Rattle.std.specs.Prelude.{◌≡◌, ◌≢◌, ◌≤◌, ◌<◌, ◌⊎◌, ◌-◌, IfOk, OnOk, ℕ, false, codes, length, slice_index};
+ghost use Rattle.std.specs.Prelude.{◌≡◌, ◌≢◌, ◌≤◌, ◌<◌, ◌⊎◌, ◌-◌, IfErr, IfOk, OnOk, None, Some, ℕ, false, codes, length, slice_index};
 ghost use Rattle.lfs_model.specs.Device.{in_sectors};
-ghost use Rattle.lfs_model.specs.Call.{LstatOf, StatOf, Unlink};
+ghost use Rattle.lfs_model.specs.PathText.{text_refusal};
+ghost use Rattle.lfs_fs.specs.Refusals.{refusal_of};
 ghost use Rattle.lfs_fs.specs.Seen.{seen};
-ghost use Rattle.lfs_put.specs.Calls.{Asks, OnlyLooks};
-ghost use Rattle.lfs_put.specs.Putting.{Copies, GivesUp, IsBeside, MakesFile, PutsFile, RenamesFile, Replaces};
+ghost use Rattle.lfs_put.specs.Placing.{Clears, IsAbove, IsBeside, IsTextCause, LooksFor, NamesNone, OnlyLooks, Sees, WantsDirectory};
+ghost use Rattle.lfs_put.specs.Putting.{Copies, GivesUp, MakesFile, PutsFile, RenamesFile, Replaces};
 
 use lfs_device::SectorDevice;
 use lfs_fs::path::text::{check_text, is_dots};
@@ -28,23 +29,63 @@ const MOST_BYTES: usize = LONGEST_TRANSFER as usize;
 #[derive(Debug, Drop, Error)]
 pub enum PutFault {
     #[error("the volume refuses it")]
-    Call(#[from] FsError),
+    Call(FsError),
     #[error("it has the name under which files stand until they are whole")]
     Unfinished,
     #[error("its bytes can't be read")]
     Input,
     #[error(transparent)]
-    Memory(#[from(alloc)] AllocError),
+    Memory(AllocError),
+}
+
+impl From<FsError> for PutFault {
+    ghost use Rattle.lfs_put.specs.declared.putting.PutFault.TheVariants as why;
+
+    ghost from_gives = { λ refused fault. fault ≡ why.Call refused };
+
+    fn from(refused: FsError) -> PutFault
+        ensures { result ≡ PutFault.Call refused }
+    {
+        PutFault::Call(refused)
+    }
+}
+
+impl From<AllocError> for PutFault {
+    ghost use Rattle.lfs_put.specs.declared.putting.PutFault.TheVariants as why;
+
+    ghost from_gives = { λ refused fault. fault ≡ why.Memory refused };
+
+    fn from(refused: AllocError) -> PutFault
+        ensures { result ≡ PutFault.Memory refused }
+    {
+        PutFault::Memory(refused)
+    }
+}
+
+// Refuses what no path is, by its text alone.
+fn check_path(path: &[u8]) -> Result<(), FsError>
+    ensures taken { OnOk result (text_refusal path.now ≡ None) }
+    ensures refused { IfErr result (λ fault. text_refusal path.now ≡ Some (refusal_of fault)) }
+{
+    match check_text(path) {
+        Ok(()) => Ok(()),
+        Err(fault) => Err(FsError::from(fault)),
+    }
 }
 
 // How many bytes of a path stand before the slashes that end it.
 fn trimmed_len(path: &[u8]) -> usize
-    ensures { result ≤ length path.now }
+    ensures within { result ≤ length path.now }
+    ensures slashes { (i : ℕ) → result ≤ i → i < length path.now
+        → slice_index path.now i ≡ 47 }
 {
-    match path.iter().rposition(|byte| *byte != b'/') {
-        Some(last) => last + 1,
-        None => 0,
+    for slashes in 0..path.len() {
+        let len = path.len() - slashes;
+        if path[len - 1] != b'/' {
+            return len;
+        }
     }
+    0
 }
 
 // How many bytes of a path stand before its last piece, the last slash with them. No slash ends the
@@ -66,6 +107,7 @@ fn above_len(path: &[u8]) -> usize
 fn check_name(name: &[u8], slash_end: bool) -> Result<(), PutFault>
     ensures other { OnOk result (name.now ≢ codes ".lfs-put") }
     ensures ends { OnOk result (slash_end ≡ false) }
+    ensures cause { IfErr result (NamesNone name.now slash_end) }
 {
     if is_dots(name) {
         return Err(PutFault::Call(FsError::Inval));
@@ -81,11 +123,10 @@ fn check_name(name: &[u8], slash_end: bool) -> Result<(), PutFault>
 
 // The path of the name under which the file of a path stands until it is whole.
 fn unfinished_path(alloc: Global, path: &[u8]) -> Result<Vec<u8>, PutFault>
-    ensures { IfOk result (λ unfinished. IsBeside path.now unfinished.items) }
+    ensures beside { IfOk result (λ unfinished. IsBeside path.now unfinished.items) }
+    ensures cause { IfErr result (IsTextCause path.now) }
 {
-    if let Err(fault) = check_text(path) {
-        return Err(PutFault::Call(FsError::from(fault)));
-    }
+    check_path(path)?;
     let trimmed = &path[..trimmed_len(path)];
     if trimmed.is_empty() {
         return Err(PutFault::Call(FsError::Busy));
@@ -98,45 +139,64 @@ fn unfinished_path(alloc: Global, path: &[u8]) -> Result<Vec<u8>, PutFault>
     Ok(unfinished)
 }
 
+// Passes over a refusal since nothing has the name.
+fn pass_missing(refused: FsError) -> Result<(), PutFault>
+    ensures missing { OnOk result (refused ≡ FsError.NoEntry) }
+    ensures cause { IfErr result (λ fault. (fault ≡ PutFault.Call refused)
+        × (refused ≢ FsError.NoEntry)) }
+{
+    match refused {
+        FsError::NoEntry => Ok(()),
+        refused => Err(PutFault::Call(refused)),
+    }
+}
+
 // Refuses a directory. A link at the end of the path is none.
 fn refuse_directory<D: SectorDevice>(fs: &mut Fs<D>, path: &[u8]) -> Result<(), PutFault>
-    ensures { Asks (in_sectors D.SectorDevice.state) (seen fs.old) (seen fs.new) (LstatOf path.now) }
+    ensures { LooksFor (in_sectors D.SectorDevice.state) (seen fs.old) (seen fs.new) path.now
+        result }
 {
     match fs.lstat(path) {
         Ok(stat) => match stat.kind {
             Kind::Directory => Err(PutFault::Call(FsError::IsDir)),
             Kind::File | Kind::Link => Ok(()),
         },
-        Err(FsError::NoEntry) => Ok(()),
-        Err(fault) => Err(PutFault::Call(fault)),
+        Err(refused) => pass_missing(refused),
     }
 }
 
-// The part of a path before its last piece, the last slash with it.
-fn directory_of(path: &[u8]) -> &[u8] {
-    let trimmed = &path[..trimmed_len(path)];
-    &trimmed[..above_len(trimmed)]
+// The part of a path before its last piece, the last slash with it. No slash ends the path.
+fn directory_of(path: &[u8]) -> &[u8]
+    ensures { IsAbove path.now result.now }
+{
+    &path[..above_len(path)]
 }
 
 // Refuses a path that leads to no directory.
 fn want_directory<D: SectorDevice>(fs: &mut Fs<D>, path: &[u8]) -> Result<(), PutFault>
-    ensures { Asks (in_sectors D.SectorDevice.state) (seen fs.old) (seen fs.new) (StatOf path.now) }
+    ensures { WantsDirectory (in_sectors D.SectorDevice.state) (seen fs.old) (seen fs.new) path.now
+        result }
 {
     match fs.stat(path) {
         Ok(stat) => match stat.kind {
             Kind::Directory => Ok(()),
             Kind::File | Kind::Link => Err(PutFault::Call(FsError::NotDir)),
         },
-        Err(fault) => Err(PutFault::Call(fault)),
+        Err(refused) => Err(PutFault::Call(refused)),
     }
 }
 
-// Looks whether a file may stand at a path whose text is well, and changes nothing.
-fn look_for_place<D: SectorDevice>(fs: &mut Fs<D>, path: &[u8]) -> Result<(), PutFault>
-    ensures { OnlyLooks (in_sectors D.SectorDevice.state) (seen fs.old) (seen fs.new) }
+// Looks whether a file may stand at a path whose text is well, below what stands above it, and
+// changes nothing.
+fn look_for_place<D: SectorDevice>(
+    fs: &mut Fs<D>,
+    path: &[u8],
+    above: &[u8],
+) -> Result<(), PutFault>
+    ensures { Sees (in_sectors D.SectorDevice.state) (seen fs.old) (seen fs.new) path.now above.now
+        result }
 {
     refuse_directory(fs, path)?;
-    let above = directory_of(path);
     if above.is_empty() {
         return Ok(());
     }
@@ -156,20 +216,21 @@ pub fn check_place<D: SectorDevice>(
     fs: &mut Fs<D>,
     path: &[u8],
 ) -> Result<(), PutFault>
-    ensures { OnlyLooks (in_sectors D.SectorDevice.state) (seen fs.old) (seen fs.new) }
+    ensures { OnlyLooks (in_sectors D.SectorDevice.state) (seen fs.old) (seen fs.new) path.now
+        result }
 {
     unfinished_path(alloc, path)?;
-    look_for_place(fs, path)
+    look_for_place(fs, path, directory_of(path))
 }
 
 // Removes what a stop left.
 fn remove_left<D: SectorDevice>(fs: &mut Fs<D>, unfinished: &[u8]) -> Result<(), PutFault>
-    ensures { Asks (in_sectors D.SectorDevice.state) (seen fs.old) (seen fs.new)
-        (Unlink unfinished.now) }
+    ensures { Clears (in_sectors D.SectorDevice.state) (seen fs.old) (seen fs.new) unfinished.now
+        result }
 {
     match fs.unlink(unfinished) {
-        Ok(()) | Err(FsError::NoEntry) => Ok(()),
-        Err(fault) => Err(PutFault::Call(fault)),
+        Ok(()) => Ok(()),
+        Err(refused) => pass_missing(refused),
     }
 }
 
@@ -309,14 +370,12 @@ pub fn put<D: SectorDevice, I: Read>(
     let Ok(mut buffer) = vec![in alloc; 0; MOST_BYTES] else {
         return Err(PutFault::Memory(AllocError));
     };
-    match unfinished_path(alloc, path) {
-        Ok(unfinished) => put_by(
-            fs,
-            unfinished.as_slice(),
-            path,
-            input,
-            buffer.as_mut_slice(),
-        ),
-        Err(fault) => Err(fault),
-    }
+    let unfinished = unfinished_path(alloc, path)?;
+    put_by(
+        fs,
+        unfinished.as_slice(),
+        path,
+        input,
+        buffer.as_mut_slice(),
+    )
 }

@@ -1,9 +1,16 @@
 -- Bytes that went out in several calls.
-use Rattle.std.proofs.Common.{◌≡◌, ℕ, ◌+◌, ◌-◌, ◌≤◌, List, Option, take, drop, length, sym, subst, arith}
+use Rattle.std.proofs.Common.{◌≡◌, ◌≢◌, ℕ, ◌+◌, ◌-◌, ◌≤◌, ◌<◌, List, [], Option, take, drop, length, sym, ap, subst, arith}
 use Rattle.std.specs.Io.KnownBytes.{Appends}
 use Rattle.std.proofs.KnownBytes.{Appends-trans}
 use Rattle.std.proofs.lemmas.List.{length-drop}
 use Rattle.std.proofs.Math.Seq.{take-add, take_all}
+
+-- so many bytes aren't all
+pub not_all : (xs : List ℕ) (at : ℕ) → at < length xs → drop at xs ≢ []
+not_all xs at within = λ same. (
+    let long = length-drop at xs in
+    let none = ap length same in
+    omega (arith, within, long, none))
 
 pub sent : (a b c : Option (List ℕ)) (xs : List ℕ) (at n : ℕ) → at ≤ length xs → n ≤ length (take (length xs - at) (drop at xs))
     → Appends a b (take at xs) → Appends b c (take n (take (length xs - at) (drop at xs)))

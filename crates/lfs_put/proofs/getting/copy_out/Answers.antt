@@ -1,6 +1,6 @@
 use Rattle.std.proofs.lemmas.Result.{err_from_is_err_and}
 use Rattle.std.proofs.Common.{refl, arith}
-use Rattle.lfs_put.proofs.GetCalls.{copied_out, copy_breaks, copy_stops, copying_more}
+use Rattle.lfs_put.proofs.GetCalls.{copied_out, copy_breaks, copy_ends, copy_stops, copying_more}
 use Rattle.lfs_model.specs.Device.{in_sectors}
 use Rattle.lfs_put.proofs.getting.copy_out.Goals as goal
 
@@ -12,7 +12,8 @@ returns-in_err-count g c =
 
 pub returns-then-count : goal.returns-then-count
 returns-then-count g c =
-    copy_breaks (in_sectors g.D.SectorDevice.state) _ _ _ c.in_ok-count.count _ c.loop-part.invariant.1 c.in_ok-count.ensures
+    copy_breaks (in_sectors g.D.SectorDevice.state) _ _ _ c.in_ok-count.count c.loop-part.invariant.1 c.in_ok-count.ensures
+    c.if-count.true
 
 pub returns-then-count-2 : goal.returns-then-count-2
 returns-then-count-2 g c =
@@ -28,3 +29,9 @@ loop-part-preserved g c =
       copying_more (in_sectors g.D.SectorDevice.state) _ _ _ (g.W.Write.contents c.send_part.new.output)
           c.in_ok-count.count _ c.loop-part.invariant.1 c.in_ok-count.ensures refl (omega (arith, most, least)),
     )
+
+pub returns : goal.returns
+returns g c =
+    let at = c.loop-part.invariant.0 in
+    let last = c.loop-part-test.false in
+    copy_ends (in_sectors g.D.SectorDevice.state) _ _ _ _ _ _ c.loop-part.invariant.1 (omega (arith, at, last))

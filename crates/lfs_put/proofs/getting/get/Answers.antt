@@ -17,6 +17,5 @@ returns-in-Ok-closed g c =
 
 pub returns-in-Err-closed : goal.returns-in-Err-closed
 returns-in-Err-closed g c =
-    not_closed (in_sectors g.D.SectorDevice.state) _ _ _ _ _ _ c.in-Err-closed.fault _ _ c.in-Ok.ensures c.in_ok-count.ensures
-    c.close-closed.ensures
-    c.refused.ensures
+    not_closed (in_sectors g.D.SectorDevice.state) _ _ _ _ _ _ c.in-Err-closed.fault _ c.in-Ok.ensures c.in_ok-count.ensures
+    c.in-Err-closed.ensures c.refused.ensures

@@ -6,7 +6,7 @@ use Rattle.lfs_put.proofs.putting.make_file.Goals as goal
 pub returns-in_err-handle : goal.returns-in_err-handle
 returns-in_err-handle g c =
     let p = err_from_is_err_and c.from_residual.result c.from_residual.ensures.1 in rw (p.1, p.2)
-    (create_refused (in_sectors g.D.SectorDevice.state) _ _ _ _ c.in_err-handle.ensures)
+    (create_refused (in_sectors g.D.SectorDevice.state) _ _ c.in_err-handle.field-0.0 c.in_err-handle.ensures)
 
 pub returns-in_err-count : goal.returns-in_err-count
 returns-in_err-count g c =
@@ -20,4 +20,5 @@ returns g c =
 pub returns-in_err-closed : goal.returns-in_err-closed
 returns-in_err-closed g c =
     let p = err_from_is_err_and c.from_residual-in_err-closed.result c.from_residual-in_err-closed.ensures.1 in rw (p.1, p.2)
-    (close_refused (in_sectors g.D.SectorDevice.state) _ _ _ _ _ _ _ c.in_ok-handle.ensures c.in_ok-count.ensures c.close-closed.ensures)
+    (close_refused (in_sectors g.D.SectorDevice.state) _ _ _ _ _ c.in_err-closed.field-0.0 c.in_ok-handle.ensures c.in_ok-count.ensures
+    c.in_err-closed.ensures)
