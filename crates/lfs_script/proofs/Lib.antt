@@ -1,7 +1,10 @@
 pub mod ScriptBytes
+pub mod HeardBytes
 pub mod ScriptTurns
+pub mod ScriptHeard
 pub mod Glancing
 pub mod Filling
 pub mod Used
 pub mod InTurn
 pub mod InTurnNoted
+mod UnitsStay

@@ -1,6 +1,6 @@
 -- Lines of a script put together: their texts, what was read of them and what was written.
-use Rattle.std.proofs.Common.{◌≡◌, ◌≢◌, ℕ, zero, suc, ◌<◌, Option, None, Some, Ok, List, [], ◌∷◌, ◌++◌, length, refl, sym, ap, ◌∙◌, subst}
-use Rattle.std.proofs.Common.{append_assoc, arith}
+use Rattle.std.proofs.Common.{◌≡◌, ◌≢◌, ℕ, zero, suc, ◌<◌, ◌≤◌, ◌+◌, Option, None, Some, Ok, List, [], ◌∷◌, ◌++◌, length, refl}
+use Rattle.std.proofs.Common.{sym, ap, ◌∙◌, subst, append_assoc, length-append, arith}
 use Rattle.std.specs.List.{AllByRecursion}
 use Rattle.std.proofs.lemmas.List.{append-nil}
 use Rattle.std.proofs.lemmas.List.Elements.{All-append}
@@ -30,6 +30,15 @@ pub byte_read : (E : Type 0) (a b c : Option (List ℕ)) (text : List ℕ) {new 
 byte_read E a b c text {byte} is pushed before next =
     subst (Consumes a c) (sym pushed)
     (Consumes-trans a b c text (byte ∷ []) before (subst (λ o. Consumes b c (taken {E = E} (Ok o))) is next))
+
+-- so many bytes are read or ahead, with that byte
+pub ahead_byte : (E : Type 0) (text : List ℕ) {new : List ℕ} {found : Option ℕ} {byte : ℕ} (all a b : ℕ) → found ≡ Some byte
+    → new ≡ text ++ byte ∷ [] → all ≤ length text + a → a ≤ length (taken {E = E} (Ok found)) + b → all ≤ length new + b
+ahead_byte E text {byte} all a b is pushed before next =
+    let one = subst (λ (o : Option ℕ). a ≤ length (taken {E = E} (Ok o)) + b) is next in
+    let longer = ap length pushed in
+    let parts = length-append text (byte ∷ []) in
+    omega (arith, before, one, longer, parts)
 
 -- what is left over was read too
 pub with_left : (r now : Option (List ℕ)) (left bytes : List ℕ) → Consumes r (prepend_known left now) bytes → Consumes r now (bytes ++ left)
@@ -73,7 +82,8 @@ none_read (Some xs) none = sym (ap (λ t. t ++ xs) none)
 -- ---- what was written
 
 pub some_after : (a b c : Option (List ℕ)) (whole bytes : List ℕ) → Appends a b whole → AppendsSome b c bytes → AppendsTo a c whole bytes
-some_after a b c whole bytes before (part, rest, parts, appends) = (part, rest, parts, Appends-trans a b c whole part before appends)
+some_after a b c whole bytes before (part, rest, parts, left, appends) =
+    (part, rest, parts, left, Appends-trans a b c whole part before appends)
 
 pub replies_more : (answers : List Answer) (answer : Answer) → replies (answers ++ answer ∷ []) ≡ replies answers ++ reply answer
 replies_more [] answer = append-nil (reply answer)

@@ -1,22 +1,22 @@
 -- How a script goes on by a line, and how it ends.
 use Rattle.std.proofs.Common.{◌≡◌, ◌≢◌, ◌==◌, Bool, true, false, ◌+◌, ◌-◌, ◌^◌, ◌<◌, ◌≤◌, inl, inr, ℕ, Option, Some, None, Ok, List, []}
-use Rattle.std.proofs.Common.{◌∷◌, ◌++◌, length, length-append, refl, sym, ◌∙◌, ap, subst, append_assoc, arith}
+use Rattle.std.proofs.Common.{◌∷◌, ◌++◌, ◌⊎◌, length, length-append, refl, sym, ◌∙◌, ap, subst, append_assoc, arith}
 use Rattle.std.specs.Prelude.{IsTrue}
 use Rattle.std.proofs.lemmas.Bool.Decides.{nat_tests}
 use Rattle.std.proofs.lemmas.List.{append-nil}
 use Rattle.std.specs.Io.KnownBytes.{Appends, Consumes, IsAtEnd, Keeps, prepend_known}
-use Rattle.std.proofs.KnownBytes.{Appends-kept, Appends-nil, Appends-trans, Consumes-trans, Keeps-refl, prepend_known-nil}
+use Rattle.std.proofs.KnownBytes.{Appends-kept, Appends-nil, Appends-trans, Consumes-trans, prepend_known-nil}
 use Rattle.lfs_model.specs.Call.{Answer, Refuse}
 use Rattle.lfs_model.specs.Device.{DeviceState}
 use Rattle.lfs_model.specs.Refusal.{NoMemory}
 use Rattle.lfs_model.specs.Run.{has_word}
-use Rattle.lfs_model.specs.Script.{InRange, Line, bad, lines, reply, text_of}
+use Rattle.lfs_model.specs.Script.{InRange, Line, bad, ended, lines, reply, text_of}
 use Rattle.lfs_fs.specs.Scripts.{RunsLines, ServesLine, TellsLines}
 use Rattle.lfs_fs.specs.Volume.{Mounted}
 use Rattle.lfs_words.specs.Bytes.{AppendsSome}
 use Rattle.lfs_script.specs.LineEnd.{OnTooLong, consumed_by_line}
 use Rattle.lfs_script.specs.declared.line.LineEnd.{LineEnd}
-use Rattle.lfs_script.specs.declared.line.LineEnd.TheVariants.{TooLong}
+use Rattle.lfs_script.specs.declared.line.LineEnd.TheVariants.{Newline, TooLong}
 use Rattle.lfs_script.specs.declared.source.ReadError.{ReadError}
 use Rattle.lfs_lines.specs.Lines.{IsUnknown}
 use Rattle.lfs_script.specs.Ending.{EndOf, IsBadLine, IsBadText, IsText, EndsWithLine, ended_texts, replies}
@@ -24,13 +24,13 @@ use Rattle.lfs_script.specs.Running.{AnswersText, Called, Ends, EndsBy, EndsNote
 use Rattle.lfs_script.specs.Running.{Finishes, GlancesBeforeReply, RepliesBadLine, SoFar, Turns}
 use Rattle.lfs_script.specs.Noted.{Glance, Glanced, GlancesAt}
 use Rattle.lfs_script.proofs.Glancing.{glanced_more, glanced_none}
-use Rattle.lfs_script.specs.Strict.{Follows, EndsBehind, GoesOnBehind, StrictEndOf}
+use Rattle.lfs_script.specs.Strict.{Follows, EndsBehind, GoesOnBehind, ReadsTo, StrictEndOf}
 use Rattle.lfs_script.specs.declared.script.ScriptEnd.{ScriptEnd}
 use Rattle.lfs_script.specs.declared.script.ScriptEnd.TheVariants.{Done, BadLine, Read, Write, Memory}
 use Rattle.lfs_script.specs.declared.script.StrictEnd.{StrictEnd}
 use Rattle.lfs_script.specs.declared.script.StrictEnd.TheVariants.{Script, Refused}
 use Rattle.lfs_script.proofs.ScriptBytes.{all_more, each_more, ended_more, last_read, line_more, line_read, lines_last, lines_whole}
-use Rattle.lfs_script.proofs.ScriptBytes.{none_read, plain_more, replies_after, some_after, spelled_more, with_left}
+use Rattle.lfs_script.proofs.ScriptBytes.{none_read, plain_more, replies_after, some_after, spelled_more, texts_more, with_left}
 
 -- ---- one line
 
@@ -121,16 +121,36 @@ module _ {D : Type 0} (state : D → DeviceState) (strict : Bool) where
       → Turns state strict end w w1 old new slice n → Turns state strict end w w1 old new text n
   turns_of end w w1 old new n is turns = subst (λ (t : List ℕ). Turns state strict end w w1 old new t n) is turns
 
+  -- no line ends a run as one that can't read on
+  pub turn_reads : (end : StrictEnd) (w w1 : Option (List ℕ)) (old new : Mounted D) (text : List ℕ) (n f f' : ℕ) (r r' : Option (List ℕ))
+      → Turns state strict (Some end) w w1 old new text n → ReadsTo end f f' r r'
+  turn_reads Refused w w1 old new text n f f' r r' turns = tt
+  turn_reads (Script Read) w w1 old new text n f f' r r' (inl (is, call)) = absurd (cc is)
+  turn_reads (Script Read) w w1 old new text n f f' r r' (inr (unspelled, refuses, same)) = absurd refuses
+  turn_reads (Script Done) w w1 old new text n f f' r r' turns = tt
+  turn_reads (Script (BadLine m)) w w1 old new text n f f' r r' turns = tt
+  turn_reads (Script Write) w w1 old new text n f f' r r' turns = tt
+  turn_reads (Script Memory) w w1 old new text n f f' r r' turns = tt
+
+  pub finish_reads : (end : StrictEnd) (w w1 : Option (List ℕ)) (old new : Mounted D) (text : List ℕ) (n : ℕ) (s s1 : List Glance)
+      (f f' : ℕ) (r r' : Option (List ℕ)) → Finishes state strict end w w1 old new text n s s1 → ReadsTo end f f' r r'
+  finish_reads end w w1 old new text n s s1 f f' r r' (inl (empty, is, still, same, seen)) =
+      subst (λ (e : StrictEnd). ReadsTo e f f' r r') (sym is) tt
+  finish_reads end w w1 old new text n s s1 f f' r r' (inr (some, glances, inl (is, turns))) =
+      subst (λ (e : StrictEnd). ReadsTo e f f' r r') (sym is) tt
+  finish_reads end w w1 old new text n s s1 f f' r r' (inr (some, glances, inr turns)) =
+      turn_reads end w w1 old new text n f f' r r' turns
+
   pub finishes_of : (end : StrictEnd) (w w1 : Option (List ℕ)) (old new : Mounted D) {slice text : List ℕ} (n : ℕ) (s s1 : List Glance)
       → slice ≡ text → Finishes state strict end w w1 old new slice n s s1 → Finishes state strict end w w1 old new text n s s1
   finishes_of end w w1 old new n s s1 is finishes =
       subst (λ (t : List ℕ). Finishes state strict end w w1 old new t n s s1) is finishes
 
-  -- the replies so far are flushed
-  pub so_far_flushed : {n : ℕ} {r left w w1 : Option (List ℕ)} (w2 : Option (List ℕ)) {old now : Mounted D} {s s1 : List Glance}
-      → Keeps w1 w2
-      → SoFar state strict n r left w w1 old now s s1 → SoFar state strict n r left w w2 old now s s1
-  so_far_flushed {w} {w1} w2 keeps so = record {
+  -- the replies so far are flushed, and nothing is glanced at
+  unfoldable pub so_far_flushed : {n : ℕ} {r left w w1 : Option (List ℕ)} (w2 : Option (List ℕ)) {old now : Mounted D}
+      {s s1 s2 : List Glance} → Keeps w1 w2 → s2 ≡ s1
+      → SoFar state strict n r left w w1 old now s s1 → SoFar state strict n r left w w2 old now s s2
+  so_far_flushed {w} {w1} w2 {s} keeps unseen so = record {
     texts = so.texts;
     script = so.script;
     answers = so.answers;
@@ -138,12 +158,39 @@ module _ {D : Type 0} (state : D → DeviceState) (strict : Bool) where
     spelled = so.spelled;
     clocks = so.clocks;
     told = so.told;
-    glanced = so.glanced;
+    glanced = subst (Glanced w so.answers so.clocks s) (sym unseen) so.glanced;
     goes_on = so.goes_on;
     consumed = so.consumed;
     appended = Appends-kept w w1 w2 (replies so.answers) so.appended keeps;
     count = so.count;
   }
+
+pub refuse_reads : (end : ScriptEnd) (w w1 : Option (List ℕ)) (n f f' : ℕ) (r r' : Option (List ℕ)) → RepliesBadLine end w w1 n
+    → ReadsTo (Script end) f f' r r'
+refuse_reads Read w w1 n f f' r r' refuses = absurd refuses
+refuse_reads Done w w1 n f f' r r' refuses = tt
+refuse_reads (BadLine m) w w1 n f f' r r' refuses = tt
+refuse_reads Write w w1 n f f' r r' refuses = tt
+refuse_reads Memory w w1 n f f' r r' refuses = tt
+
+-- so many bytes were read or are ahead, with one line more
+pub ahead_more : (texts : List (List ℕ)) (text : List ℕ) {end : LineEnd} (all a b : ℕ) → end ≡ Newline
+    → all ≤ length (ended_texts texts) + a → a ≤ length (text ++ consumed_by_line {E = ReadError} (Ok end)) + b
+    → all ≤ length (ended_texts (texts ++ text ∷ [])) + b
+ahead_more texts text all a b is before more =
+    let line = subst (λ (l : LineEnd). a ≤ length (text ++ consumed_by_line {E = ReadError} (Ok l)) + b) is more in
+    let whole = ap length (texts_more texts text) in
+    let parts = length-append (ended_texts texts) (text ++ 10 ∷ []) in
+    omega (arith, before, line, whole, parts)
+
+-- each text has a byte at least, with its newline
+texts_least : (texts : List (List ℕ)) → length texts ≤ length (ended_texts texts)
+texts_least [] = omega arith
+texts_least (t ∷ texts) =
+    let rest = texts_least texts in
+    let parts = length-append (ended t) (ended_texts texts) in
+    let line = length-append t (10 ∷ []) in
+    omega (arith, rest, parts, line)
 
 -- how a line ended
 pub line_ended : (a b : Option (List ℕ)) (text : List ℕ) {end is : LineEnd} → end ≡ is
@@ -159,7 +206,7 @@ module _ {D : Type 0} {state : D → DeviceState} {strict : Bool} (none : (old :
     (more : (old mid new : Mounted D) (script : List Line) (answers : List Answer) (clocks : List ℕ) (line : Line) (answer : Answer)
     → TellsLines state old mid script answers clocks → ServesLine state mid new line answer
     → TellsLines state old new (script ++ line ∷ []) (answers ++ answer ∷ []) (clocks ++ (state new.log.device).moment ∷ [])) where
-  pub so_far_none : (r w : Option (List ℕ)) {left : List ℕ} (old : Mounted D) (s : List Glance) → left ≡ []
+  unfoldable pub so_far_none : (r w : Option (List ℕ)) {left : List ℕ} (old : Mounted D) (s : List Glance) → left ≡ []
       → SoFar state strict 1 r (prepend_known left r) w w old old s s
   so_far_none r w {left} old s empty = record {
     texts = [];
@@ -184,29 +231,30 @@ module _ {D : Type 0} {state : D → DeviceState} {strict : Bool} (none : (old :
       answers = [];
       spelled = tt;
       run = (none old).runs;
-      bytes = ((Keeps-refl r, Keeps-refl w, refl), tt);
+      bytes = ((refl, refl, refl), tt);
     };
     clocks = [];
     told = none old;
     glanced = glanced_none s;
   }
 
-  pub so_far_more : (n : ℕ) (r mid left w w1 w2 : Option (List ℕ)) (old now new : Mounted D) {text : List ℕ} (s s1 s2 : List Glance)
-      → SoFar state strict n r mid w w1 old now s s1 → IsText text → Consumes mid left (text ++ 10 ∷ [])
+  unfoldable pub so_far_more : (n : ℕ) (r mid left w w1 w2 : Option (List ℕ)) (old now new : Mounted D) {text : List ℕ}
+      (s s1 s2 : List Glance) → SoFar state strict n r mid w w1 old now s s1 → IsText text → Consumes mid left (text ++ 10 ∷ [])
       → Turns state strict None w1 w2 now new text n → GlancesBeforeReply state new w1 text s1 s2
       → SoFar state strict (n + 1) r left w w2 old new s s2
-  so_far_more n r mid left w w1 w2 old now new {text} s s1 s2 so plain consumes (call, goes_on) glances = record {
+  so_far_more n r mid left w w1 w2 old now new {text} s s1 s2 so plain consumes turns glances = record {
     texts = so.texts ++ text ∷ [];
-    script = so.script ++ call.line ∷ [];
-    answers = so.answers ++ call.answer ∷ [];
+    script = so.script ++ turns.0.line ∷ [];
+    answers = so.answers ++ turns.0.answer ∷ [];
     plain = all_more so.texts text so.plain plain;
-    spelled = spelled_more so.texts so.script so.spelled call.spells;
+    spelled = spelled_more so.texts so.script so.spelled turns.0.spells;
     clocks = so.clocks ++ (state new.log.device).moment ∷ [];
-    told = more old now new so.script so.answers so.clocks call.line call.answer so.told call.serves;
-    glanced = glanced_more w1 call.answer (state new.log.device).moment so.glanced so.appended (glances.once call.line call.spells);
-    goes_on = each_more (GoesOnBehind strict) so.answers call.answer so.goes_on goes_on;
+    told = more old now new so.script so.answers so.clocks turns.0.line turns.0.answer so.told turns.0.serves;
+    glanced = glanced_more w1 turns.0.answer (state new.log.device).moment so.glanced so.appended
+        (glances.once turns.0.line turns.0.spells);
+    goes_on = each_more (GoesOnBehind strict) so.answers turns.0.answer so.goes_on turns.1;
     consumed = line_more r mid left so.texts text so.consumed consumes;
-    appended = replies_after w w1 w2 so.answers call.answer so.appended call.replied;
+    appended = replies_after w w1 w2 so.answers turns.0.answer so.appended turns.0.replied;
     count = (let l = length-append so.texts (text ∷ []) in let c = so.count in omega (arith, l, c));
   }
 
@@ -372,6 +420,31 @@ module _ {D : Type 0} {state : D → DeviceState} {strict : Bool} (none : (old :
       (subst (λ o. Consumes mid o (text ++ [])) (ap (λ l. prepend_known l now) empty ∙ prepend_known-nil now) consumes) in
       stays now w1 so refl refl
       ((text, inl plain, Consumes-trans r mid now (ended_texts so.texts) text so.consumed read, so.appended), so.goes_on)
+
+  -- and why
+  pub read_cause : {n : ℕ} (r mid now w w1 : Option (List ℕ)) (old at : Mounted D) (text : List ℕ) {left : List ℕ} (s s1 : List Glance)
+      (so : SoFar state strict n r mid w w1 old at s s1) (f f1 f2 a b : ℕ)
+      → Consumes mid (prepend_known left now) (text ++ []) → left ≡ [] → f ≤ f1 → ((f1 < f2) ⊎ (b ≡ 0))
+      → 2 ^ 64 - 1 ≤ length (ended_texts so.texts) + a → a ≤ length (text ++ []) + b → ReadsTo (Script Read) f f2 r now
+  read_cause r mid now w w1 old at text s s1 so f f1 f2 a b consumes empty before (inl rose) all more = inl (omega (arith, before, rose))
+  read_cause r mid now w w1 old at text s s1 so f f1 f2 a b consumes empty before (inr spent) all more =
+      let read : Consumes mid now (text ++ []) =
+      subst (λ o. Consumes mid o (text ++ [])) (ap (λ l. prepend_known l now) empty ∙ prepend_known-nil now) consumes in
+      let parts = length-append (ended_texts so.texts) (text ++ []) in
+      inr (
+        ended_texts so.texts ++ (text ++ []),
+        Consumes-trans r mid now (ended_texts so.texts) (text ++ []) so.consumed read,
+        omega (arith, spent, all, more, parts),
+      )
+
+  pub numbers_cause : {n : ℕ} (r now w w1 : Option (List ℕ)) (old at : Mounted D) (left : List ℕ) (s s1 : List Glance)
+      → SoFar state strict n r (prepend_known left now) w w1 old at s s1 → (f f1 : ℕ) → 2 ^ 64 - 1 ≤ n
+      → ReadsTo (Script Read) f f1 r now
+  numbers_cause r now w w1 old at left s s1 so f f1 last =
+      let least = texts_least so.texts in
+      let c = so.count in
+      let parts = length-append (ended_texts so.texts) left in
+      inr (ended_texts so.texts ++ left, with_left r now left (ended_texts so.texts) so.consumed, omega (arith, least, c, last, parts))
 
   -- as many lines as have a number
   pub numbers_end : {n : ℕ} (r : Option (List ℕ)) {now : Option (List ℕ)} (w w1 : Option (List ℕ)) (old at : Mounted D) (left : List ℕ)

@@ -1,6 +1,6 @@
 -- What a run of a script takes of its reader and gives its writer, by the way that it ends. The language is an own choice.
 use Rattle.std.specs.Prelude.{◌≡◌, ◌≢◌, ◌⊎◌, ◌+◌, ◌-◌, ◌^◌, ◌<◌, ◌≤◌, ℕ, Option, List, [], ◌∷◌, ◌++◌, All, length, flat_map}
-use Rattle.std.specs.Io.KnownBytes.{Appends, Consumes, IsAtEnd, Keeps}
+use Rattle.std.specs.Io.KnownBytes.{Appends, Consumes, IsAtEnd}
 use Rattle.lfs_model.specs.declared.limits.TheConstants.{LONGEST_LINE}
 use Rattle.lfs_model.specs.Call.{Answer}
 use Rattle.lfs_model.specs.Script.{Line, Spells, bad, ended, lines, reply}
@@ -35,15 +35,16 @@ pub record IsBadLine (text more : List ℕ) (left : Option (List ℕ)) : Type 0 
   pub is_bad : (LONGEST_LINE < length text)
       ⊎ (IsBadText text × (((rest : List ℕ) × (more ≡ 10 ∷ rest)) ⊎ ((more ≡ []) × (0 < length text) × IsAtEnd left)))
 
--- these bytes went out, and then some of those
+-- these bytes went out, and then a beginning of those, which isn't all
 abbrev pub AppendsTo : Option (List ℕ) → Option (List ℕ) → List ℕ → List ℕ → Type 0
-AppendsTo old new whole bytes = (part : List ℕ) × (rest : List ℕ) × (part ++ rest ≡ bytes) × Appends old new (whole ++ part)
+AppendsTo old new whole bytes = (part : List ℕ) × (rest : List ℕ) × (part ++ rest ≡ bytes) × (rest ≢ [])
+    × Appends old new (whole ++ part)
 
 -- the input ends with a newline, or there is nothing behind it
 abbrev pub EndsWithLine : List ℕ → List ℕ → Option (List ℕ) → Type 0
 EndsWithLine input more left = ((front : List ℕ) × (input ≡ front ++ 10 ∷ [])) ⊎ ((more ≡ []) × IsAtEnd left)
 
--- The last reply went out in part; the lines are all those of the input, each of them whole, and more may have been read.
+-- The last reply went out in part, and not whole; the lines are all those of the input, each of them whole, and more may have been read.
 pub record StopsInReply (r r' w w' : Option (List ℕ)) (texts : List (List ℕ)) (answers : List Answer) : Type 0 where
   pub input : List ℕ
   pub more : List ℕ
@@ -55,7 +56,7 @@ pub record StopsInReply (r r' w w' : Option (List ℕ)) (texts : List (List ℕ)
   pub all : answers ≡ before ++ last ∷ []
   pub written : AppendsTo w w' (replies before) (reply last)
 
--- All replies went out, and the one to a bad line in part.
+-- All replies went out, and the one to a bad line in part, and not whole.
 pub record StopsInBad (r r' w w' : Option (List ℕ)) (texts : List (List ℕ)) (answers : List Answer) : Type 0 where
   pub text : List ℕ
   pub more : List ℕ
@@ -74,4 +75,5 @@ EndOf (BadLine n) r r' w w' texts answers = (n ≡ length texts + 1) × (text : 
 EndOf Read r r' w w' texts answers = (part : List ℕ) × (IsText part ⊎ (2 ^ 64 - 2 ≤ length texts))
     × Consumes r r' (ended_texts texts ++ part) × Appends w w' (replies answers)
 EndOf Write r r' w w' texts answers = StopsInReply r r' w w' texts answers ⊎ StopsInBad r r' w w' texts answers
-EndOf Memory r r' w w' texts answers = Keeps r r' × Keeps w w' × (texts ≡ [])
+-- nothing was read or written
+EndOf Memory r r' w w' texts answers = (r' ≡ r) × (w' ≡ w) × (texts ≡ [])

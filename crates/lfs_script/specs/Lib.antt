@@ -8,6 +8,9 @@ pub mod OfSectors
 pub mod Unused
 pub mod Seen
 pub mod Noted
+pub mod Heard
+pub mod HeardBy
+pub mod Recorded
 pub mod Saved
 pub mod Series
 pub mod SeriesNoted

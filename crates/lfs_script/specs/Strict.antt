@@ -1,6 +1,6 @@
 -- Behind which answers a run goes on, and what a run says by its end: a strict
 -- run ends at the first refusal, after its reply. The language is an own choice.
-use Rattle.std.specs.Prelude.{◌≡◌, ◌⊎◌, ℕ, Bool, true, false, IsTrue, Option, Some, None, List, [], ◌∷◌, ◌++◌}
+use Rattle.std.specs.Prelude.{◌≡◌, ◌⊎◌, ◌<◌, ◌≤◌, ◌-◌, ◌^◌, ℕ, length, Bool, true, false, IsTrue, Option, Some, None, List, [], ◌∷◌, ◌++◌}
 use Rattle.std.specs.List.{AllByRecursion}
 use Rattle.std.specs.Io.KnownBytes.{Appends, Consumes}
 use Rattle.lfs_model.specs.Call.{Answer, is_ok}
@@ -8,7 +8,7 @@ use Rattle.lfs_model.specs.Device.{DeviceState}
 use Rattle.lfs_model.specs.Script.{Line, lines}
 use Rattle.lfs_model.specs.Use.{UsesVolume}
 use Rattle.lfs_script.specs.Ending.{AreSpelled, EndOf, EndsWithLine, StopsInBad, StopsInReply, replies}
-use Rattle.lfs_script.specs.declared.script.ScriptEnd.TheVariants.{Write}
+use Rattle.lfs_script.specs.declared.script.ScriptEnd.TheVariants.{Read, Write}
 use Rattle.lfs_script.specs.declared.script.StrictEnd.{StrictEnd}
 use Rattle.lfs_script.specs.declared.script.StrictEnd.TheVariants.{Script, Refused}
 
@@ -52,6 +52,13 @@ StrictEndOf strict Refused r r' w w' texts answers = StopsBehind strict r r' w w
 StrictEndOf strict (Script Write) r r' w w' texts answers = ((stop : StopsInReply r r' w w' texts answers) × GoesOn strict stop.before)
     ⊎ (StopsInBad r r' w w' texts answers × GoesOn strict answers)
 StrictEndOf strict (Script end) r r' w w' texts answers = EndOf end r r' w w' texts answers × GoesOn strict answers
+
+-- by its end, from so many reads that failed to so many: where a run ends since it can't read on, a read failed, or nearly 2^64 bytes were
+-- read, which is as many as are counted
+abbrev pub ReadsTo : StrictEnd → ℕ → ℕ → Option (List ℕ) → Option (List ℕ) → Type 0
+ReadsTo (Script Read) failures failures' r r' = (failures < failures')
+    ⊎ ((bytes : List ℕ) × Consumes r r' bytes × (2 ^ 64 - 2 ≤ length bytes))
+ReadsTo end failures failures' r r' = Unit {0}
 
 -- As `Session`, by a strict run of the script.
 pub record StrictSession (end : StrictEnd) (r r' w w' : Option (List ℕ)) (d d' : DeviceState) : Type 0 where

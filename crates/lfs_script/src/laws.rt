@@ -21,8 +21,8 @@ pub fn uses_are_plain<D: SectorDevice>(device: &D, used: &D)
     ensures { UsesArePlain (in_sectors D.state device.now) (in_sectors D.state used.now) }
 {}
 
-/// Where each sector of a memory device is a unit, what is said of a use of it in sectors is said of
-/// the device itself.
+/// Where each sector of a memory device is a unit before a use, what is said of it in sectors is said
+/// of the device itself: its units stay.
 pub fn sessions_of_sectors()
     ensures { SessionsOfSectors }
 {}

@@ -5,10 +5,12 @@ mod answer;
 pub mod laws;
 mod line;
 mod noted;
+mod recorded;
 mod script;
 mod session;
 mod source;
 mod strict;
+mod transcript;
 mod witness;
 
 pub use lfs_fs as fs;
@@ -19,6 +21,7 @@ pub use lfs_words::{
     read_u32, read_u64,
 };
 pub use noted::{UseEnd, use_and_stop_noted, use_each_noted, use_volume_noted};
+pub use recorded::Recorded;
 pub use script::{ScriptEnd, StrictEnd, run, run_noted, run_strict};
 pub use session::{StoppedScript, use_and_stop, use_each, use_volume};
 pub use strict::use_volume_strict;

@@ -2,10 +2,12 @@
 ghost use Rattle.std.specs.Prelude.{◌≡◌, IfOk, IfErr, OnOk, OnErr};
 ghost use Rattle.lfs_model.specs.Device.{Carries, IsUntouched, Only, in_sectors};
 ghost use Rattle.lfs_device.specs.MemoryDevice.{device_state};
+ghost use Rattle.lfs_script.specs.Heard.{HearsTo};
 ghost use Rattle.lfs_script.specs.Saved.{SessionSaved};
 ghost use Rattle.lfs_script.specs.Series.{FromAny, texts_of};
 ghost use Rattle.lfs_script.specs.SeriesNoted.{StopsAtMountNoted, UsesInTurnNoted};
 ghost use Rattle.lfs_script.specs.Session.{SessionNoted};
+ghost use Rattle.lfs_script.specs.Strict.{ReadsTo};
 ghost use Rattle.lfs_script.specs.Unused.{IsUnused};
 
 use crate::script::{StrictEnd, run_noted};
@@ -26,6 +28,7 @@ pub struct UseEnd {
 
 /// As `use_volume` or `use_volume_strict`, before a witness: a stop at any moment since a reply went
 /// out leaves every call that was acknowledged by then. It tells whether all is saved at the end.
+/// What the witness heard is the script in hindsight, as in `run_noted`.
 pub fn use_volume_noted<R: Read, W: Write, D: SectorDevice, S: Witness<D, W>>(
     alloc: Global,
     strict: bool,
@@ -43,6 +46,13 @@ pub fn use_volume_noted<R: Read, W: Write, D: SectorDevice, S: Witness<D, W>>(
         (W.contents writer.new) (in_sectors D.state device) (in_sectors D.state result.1)
         (S.glances witness.old)
         (S.glances witness.new)) }
+    ensures reads { IfOk result.0 (λ end. ReadsTo end.script (S.failures witness.old)
+        (S.failures witness.new) (R.remaining reader.old) (R.remaining reader.new)) }
+    ensures heard { IfOk result.0 (λ end. HearsTo (S.heard witness.old) (S.heard witness.new)
+        (λ r r'. SessionSaved end.is_saved strict end.script r r' (W.contents writer.old)
+        (W.contents writer.new) (in_sectors D.state device) (in_sectors D.state result.1)
+        (S.glances witness.old) (S.glances witness.new)
+        × ReadsTo end.script (S.failures witness.old) (S.failures witness.new) r r')) }
     ensures refused { IfErr result.0 (IsUnused reader.old reader.new writer.old writer.new
         (in_sectors D.state device) (in_sectors D.state result.1)) }
     ensures untouched { OnErr result.0 (IsUntouched (in_sectors D.state device) (in_sectors D.state
@@ -76,6 +86,13 @@ pub fn use_and_stop_noted<R: Read, W: Write, S: Witness<MemDevice, W>>(
         (R.remaining reader.new) (W.contents writer.old) (W.contents writer.new)
         (in_sectors device_state device) (in_sectors device_state result.1) (S.glances witness.old)
         (S.glances witness.new)) }
+    ensures reads { IfOk result.0 (λ end. ReadsTo end (S.failures witness.old)
+        (S.failures witness.new) (R.remaining reader.old) (R.remaining reader.new)) }
+    ensures heard { IfOk result.0 (λ end. HearsTo (S.heard witness.old) (S.heard witness.new)
+        (λ r r'. SessionNoted strict end r r' (W.contents writer.old) (W.contents writer.new)
+        (in_sectors device_state device) (in_sectors device_state result.1) (S.glances witness.old)
+        (S.glances witness.new)
+        × ReadsTo end (S.failures witness.old) (S.failures witness.new) r r')) }
     ensures refused { IfErr result.0 (IsUnused reader.old reader.new writer.old writer.new
         (in_sectors device_state device) (in_sectors device_state result.1)) }
     ensures unseen { OnErr result.0 (witness.new ≡ witness.old) }

@@ -1,10 +1,11 @@
 // A script from its first line to its end.
-ghost use Rattle.std.specs.Prelude.{◌≤◌, length, option_map, true};
+ghost use Rattle.std.specs.Prelude.{◌≡◌, ◌≤◌, length, option_map, true};
 ghost use Rattle.lfs_model.specs.Device.{in_sectors};
 ghost use Rattle.lfs_fs.specs.Seen.{seen};
 ghost use Rattle.lfs_replies.specs.Answers.{result_of};
+ghost use Rattle.lfs_script.specs.Heard.{HearsTo};
 ghost use Rattle.lfs_script.specs.Running.{AnswersText, Ends, EndsBy, EndsNoted, Finishes, GlancesBeforeReply, RepliesBadLine, Turns};
-ghost use Rattle.lfs_script.specs.Strict.{Follows};
+ghost use Rattle.lfs_script.specs.Strict.{Follows, ReadsTo};
 
 use crate::answer::make;
 use crate::line::{LineEnd, next_line};
@@ -97,6 +98,8 @@ fn turn<W: Write, D: SectorDevice, S: Witness<D, W>>(
     ensures glances { GlancesBeforeReply (in_sectors D.SectorDevice.state) (seen fs.new)
         (W.contents writer.old)
         line.now (S.glances witness.old) (S.glances witness.new) }
+    ensures counted { S.failures witness.new ≡ S.failures witness.old }
+    ensures unheard { S.heard witness.new ≡ S.heard witness.old }
 {
     let Some(answer) = answer_line(alloc, fs, line) else {
         return Some(StrictEnd::Script(refuse(writer, count)));
@@ -119,9 +122,11 @@ fn finish<W: Write, D: SectorDevice, S: Witness<D, W>>(
     count: u64,
 ) -> StrictEnd
     requires short { length line.now ≤ LONGEST_LINE }
-    ensures { Finishes (in_sectors D.SectorDevice.state) strict result (W.contents writer.old)
+    ensures finishes { Finishes (in_sectors D.SectorDevice.state) strict result
+        (W.contents writer.old)
         (W.contents writer.new) (seen fs.old) (seen fs.new) line.now count (S.glances witness.old)
         (S.glances witness.new) }
+    ensures unheard { S.heard witness.new ≡ S.heard witness.old }
 {
     if line.is_empty() {
         return StrictEnd::Script(ScriptEnd::Done);
@@ -168,7 +173,8 @@ pub fn run_strict<R: Read, W: Write, D: SectorDevice>(
 }
 
 /// As `run` or `run_strict`, before a witness, which glances at device and writer between each call
-/// and its reply.
+/// and its reply, and makes the reads. Where the run ends since it can't read on, a read of it failed.
+/// What the witness heard is the script in hindsight, of a reader whose bytes aren't known too.
 pub fn run_noted<R: Read, W: Write, D: SectorDevice, S: Witness<D, W>>(
     alloc: Global,
     strict: bool,
@@ -177,9 +183,16 @@ pub fn run_noted<R: Read, W: Write, D: SectorDevice, S: Witness<D, W>>(
     witness: &mut S,
     fs: &mut Fs<D>,
 ) -> StrictEnd
-    ensures { EndsNoted (in_sectors D.SectorDevice.state) strict result (R.remaining reader.old)
+    ensures ends { EndsNoted (in_sectors D.SectorDevice.state) strict result (R.remaining reader.old)
         (R.remaining reader.new) (W.contents writer.old) (W.contents writer.new) (seen fs.old)
         (seen fs.new) (S.glances witness.old) (S.glances witness.new) }
+    ensures reads { ReadsTo result (S.failures witness.old) (S.failures witness.new)
+        (R.remaining reader.old) (R.remaining reader.new) }
+    ensures heard { HearsTo (S.heard witness.old) (S.heard witness.new) (λ r r'.
+        EndsNoted (in_sectors D.SectorDevice.state) strict result r r' (W.contents writer.old)
+        (W.contents writer.new) (seen fs.old) (seen fs.new) (S.glances witness.old)
+        (S.glances witness.new)
+        × ReadsTo result (S.failures witness.old) (S.failures witness.new) r r') }
 {
     let Ok(mut line) = Vec::with_capacity(alloc, LONGEST_LINE) else {
         return StrictEnd::Script(ScriptEnd::Memory);
@@ -188,7 +201,7 @@ pub fn run_noted<R: Read, W: Write, D: SectorDevice, S: Witness<D, W>>(
         return StrictEnd::Script(ScriptEnd::Memory);
     };
     for count in 1..u64::MAX {
-        match next_line(&mut source, reader, writer, &mut line) {
+        match next_line::<R, W, D, S>(&mut source, reader, writer, witness, &mut line) {
             Ok(LineEnd::Newline) => {
                 if let Some(end) = turn(
                     alloc,

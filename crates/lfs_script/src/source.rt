@@ -1,8 +1,11 @@
 // Bytes of a reader, one at a time.
-ghost use Rattle.std.specs.Prelude.{◌≡◌, ◌-◌, ◌<◌, ◌≤◌, [], None, take, OnErr, IfOk, vec_len, slice_range};
+ghost use Rattle.std.specs.Prelude.{◌≡◌, ◌⊎◌, ◌+◌, ◌*◌, ◌^◌, ◌-◌, ◌<◌, ◌≤◌, [], None, length, take, OnErr, IfOk, vec_len, slice_range};
 ghost use Rattle.std.specs.Io.KnownBytes.{Consumes, IsAtEnd, Keeps, prepend_known};
-ghost use Rattle.lfs_script.specs.Bytes.{TakesByte};
+ghost use Rattle.lfs_script.specs.Bytes.{TakesByte, ahead, taken};
+ghost use Rattle.lfs_script.specs.Heard.{HearsByte, HearsRead};
 
+use crate::witness::Witness;
+use lfs_device::SectorDevice;
 use std::alloc::{AllocError, Global};
 use std::io::{Read, Write};
 
@@ -21,10 +24,16 @@ pub struct Source {
     budget: u64,
     ghost order: { start ≤ end },
     ghost within: { end ≤ vec_len chunk },
+    // There is a chunk as long as a byte may be read.
+    ghost some: { budget ≤ 2 ^ 64 * vec_len chunk },
 }
 
 // Reads once over the chunk.
-fn read_chunk<R: Read>(reader: &mut R, chunk: &mut Vec<u8>) -> Result<usize, ReadError>
+fn read_chunk<R: Read, W: Write, D: SectorDevice, S: Witness<D, W>>(
+    witness: &mut S,
+    reader: &mut R,
+    chunk: &mut Vec<u8>,
+) -> Result<usize, ReadError>
     requires { 0 < vec_len chunk.old }
     ensures len { vec_len chunk.new ≡ vec_len chunk.old }
     ensures within { IfOk result (λ n. n ≤ vec_len chunk.new) }
@@ -32,8 +41,12 @@ fn read_chunk<R: Read>(reader: &mut R, chunk: &mut Vec<u8>) -> Result<usize, Rea
         (take n chunk.new.items)) }
     ensures end { IfOk result (λ n. n ≡ 0 → IsAtEnd (R.remaining reader.new)) }
     ensures err { OnErr result (Keeps (R.remaining reader.old) (R.remaining reader.new)) }
+    ensures counted { S.failures witness.old ≤ S.failures witness.new }
+    ensures cause { OnErr result (S.failures witness.old < S.failures witness.new) }
+    ensures heard { HearsRead (S.heard witness.old) (S.heard witness.new) result chunk.new.items }
+    ensures unseen { S.glances witness.new ≡ S.glances witness.old }
 {
-    match reader.read(chunk.as_mut_slice()) {
+    match witness.read(reader, chunk.as_mut_slice()) {
         Ok(n) => Ok(n),
         Err(_) => Err(ReadError),
     }
@@ -41,7 +54,8 @@ fn read_chunk<R: Read>(reader: &mut R, chunk: &mut Vec<u8>) -> Result<usize, Rea
 
 impl Source {
     pub fn new(alloc: Global) -> Result<Source, AllocError>
-        ensures { IfOk result (λ s. slice_range s.chunk.items s.start s.end ≡ []) }
+        ensures empty { IfOk result (λ s. slice_range s.chunk.items s.start s.end ≡ []) }
+        ensures ahead { IfOk result (λ s. ahead s.start s.end s.budget ≡ 2 ^ 64 - 1) }
     {
         let chunk = vec![in alloc; 0; CHUNK]?;
         Ok(Source {
@@ -54,19 +68,29 @@ impl Source {
 
     /// Takes the next byte; `None` is the end of the input. After an error nothing that was read is
     /// left over. The writer is flushed before the reader is asked.
-    pub fn next<R: Read, W: Write>(
+    pub fn next<R: Read, W: Write, D: SectorDevice, S: Witness<D, W>>(
         &mut self,
         reader: &mut R,
         writer: &mut W,
+        witness: &mut S,
     ) -> Result<Option<u8>, ReadError>
         ensures takes { TakesByte (prepend_known
             (slice_range self.old.chunk.items self.old.start self.old.end) (R.remaining reader.old))
             (R.remaining reader.new)
             (slice_range self.new.chunk.items self.new.start self.new.end) result }
         ensures kept { Keeps (W.contents writer.old) (W.contents writer.new) }
+        ensures ahead { ahead self.old.start self.old.end self.old.budget
+            ≤ length (taken result) + ahead self.new.start self.new.end self.new.budget }
+        ensures counted { S.failures witness.old ≤ S.failures witness.new }
+        ensures cause { OnErr result ((S.failures witness.old < S.failures witness.new)
+            ⊎ (ahead self.new.start self.new.end self.new.budget ≡ 0)) }
+        ensures hears { HearsByte (S.heard witness.old) (S.heard witness.new)
+            (slice_range self.old.chunk.items self.old.start self.old.end)
+            (slice_range self.new.chunk.items self.new.start self.new.end) result }
+        ensures unseen { S.glances witness.new ≡ S.glances witness.old }
     {
         if self.start == self.end {
-            return self.refill(reader, writer);
+            return self.refill::<R, W, D, S>(reader, writer, witness);
         }
         let byte = self.chunk[self.start];
         self.start += 1;
@@ -74,15 +98,24 @@ impl Source {
     }
 
     // The same, where nothing is left.
-    fn refill<R: Read, W: Write>(
+    fn refill<R: Read, W: Write, D: SectorDevice, S: Witness<D, W>>(
         &mut self,
         reader: &mut R,
         writer: &mut W,
+        witness: &mut S,
     ) -> Result<Option<u8>, ReadError>
         requires { self.old.start ≡ self.old.end }
         ensures takes { TakesByte (R.remaining reader.old) (R.remaining reader.new)
             (slice_range self.new.chunk.items self.new.start self.new.end) result }
         ensures kept { Keeps (W.contents writer.old) (W.contents writer.new) }
+        ensures ahead { self.old.budget
+            ≤ length (taken result) + ahead self.new.start self.new.end self.new.budget }
+        ensures counted { S.failures witness.old ≤ S.failures witness.new }
+        ensures cause { OnErr result ((S.failures witness.old < S.failures witness.new)
+            ⊎ (ahead self.new.start self.new.end self.new.budget ≡ 0)) }
+        ensures hears { HearsByte (S.heard witness.old) (S.heard witness.new) []
+            (slice_range self.new.chunk.items self.new.start self.new.end) result }
+        ensures unseen { S.glances witness.new ≡ S.glances witness.old }
     {
         self.start = 0;
         self.end = 0;
@@ -94,7 +127,7 @@ impl Source {
         }
         // What it can't send now a later write or flush has to tell.
         let _ = writer.flush();
-        let n = read_chunk(reader, &mut self.chunk)?;
+        let n = read_chunk::<R, W, D, S>(witness, reader, &mut self.chunk)?;
         if n == 0 {
             return Ok(None);
         }

@@ -18,7 +18,7 @@ returns-in-Ok-clause-turns g c =
 
 pub returns-in-Ok-clause-glances : goal.returns-in-Ok-clause-glances
 returns-in-Ok-clause-glances g c = glances_called (in_sectors g.D.SectorDevice.state) _
-    (result_of c.in-Some.answer) _ _ _ c.in-Some.ensures c.device.ensures c.glance.ensures
+    (result_of c.in-Some.answer) _ _ _ c.in-Some.ensures c.device.ensures c.glance.ensures.glances
 
 pub returns-clause-turns : goal.returns-clause-turns
 returns-clause-turns g c = inl (
@@ -29,4 +29,4 @@ returns-clause-turns g c = inl (
 
 pub returns-clause-glances : goal.returns-clause-glances
 returns-clause-glances g c = glances_called (in_sectors g.D.SectorDevice.state) _
-    (result_of c.in-Some.answer) _ _ _ c.in-Some.ensures c.device.ensures c.glance.ensures
+    (result_of c.in-Some.answer) _ _ _ c.in-Some.ensures c.device.ensures c.glance.ensures.glances
