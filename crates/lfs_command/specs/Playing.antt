@@ -1,5 +1,5 @@
 -- What a command does that runs a script on a device. The command line is an own choice.
-use Rattle.std.specs.Prelude.{◌≡◌, ◌⊎◌, ℕ, Bool, true, false, Option, List}
+use Rattle.std.specs.Prelude.{◌≡◌, ◌⊎◌, ℕ, Bool, true, false, Option, List, Result}
 use Rattle.std.specs.Io.KnownBytes.{Keeps}
 use Rattle.lfs_model.specs.Device.{AllLeft, DeviceState}
 use Rattle.lfs_fs.specs.Mounting.{IsRefused}
@@ -9,13 +9,18 @@ use Rattle.lfs_script.specs.Session.{SessionNoted}
 use Rattle.lfs_script.specs.Noted.{Glance}
 use Rattle.lfs_script.specs.declared.script.StrictEnd.{StrictEnd}
 use Rattle.lfs_script.specs.declared.script.StrictEnd.TheVariants.{Refused}
+use Rattle.lfs_host.specs.declared.fault.Ending.{Ending}
+use Rattle.lfs_host.specs.declared.fault.Fault.{Fault}
+use Rattle.lfs_host.specs.declared.fault.Outcome.{Outcome}
+use Rattle.lfs_command.specs.Telling.{IsToldPlainly, IsToldStrictly, IsToldUnmounted, outcome_of}
 
--- A use of the device's volume before a witness, whose replies were printed.
-pub record IsPlayed (r r' w w' : Option (List ℕ)) (d d' : DeviceState) (s s' : List Glance) : Type 0 where
+-- A use of the device's volume before a witness, whose replies were printed, and whose end is told.
+pub record IsPlayed (told : Result Ending Fault) (r r' w w' : Option (List ℕ)) (d d' : DeviceState) (s s' : List Glance) : Type 0 where
   pub end : StrictEnd
   pub printed : Option (List ℕ)
   pub session : SessionNoted false end r r' w printed d d' s s'
   pub kept : Keeps printed w'
+  pub is_told : IsToldPlainly end told
 
 -- The volume wasn't mounted, with a reason: nothing was read, and a stop leaves what it might have left before.
 pub record IsUnmounted (r r' : Option (List ℕ)) (d d' : DeviceState) : Type 0 where
@@ -24,9 +29,11 @@ pub record IsUnmounted (r r' : Option (List ℕ)) (d d' : DeviceState) : Type 0 
   pub unread : r' ≡ r
   pub left : AllLeft d' d.may_leave
 
-abbrev pub Plays : Option (List ℕ) → Option (List ℕ) → Option (List ℕ) → Option (List ℕ) → DeviceState → DeviceState → List Glance
-    → List Glance → Type 0
-Plays r r' w w' d d' s s' = IsPlayed r r' w w' d d' s s' ⊎ IsUnmounted r r' d d'
+-- by how it is told: there was such a use; or no mount, and its refusal is told
+abbrev pub Plays : Result Ending Fault → Option (List ℕ) → Option (List ℕ) → Option (List ℕ) → Option (List ℕ) → DeviceState → DeviceState
+    → List Glance → List Glance → Type 0
+Plays told r r' w w' d d' s s' = IsPlayed told r r' w w' d d' s s'
+    ⊎ ((unmounted : IsUnmounted r r' d d') × IsToldUnmounted unmounted.fault told)
 
 -- A use of the device's volume by a strict script, whose replies were printed.
 pub record IsPlayedStrictly (end : StrictEnd) (r r' w w' : Option (List ℕ)) (d d' : DeviceState) (s s' : List Glance) : Type 0 where
@@ -39,9 +46,12 @@ abbrev pub PlaysToRefusal : Option (List ℕ) → Option (List ℕ) → Option (
     → List Glance → Type 0
 PlaysToRefusal = IsPlayedStrictly Refused
 
-abbrev pub PlaysStrictly : Option (List ℕ) → Option (List ℕ) → Option (List ℕ) → Option (List ℕ) → DeviceState → DeviceState → List Glance
-    → List Glance → Type 0
-PlaysStrictly r r' w w' d d' s s' = ((end : StrictEnd) × IsPlayedStrictly end r r' w w' d d' s s') ⊎ IsUnmounted r r' d d'
+-- by how it is told: there was such a use, and its end is told; or no mount, and its refusal is told
+abbrev pub PlaysStrictly : Result Outcome Fault → Option (List ℕ) → Option (List ℕ) → Option (List ℕ) → Option (List ℕ) → DeviceState
+    → DeviceState → List Glance → List Glance → Type 0
+PlaysStrictly told r r' w w' d d' s s' = ((end : StrictEnd) × IsPlayedStrictly end r r' w w' d d' s s' × IsToldStrictly end told)
+    ⊎ ((unmounted : IsUnmounted r r' d d')
+    × (ended : Result Ending Fault) × IsToldUnmounted unmounted.fault ended × (told ≡ outcome_of ended))
 
 -- What is told of it, whether all is saved at the end of the use; where there was no mount nothing is said by that.
 abbrev pub TellsSaved : Bool → Bool → Option (List ℕ) → Option (List ℕ) → Option (List ℕ) → DeviceState → DeviceState → List Glance

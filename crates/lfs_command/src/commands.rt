@@ -1,10 +1,12 @@
 //! The commands, over words and streams that are handed in.
-ghost use Rattle.std.specs.Prelude.{◌≡◌, ◌≢◌, ◌≤◌, Ok, IfOk, OnOk, codes, false, true};
+ghost use Rattle.std.specs.Prelude.{◌≡◌, ◌≢◌, ◌≤◌, ◌⊎◌, Err, Ok, IfOk, OnOk, codes, false, true};
 ghost use Rattle.std.specs.Io.KnownBytes.{Keeps};
 ghost use Rattle.lfs_model.specs.Device.{Carries, in_sectors};
 ghost use Rattle.lfs_device.specs.MemoryDevice.{device_state};
 ghost use Rattle.lfs_grammar.specs.Asking.{HasWord, IsStrict};
+ghost use Rattle.lfs_script.specs.Heard.{HearsTo};
 ghost use Rattle.lfs_command.specs.Playing.{PlaysToRefusal, Plays, PlaysStrictly, TellsSaved};
+ghost use Rattle.lfs_command.specs.Telling.{IsTold, IsToldPlainly, IsToldStrictly, TellsInput, outcome_of};
 
 use crate::asked::{fault_of, left_of, look_of, patience_of};
 use crate::changing::change_volume;
@@ -22,7 +24,9 @@ use lfs_host::image::{Making, Patience, unmounted};
 use lfs_host::making::mkfs;
 use lfs_host::printing::{flush, print, put, put_count, refuse};
 use lfs_recover::{Recovery, explain, recover};
-use lfs_script::{Glances, ScriptEnd, StrictEnd, Witness, use_and_stop_noted, use_volume_noted};
+use lfs_script::{
+    Glances, Recorded, ScriptEnd, StrictEnd, Witness, use_and_stop_noted, use_volume_noted,
+};
 use lfs_show::looking::{Look, end_look, show};
 use lfs_show::viewing::look;
 use lfs_words::read_u32;
@@ -76,31 +80,45 @@ fn making_of(
     })
 }
 
-// How a command ends whose script ended so.
-fn ending_of(end: ScriptEnd) -> Result<Ending, Fault> {
-    match end {
-        ScriptEnd::Done => Ok(Ending::Done),
-        ScriptEnd::BadLine(line) => Ok(Ending::BadLine(line)),
-        ScriptEnd::Read => Err(Fault::Input),
-        ScriptEnd::Write => Err(Fault::Output),
-        ScriptEnd::Memory => Err(Fault::Memory(AllocError)),
+// Ends a script whose replies are all to go out.
+fn end_flushed<W: Write>(ending: Ending, output: &mut W) -> Result<Ending, Fault>
+    ensures kept { Keeps (W.contents output.old) (W.contents output.new) }
+    ensures told { (result ≡ Ok ending) ⊎ (result ≡ Err Fault.Output) }
+{
+    match flush(output) {
+        Ok(()) => Ok(ending),
+        Err(_) => Err(Fault::Output),
     }
+}
+
+// Ends a script by a fault, with the replies before it on their way as far as that goes.
+fn end_failed<W: Write>(fault: Fault, output: &mut W) -> Result<Ending, Fault>
+    ensures kept { Keeps (W.contents output.old) (W.contents output.new) }
+    ensures told { result ≡ Err fault }
+{
+    let _ = flush(output);
+    Err(fault)
 }
 
 // Ends a script, with all of its replies on their way.
 fn end_script<W: Write>(end: ScriptEnd, output: &mut W) -> Result<Ending, Fault>
     ensures kept { Keeps (W.contents output.old) (W.contents output.new) }
+    ensures told { IsTold end result }
 {
-    let flushed = flush(output);
-    let ending = ending_of(end)?;
-    flushed?;
-    Ok(ending)
+    match end {
+        ScriptEnd::Done => end_flushed(Ending::Done, output),
+        ScriptEnd::BadLine(line) => end_flushed(Ending::BadLine(line), output),
+        ScriptEnd::Read => end_failed(Fault::Input, output),
+        ScriptEnd::Write => end_failed(Fault::Output, output),
+        ScriptEnd::Memory => end_failed(Fault::Memory(AllocError), output),
+    }
 }
 
 // Ends a script that isn't strict, which no refusal ends.
 fn end_plain<W: Write>(end: StrictEnd, output: &mut W) -> Result<Ending, Fault>
     requires plain { end ≢ StrictEnd.Refused }
     ensures kept { Keeps (W.contents output.old) (W.contents output.new) }
+    ensures told { IsToldPlainly end result }
 {
     match end {
         StrictEnd::Script(end) => end_script(end, output),
@@ -117,14 +135,24 @@ fn play<D: SectorDevice, I: Read, W: Write, S: Witness<D, W>>(
     output: &mut W,
     witness: &mut S,
 ) -> (Played<Ending>, D)
-    ensures plays { Plays (I.remaining input.old) (I.remaining input.new)
+    ensures plays { Plays result.0.end (I.remaining input.old) (I.remaining input.new)
         (W.contents output.old) (W.contents output.new) (in_sectors D.state device)
         (in_sectors D.state result.1)
         (S.glances witness.old) (S.glances witness.new) }
+    ensures reads { TellsInput result.0.end (S.failures witness.old) (S.failures witness.new)
+        (I.remaining input.old) (I.remaining input.new) }
     ensures saved { TellsSaved result.0.is_saved false (I.remaining input.old)
         (I.remaining input.new) (W.contents output.old) (in_sectors D.state device)
         (in_sectors D.state result.1)
         (S.glances witness.old) (S.glances witness.new) }
+    ensures heard { HearsTo (S.heard witness.old) (S.heard witness.new) (λ r r'.
+        Plays result.0.end r r' (W.contents output.old) (W.contents output.new)
+        (in_sectors D.state device) (in_sectors D.state result.1)
+        (S.glances witness.old) (S.glances witness.new)
+        × TellsInput result.0.end (S.failures witness.old) (S.failures witness.new) r r'
+        × TellsSaved result.0.is_saved false r r' (W.contents output.old)
+        (in_sectors D.state device) (in_sectors D.state result.1)
+        (S.glances witness.old) (S.glances witness.new)) }
     ensures carries { Carries (in_sectors D.state device) (in_sectors D.state result.1) }
 {
     match use_volume_noted(alloc, false, input, output, witness, device) {
@@ -195,7 +223,8 @@ fn run<Here: World, R: Files<File = File> + Clock, I: Read, W: Write>(
 
 // The outcome of a command that ended so.
 fn outcome_of(ending: Result<Ending, Fault>) -> Result<Outcome, Fault>
-    ensures { result ≢ Ok Outcome.CallRefused }
+    ensures plain { result ≢ Ok Outcome.CallRefused }
+    ensures same { result ≡ outcome_of ending }
 {
     match ending {
         Ok(ending) => Ok(Outcome::Ended(ending)),
@@ -207,12 +236,13 @@ fn outcome_of(ending: Result<Ending, Fault>) -> Result<Outcome, Fault>
 fn end_strict<W: Write>(end: StrictEnd, output: &mut W) -> Result<Outcome, Fault>
     ensures kept { Keeps (W.contents output.old) (W.contents output.new) }
     ensures refused { result ≡ Ok Outcome.CallRefused → end ≡ StrictEnd.Refused }
+    ensures told { IsToldStrictly end result }
 {
     match end {
         StrictEnd::Script(end) => outcome_of(end_script(end, output)),
         StrictEnd::Refused => match flush(output) {
             Ok(()) => Ok(Outcome::CallRefused),
-            Err(fault) => Err(fault),
+            Err(_) => Err(Fault::Output),
         },
     }
 }
@@ -225,7 +255,7 @@ fn play_strict<D: SectorDevice, I: Read, W: Write, S: Witness<D, W>>(
     output: &mut W,
     witness: &mut S,
 ) -> (Played<Outcome>, D)
-    ensures plays { PlaysStrictly (I.remaining input.old) (I.remaining input.new)
+    ensures plays { PlaysStrictly result.0.end (I.remaining input.old) (I.remaining input.new)
         (W.contents output.old) (W.contents output.new) (in_sectors D.state device)
         (in_sectors D.state result.1)
         (S.glances witness.old) (S.glances witness.new) }
@@ -234,10 +264,20 @@ fn play_strict<D: SectorDevice, I: Read, W: Write, S: Witness<D, W>>(
         (W.contents output.new) (in_sectors D.state device) (in_sectors D.state result.1)
         (S.glances witness.old)
         (S.glances witness.new) }
+    ensures reads { TellsInput result.0.end (S.failures witness.old) (S.failures witness.new)
+        (I.remaining input.old) (I.remaining input.new) }
     ensures saved { TellsSaved result.0.is_saved true (I.remaining input.old)
         (I.remaining input.new) (W.contents output.old) (in_sectors D.state device)
         (in_sectors D.state result.1)
         (S.glances witness.old) (S.glances witness.new) }
+    ensures heard { HearsTo (S.heard witness.old) (S.heard witness.new) (λ r r'.
+        PlaysStrictly result.0.end r r' (W.contents output.old) (W.contents output.new)
+        (in_sectors D.state device) (in_sectors D.state result.1)
+        (S.glances witness.old) (S.glances witness.new)
+        × TellsInput result.0.end (S.failures witness.old) (S.failures witness.new) r r'
+        × TellsSaved result.0.is_saved true r r' (W.contents output.old)
+        (in_sectors D.state device) (in_sectors D.state result.1)
+        (S.glances witness.old) (S.glances witness.new)) }
     ensures carries { Carries (in_sectors D.state device) (in_sectors D.state result.1) }
 {
     match use_volume_noted(alloc, true, input, output, witness, device) {
@@ -286,9 +326,17 @@ fn play_and_stop<I: Read, W: Write, S: Witness<MemDevice, W>>(
     output: &mut W,
     witness: &mut S,
 ) -> (Result<Ending, Fault>, MemDevice)
-    ensures plays { Plays (I.remaining input.old) (I.remaining input.new) (W.contents output.old)
+    ensures plays { Plays result.0 (I.remaining input.old) (I.remaining input.new)
+        (W.contents output.old)
         (W.contents output.new) (in_sectors device_state device) (in_sectors device_state result.1)
         (S.glances witness.old) (S.glances witness.new) }
+    ensures reads { TellsInput result.0 (S.failures witness.old) (S.failures witness.new)
+        (I.remaining input.old) (I.remaining input.new) }
+    ensures heard { HearsTo (S.heard witness.old) (S.heard witness.new) (λ r r'.
+        Plays result.0 r r' (W.contents output.old) (W.contents output.new)
+        (in_sectors device_state device) (in_sectors device_state result.1)
+        (S.glances witness.old) (S.glances witness.new)
+        × TellsInput result.0 (S.failures witness.old) (S.failures witness.new) r r') }
     ensures carries { Carries (in_sectors device_state device) (in_sectors device_state result.1) }
 {
     match use_and_stop_noted(alloc, false, input, output, witness, device, left) {
@@ -551,7 +599,8 @@ fn answer_and_flush<'a, R: Files<File = File> + Clock, I: Read, W: Write, E: Wri
 }
 
 // Hands the command a buffer before the output. Each part of a command flushes what it wrote, and a
-// script its replies before each read.
+// script its replies before each read. The output is recorded, so that the clauses below know all
+// bytes that it took.
 fn answer_buffered<'a, R: Files<File = File> + Clock, I: Read, O: Write, E: Write>(
     rt: &R,
     alloc: Global,
@@ -564,7 +613,7 @@ fn answer_buffered<'a, R: Files<File = File> + Clock, I: Read, O: Write, E: Writ
     ensures strict { IfOk result.said (λ said. said.outcome ≡ Outcome.CallRefused
         → HasWord words.now (codes "--strict")) }
 {
-    match BufWriter::new(alloc, output) {
+    match BufWriter::new(alloc, Recorded::new(output)) {
         Ok(mut buffered) => {
             answer_and_flush(rt, alloc, terminals, words, input, &mut buffered, errors)
         }

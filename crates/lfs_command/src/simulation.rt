@@ -1,8 +1,10 @@
 //! Volumes in memory, whose device stops at a chosen write.
-ghost use Rattle.std.specs.Prelude.{IfOk};
+ghost use Rattle.std.specs.Prelude.{◌≡◌, IfOk, Some};
+ghost use Rattle.std.specs.NonZero.{non_zero_u32_get};
 ghost use Rattle.lfs_model.specs.Device.{Only};
 ghost use Rattle.lfs_model.specs.Image.{IsNew};
-ghost use Rattle.lfs_device.specs.MemoryDevice.{device_state};
+ghost use Rattle.lfs_device.specs.MemoryDevice.{bench_of, device_state};
+ghost use Rattle.lfs_device.specs.Units.{unit_from};
 
 use lfs_device::{Left, MemDevice};
 use lfs_fs::{Fs, FsError, format_version};
@@ -80,6 +82,9 @@ pub fn read_plan(
 pub fn start(alloc: Global, plan: Plan) -> Result<MemDevice, Refusal>
     ensures new { IfOk result (λ d. IsNew plan.version plan.segments (device_state d).content) }
     ensures alone { IfOk result (λ d. Only (device_state d).content (device_state d)) }
+    ensures stops { IfOk result (λ d. (bench_of d).stop ≡ Some plan.stop) }
+    ensures unit { IfOk result
+        (λ d. (device_state d).unit ≡ unit_from (non_zero_u32_get plan.unit) 0) }
 {
     if !is_segment_count(plan.segments) {
         return Err(Refusal::Inval);

@@ -1,5 +1,6 @@
 //! Why a command ends.
 ghost use Rattle.std.specs.Prelude.{◌≡◌, ◌≤◌, ◌⊎◌};
+ghost use Rattle.lfs_host.specs.Refusals.{refusal_of_mount};
 
 use crate::cause::Cause;
 use crate::host::HostFault;
@@ -198,7 +199,9 @@ impl From<ImageFault> for Refusal {
 }
 
 impl From<MountFault> for Refusal {
-    fn from(fault: MountFault) -> Refusal {
+    fn from(fault: MountFault) -> Refusal
+        ensures { result ≡ refusal_of_mount fault }
+    {
         match fault {
             MountFault::Damaged(code) => Refusal::Damaged(code),
             fault => Refusal::Mount(fault),

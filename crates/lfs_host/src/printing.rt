@@ -1,4 +1,5 @@
 //! What a command says on standard output.
+ghost use Rattle.std.specs.Prelude.{◌≡◌, ◌⊎◌, Err, Ok};
 ghost use Rattle.std.specs.Io.KnownBytes.{Keeps};
 
 use crate::fault::{Ending, Fault, Refusal};
@@ -58,10 +59,14 @@ pub fn print<W: Write>(output: &mut W, text: &str) -> Result<(), Fault> {
 }
 
 /// Prints the line of a refused command.
-pub fn refuse<W: Write>(output: &mut W, refusal: Refusal) -> Result<Ending, Fault> {
+pub fn refuse<W: Write>(output: &mut W, refusal: Refusal) -> Result<Ending, Fault>
+    ensures { (result ≡ Ok (Ending.Refused refusal)) ⊎ (result ≡ Err Fault.Output) }
+{
     let Ok(()) = output.writeln(refusal) else {
         return Err(Fault::Output);
     };
-    flush(output)?;
-    Ok(Ending::Refused(refusal))
+    match flush(output) {
+        Ok(()) => Ok(Ending::Refused(refusal)),
+        Err(_) => Err(Fault::Output),
+    }
 }

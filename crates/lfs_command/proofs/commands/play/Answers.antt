@@ -1,5 +1,7 @@
-use Rattle.std.proofs.Common.{ap, inl, inr}
+use Rattle.std.proofs.Common.{Some, ap, inl, inr, refl}
+use Rattle.lfs_script.proofs.HeardBytes.{hears_more, hears_none, hears_still}
 use Rattle.lfs_script.proofs.Used.{err_of, ok_of, told_goes_on}
+use Rattle.lfs_command.proofs.Told.{input_told, told_unmounted, unmounted_told}
 use Rattle.lfs_command.proofs.commands.play.Goals as goal
 
 pub returns-in-Ok-default-clause-plays : goal.returns-in-Ok-default-clause-plays
@@ -8,17 +10,21 @@ returns-in-Ok-default-clause-plays g c = inl (record {
   printed = _;
   session = ok_of _ c.in-Ok-default.is-0 c.use_volume_noted.ensures.ran;
   kept = c.end_plain-end.ensures.kept;
+  is_told = c.end_plain-end.ensures.told;
 })
 
 pub returns-in-Err-default-clause-plays : goal.returns-in-Err-default-clause-plays
 returns-in-Err-default-clause-plays g c =
     let unused = err_of _ c.in-Err-default.is-0 c.use_volume_noted.ensures.refused in
-    inr (record {
-      fault = c.in-Err-default.fault;
-      reason = unused.reason;
-      unread = ap g.I.Read.remaining unused.unread;
-      left = unused.left;
-    })
+    inr (
+      record {
+        fault = c.in-Err-default.fault;
+        reason = unused.reason;
+        unread = ap g.I.Read.remaining unused.unread;
+        left = unused.left;
+      },
+      told_unmounted c.in-Err-default.fault _ c.from.ensures c.refuse-end.ensures,
+    )
 
 pub returns-in-Ok-default-clause-saved : goal.returns-in-Ok-default-clause-saved
 returns-in-Ok-default-clause-saved g c =
@@ -37,3 +43,36 @@ returns-in-Err-default-clause-saved g c =
 pub end_plain-end-requires : goal.end_plain-end-requires
 end_plain-end-requires g c =
     record { plain = λ is. told_goes_on _ _ _ _ _ _ _ _ _ is (ok_of _ c.in-Ok-default.is-0 c.use_volume_noted.ensures.ran) }
+
+pub returns-in-Ok-default-clause-reads : goal.returns-in-Ok-default-clause-reads
+returns-in-Ok-default-clause-reads g c =
+    input_told _ _ _ _ c.in-Ok-default.used.script _ c.end_plain-end.ensures.told
+    (ok_of _ c.in-Ok-default.is-0 c.use_volume_noted.ensures.reads)
+
+pub returns-in-Err-default-clause-reads : goal.returns-in-Err-default-clause-reads
+returns-in-Err-default-clause-reads g c =
+    unmounted_told _ _ _ _ c.in-Err-default.fault _ (told_unmounted c.in-Err-default.fault _ c.from.ensures c.refuse-end.ensures)
+
+-- ---- in hindsight
+
+pub returns-in-Ok-default-clause-heard : goal.returns-in-Ok-default-clause-heard
+returns-in-Ok-default-clause-heard g c =
+    let end = c.in-Ok-default.used.script in
+    let told = c.end_plain-end.ensures.told in
+    hears_more _ _ _ _ (λ r r' used. (
+      inl (record { end = end; printed = _; session = used.0.session; kept = c.end_plain-end.ensures.kept; is_told = told }),
+      input_told _ _ r r' end _ told used.1,
+      inl (end, _, used.0),
+    )) (ok_of _ c.in-Ok-default.is-0 c.use_volume_noted.ensures.heard)
+
+pub returns-in-Err-default-clause-heard : goal.returns-in-Err-default-clause-heard
+returns-in-Err-default-clause-heard g c =
+    let fault = c.in-Err-default.fault in
+    let unused = err_of _ c.in-Err-default.is-0 c.use_volume_noted.ensures.refused in
+    let told = told_unmounted fault _ c.from.ensures c.refuse-end.ensures in
+    hears_still _ _ _ _ (ap g.S.Witness.heard (err_of _ c.in-Err-default.is-0 c.use_volume_noted.ensures.unseen))
+    (hears_none _ _ (λ rest. (
+      inr (record { fault = fault; reason = unused.reason; unread = refl; left = unused.left }, told),
+      unmounted_told _ _ (Some rest) (Some rest) fault _ told,
+      inr (record { fault = fault; reason = unused.reason; unread = refl; left = unused.left }),
+    )))
