@@ -1,5 +1,19 @@
 //! The blocks of an object, one after another.
-ghost use Rattle.lfs_salvage.specs.Blocks.{FindsBlock, IsOf};
+ghost use Rattle.std.specs.Prelude.{◌≡◌, ◌-◌, IfSome, slice_get};
+ghost use Rattle.lfs_model.specs.Content.{Content, block};
+ghost use Rattle.lfs_model.specs.Device.{Carries};
+ghost use Rattle.lfs_salvage.specs.Blocks.{
+  AddressesAgree,
+  FindsBlock,
+  Follows,
+  IsAddressed,
+  IsOf,
+  KeepsAddresses,
+  block_address,
+  goal_address,
+  row_address,
+  row_place,
+};
 ghost use Rattle.lfs_salvage.specs.Telling.{TellsNothing};
 
 use crate::readings::Readings;
@@ -53,29 +67,31 @@ pub fn ends_within(inode: &Inode, block: u32, bytes: &[u8; 512]) -> bool {
     is_zero_from(bytes, inode.size.saturating_sub(start).min(BLOCK_LEN))
 }
 
+// The address at a place.
+fn address_at(addresses: &[u32], place: u32) -> Option<u32>
+    ensures { result ≡ slice_get addresses.now place }
+{
+    addresses.get(place as usize).copied()
+}
+
 // The first address from a place on that isn't 0.
 fn stored_from(addresses: &[u32], place: u32) -> Option<u32> {
     let mut rest = addresses.iter().skip(place as usize).copied();
     rest.find(|sector| *sector != 0)
 }
 
-/// A block of addresses, and the block that the first of them leads to.
+/// A block of addresses.
 #[derive(Clone, Copy)]
 struct Row {
-    first: u32,
+    /// 0 for the single one of the inode; those in the double root follow.
+    place: u32,
     addresses: [u32; 128],
 }
 
 impl Row {
-    fn new(first: u32, bytes: &[u8; 512]) -> Row {
-        Row {
-            first,
-            addresses: PointerView::new(bytes).to_array(),
-        }
-    }
-
-    fn get(&self, place: u32) -> Option<u32> {
-        self.addresses.get(place as usize).copied()
+    // The block that the first of its addresses leads to.
+    fn first(&self) -> u32 {
+        DIRECT_BLOCKS.saturating_add(BLOCK_POINTERS.saturating_mul(self.place))
     }
 }
 
@@ -89,7 +105,7 @@ pub struct Blocks {
     /// The addresses of the row that the next block is in, once they were read.
     row: Option<Row>,
     /// The addresses of the leaves in its double root, once they were read.
-    root: Option<Row>,
+    root: Option<[u32; 128]>,
     /// The sector of its last block, where that has bytes past the end.
     tail: Option<u32>,
     /// All blocks were gone through.
@@ -128,7 +144,10 @@ struct Way {
 
 impl Blocks {
     /// Begins with the first block of an object, which is a new reader.
-    pub fn new(readings: &mut Readings, inode: Inode) -> Blocks {
+    pub fn new(readings: &mut Readings, inode: Inode) -> Blocks
+        ensures inode { result.inode ≡ inode }
+        ensures follows { (content : Content) → Follows content result }
+    {
         readings.begin();
         Blocks {
             inode,
@@ -141,40 +160,71 @@ impl Blocks {
         }
     }
 
+    // How many blocks the next one is behind those of the inode.
+    fn behind(&self) -> u32
+        ensures { result ≡ self.now.next - DIRECT_BLOCKS }
+    {
+        self.next.saturating_sub(DIRECT_BLOCKS)
+    }
+
+    // The place of the row that the next block is in.
+    fn row_place(&self) -> u32
+        ensures { result ≡ row_place self.now.next }
+    {
+        self.behind() / BLOCK_POINTERS
+    }
+
     // The address of the next block, if that of its row is at hand.
-    fn known(&self) -> Option<u32> {
+    fn known(&self) -> Option<u32>
+        ensures { (content : Content) → Follows content self.now → IfSome result
+            (λ sector. sector ≡ block_address content self.now.inode self.now.next) }
+    {
         if self.next < DIRECT_BLOCKS {
-            return self.inode.direct.get(self.next as usize).copied();
+            return address_at(&self.inode.direct, self.next);
         }
         let row = self.row?;
-        row.get(self.next.saturating_sub(row.first))
+        if row.place != self.row_place() {
+            return None;
+        }
+        address_at(&row.addresses, self.behind() % BLOCK_POINTERS)
+    }
+
+    // The address of the row that the next block is in, if that is at hand.
+    fn known_row(&self) -> Option<u32>
+        ensures { (content : Content) → Follows content self.now → IfSome result
+            (λ sector. sector ≡ row_address content self.now.inode (row_place self.now.next)) }
+    {
+        let place = self.row_place();
+        if place == 0 {
+            return Some(self.inode.single);
+        }
+        let root = self.root?;
+        address_at(&root, place - 1)
     }
 
     // The row that the next block is in, behind those of the inode, or the double root above it.
-    fn row_way(&self) -> Option<Way> {
-        if self.next < FIRST_DOUBLE {
-            let sector = self.inode.single;
-            return Some(Way {
+    fn row_way(&self) -> Option<Way>
+        ensures { (content : Content) → Follows content self.now → IfSome result
+            (λ way. way.sector ≡ goal_address content self.now way.goal) }
+    {
+        match self.known_row() {
+            Some(sector) => Some(Way {
                 goal: Goal::Row,
                 sector,
-            });
-        }
-        let Some(root) = self.root else {
-            let sector = self.inode.double;
-            return Some(Way {
+            }),
+            None if self.root.is_some() => None,
+            None => Some(Way {
                 goal: Goal::Root,
-                sector,
-            });
-        };
-        let sector = root.get(self.next.saturating_sub(root.first) / BLOCK_POINTERS)?;
-        Some(Way {
-            goal: Goal::Row,
-            sector,
-        })
+                sector: self.inode.double,
+            }),
+        }
     }
 
     // None behind the last block.
-    fn way(&self) -> Option<Way> {
+    fn way(&self) -> Option<Way>
+        ensures { (content : Content) → Follows content self.now → IfSome result
+            (λ way. way.sector ≡ goal_address content self.now way.goal) }
+    {
         if self.next >= self.count {
             return None;
         }
@@ -188,7 +238,10 @@ impl Blocks {
     }
 
     // Goes on behind so many blocks, which can't be read for this sector.
-    fn pass(&mut self, count: u32, sector: u32) -> Gap {
+    fn pass(&mut self, count: u32, sector: u32) -> Gap
+        ensures first { result.first ≡ self.old.next }
+        ensures kept { KeepsAddresses self.old self.new }
+    {
         let first = self.next;
         let count = count.min(self.count.saturating_sub(first));
         self.next = first.saturating_add(count);
@@ -201,8 +254,15 @@ impl Blocks {
 
     // Takes in what was read.
     fn take(&mut self, way: Way, bytes: &[u8; 512]) -> Piece
-        ensures { IsOf way.sector bytes.now result }
+        ensures bytes { IsOf way.sector bytes.now result }
+        ensures address { (content : Content) → way.sector ≡ goal_address content self.old way.goal
+            → IsAddressed content self.old.inode result }
+        ensures follows { (content : Content) → way.sector ≡ goal_address content self.old way.goal
+            → block content way.sector ≡ bytes.now → Follows content self.old
+            → Follows content self.new }
+        ensures inode { self.new.inode ≡ self.old.inode }
     {
+        let addresses = PointerView::new(bytes).to_array();
         match way.goal {
             Goal::Block => {
                 let block = self.pass(1, way.sector).first;
@@ -211,8 +271,11 @@ impl Blocks {
                 }
                 return Piece::Block(block, way.sector, *bytes);
             }
-            Goal::Row => self.row = Some(Row::new(self.next, bytes)),
-            Goal::Root => self.root = Some(Row::new(FIRST_DOUBLE, bytes)),
+            Goal::Row => {
+                let place = self.row_place();
+                self.row = Some(Row { place, addresses });
+            }
+            Goal::Root => self.root = Some(addresses),
         }
         Piece::Nothing
     }
@@ -237,18 +300,20 @@ impl Blocks {
     // The same of the row that was read last.
     fn stored_past_row(&self) -> Option<u32> {
         let row = self.row?;
-        stored_from(&row.addresses, self.count.saturating_sub(row.first))
+        stored_from(&row.addresses, self.count.saturating_sub(row.first()))
     }
 
     // The same of the leaves in the double root.
     fn stored_past_root(&self) -> Option<u32> {
         let root = self.root?;
-        let blocks = self.count.saturating_sub(root.first);
-        stored_from(&root.addresses, blocks.div_ceil(BLOCK_POINTERS))
+        let blocks = self.count.saturating_sub(FIRST_DOUBLE);
+        stored_from(&root, blocks.div_ceil(BLOCK_POINTERS))
     }
 
     // The sector that has bytes past the end, or leads there. It is told once.
-    fn rest(&mut self) -> Option<u32> {
+    fn rest(&mut self) -> Option<u32>
+        ensures { KeepsAddresses self.old self.new }
+    {
         if self.is_done {
             return None;
         }
@@ -267,6 +332,13 @@ impl Blocks {
         readings: &mut Readings,
     ) -> Option<Piece>
         ensures block { FindsBlock (D.state device.old) (D.state device.new) result }
+        ensures address { Follows (D.state device.old).content self.old
+            → IfSome result (IsAddressed (D.state device.old).content self.old.inode) }
+        ensures follows { (D.state device.new).keeps_model
+            → Follows (D.state device.old).content self.old
+            → Follows (D.state device.new).content self.new }
+        ensures inode { self.new.inode ≡ self.old.inode }
+        ensures carries { Carries (D.state device.old) (D.state device.new) }
         ensures told { TellsNothing (D.state device.old) (D.state device.new) }
     {
         let Some(way) = self.way() else {
@@ -286,3 +358,8 @@ impl Blocks {
         }
     }
 }
+
+/// The log of a volume has each block of an object where the object's inode has it.
+pub fn addresses_agree()
+    ensures { AddressesAgree }
+{}

@@ -18,7 +18,7 @@ mod survey;
 mod walk;
 
 pub use addresses::{Addresses, Object, read_addresses};
-pub use blocks::{Blocks, Flaw, Gap, MOST_STEPS, Piece};
+pub use blocks::{Blocks, Flaw, Gap, MOST_STEPS, Piece, addresses_agree};
 pub use checking::find_damage;
 pub use damage::{Damage, Part};
 pub use directory::{Entry, Listing, Place, list};

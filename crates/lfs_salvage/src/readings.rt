@@ -1,10 +1,10 @@
 //! Sectors, each of which is read a few times at most.
-ghost use Rattle.std.specs.Prelude.{◌≡◌, ◌≤◌, ◌+◌, ℕ, Some, IsTrue, IsSome, IfSome};
-ghost use Rattle.lfs_model.specs.Device.{cell_at};
+ghost use Rattle.std.specs.Prelude.{◌≡◌, ◌≤◌, ◌+◌, ℕ, Some, None, IsTrue, IsSome, IfSome, IfNone};
+ghost use Rattle.lfs_model.specs.Device.{Carries, cell_at};
 ghost use Rattle.lfs_salvage.specs.Readings.{readers_of};
 ghost use Rattle.lfs_salvage.specs.Telling.{TellsNothing};
 
-use lfs_device::SectorDevice;
+use lfs_device::{ReadFault, SectorDevice};
 use lfs_model::limits::{CHECKPOINT_SLOTS, SEGMENT_SECTORS};
 use std::alloc::{AllocError, Global};
 
@@ -23,13 +23,22 @@ pub fn first_sector(segment: u32) -> u32 {
 pub fn read_sector<D: SectorDevice>(device: &mut D, sector: u32) -> Option<[u8; 512]>
     ensures value { IfSome result (λ bytes. (D.state device.new).keeps_model
         → cell_at (D.state device.old).content sector ≡ Some bytes) }
+    ensures none { IfNone result ((D.state device.new).keeps_model
+        → (D.state device.new).failures ≡ (D.state device.old).failures
+        → cell_at (D.state device.old).content sector ≡ None) }
+    ensures content { (D.state device.new).content ≡ (D.state device.old).content }
+    ensures carries { Carries (D.state device.old) (D.state device.new) }
     ensures told { TellsNothing (D.state device.old) (D.state device.new) }
 {
-    let mut bytes = [0; 512];
-    if sector >= device.sectors() || device.read(sector, &mut bytes).is_err() {
+    if sector >= device.sectors() {
         return None;
     }
-    Some(bytes)
+    let mut bytes = [0; 512];
+    match device.read(sector, &mut bytes) {
+        Ok(()) => Some(bytes),
+        Err(ReadFault::Unreadable) => None,
+        Err(ReadFault::Failed) => None,
+    }
 }
 
 /// Who read a sector.
@@ -113,6 +122,8 @@ impl Readings {
             → readers_of self.new sector ≡ readers_of self.old sector + 1 }
         ensures few { IsSome result → readers_of self.new sector ≤ MOST_READERS }
         ensures kept { (other : ℕ) → readers_of self.old other ≤ readers_of self.new other }
+        ensures content { (D.state device.new).content ≡ (D.state device.old).content }
+        ensures carries { Carries (D.state device.old) (D.state device.new) }
         ensures told { TellsNothing (D.state device.old) (D.state device.new) }
     {
         if !self.take(sector) {

@@ -12,7 +12,10 @@ ghost use Rattle.std.specs.Prelude.{
   None,
   Some,
 };
-ghost use Rattle.lfs_salvage.specs.Slots.{number_in};
+ghost use Rattle.lfs_model.specs.Checkpoint.{checkpoint_in};
+ghost use Rattle.lfs_model.specs.Content.{with_parity};
+ghost use Rattle.lfs_model.specs.Device.{Carries};
+ghost use Rattle.lfs_salvage.specs.Slots.{IsFound, held_in, number_in};
 ghost use Rattle.lfs_salvage.specs.Telling.{TellsNothing};
 
 use crate::readings::read_sector;
@@ -72,23 +75,39 @@ pub struct Slots {
     pub second: Slot,
 }
 
-// A checkpoint stands in the slot that its number says.
-fn read_slot<D: SectorDevice>(device: &mut D, sector: u32) -> Slot
-    ensures { TellsNothing (D.state device.old) (D.state device.new) }
+// What a slot holds that has these bytes. A checkpoint stands in the slot that its number says.
+fn slot_of(bytes: &[u8; 512], sector: u32) -> Slot
+    ensures { held_in result ≡ with_parity sector (checkpoint_in bytes.now) }
 {
-    let Some(bytes) = read_sector(device, sector) else {
+    let Some(checkpoint) = Checkpoint::decode(bytes) else {
+        if is_zero(bytes) {
+            return Slot::Empty;
+        }
         return Slot::Other;
     };
-    match Checkpoint::decode(&bytes) {
-        Some(checkpoint) if checkpoint.number % 2 == u64::from(sector) => Slot::Whole(checkpoint),
-        None if is_zero(&bytes) => Slot::Empty,
-        _ => Slot::Other,
+    if checkpoint.number % 2 != u64::from(sector) {
+        return Slot::Other;
+    }
+    Slot::Whole(checkpoint)
+}
+
+fn read_slot<D: SectorDevice>(device: &mut D, sector: u32) -> Slot
+    ensures found { IsFound (D.state device.old) (D.state device.new) sector (held_in result) }
+    ensures content { (D.state device.new).content ≡ (D.state device.old).content }
+    ensures carries { Carries (D.state device.old) (D.state device.new) }
+    ensures told { TellsNothing (D.state device.old) (D.state device.new) }
+{
+    match read_sector(device, sector) {
+        Some(bytes) => slot_of(&bytes, sector),
+        None => Slot::Other,
     }
 }
 
-/// Reads both slots.
+/// Reads both slots. One that holds a checkpoint is `Whole` of it, unless the device failed.
 pub fn read_slots<D: SectorDevice>(device: &mut D) -> Slots
-    ensures { TellsNothing (D.state device.old) (D.state device.new) }
+    ensures first { IsFound (D.state device.old) (D.state device.new) 0 (held_in result.first) }
+    ensures second { IsFound (D.state device.old) (D.state device.new) 1 (held_in result.second) }
+    ensures told { TellsNothing (D.state device.old) (D.state device.new) }
 {
     Slots {
         first: read_slot(device, 0),
