@@ -1,0 +1,6 @@
+pub mod Steps
+pub mod Entries
+pub mod Bits
+pub mod Registers
+pub mod Bursts
+pub mod Behind
