@@ -1,6 +1,6 @@
 -- The exits that calls share: where a `?` returns, where a call doesn't begin and what it does where it began, and what it reads then.
 use Rattle.std.specs.Prelude.{IfOk, IsErr, IsErrAnd}
-use Rattle.lfs_fs.proofs.Prelude.{◌≡◌, ◌≤◌, ◌+◌, ◌*◌, ℕ, Bool, false, Err, Ok, Result, OnOk, OnErr, IsErrOf, List, ap, ok_then}
+use Rattle.lfs_fs.proofs.Prelude.{◌≡◌, ◌≤◌, ℕ, Bool, false, Err, Ok, Result, OnOk, OnErr, IsErrOf, List, ap, ok_then}
 use Rattle.lfs_fs.proofs.Prelude.{err_from_is_err_and, Answer, Call, Refuse, never_for_device, DeviceState, IsLawful}
 use Rattle.lfs_fs.proofs.Prelude.{LogFault, Store, files_of, HasHeader, HasObject, Tells, TellsFault}
 use Rattle.lfs_fs.proofs.Prelude.{EntryFault, FsError, Fs, error_of_entry, error_of_log, ReachesObject, FilesState, asked_by, draft_of}
@@ -17,6 +17,7 @@ use Rattle.lfs_fs.proofs.Prelude.{refusal_of, Begins, seen, Mounted, Serves}
 use Rattle.lfs_files.specs.declared.fault.LogFault.TheVariants as log
 use Rattle.lfs_files.specs.declared.header.Header.{Header}
 use Rattle.lfs_files.specs.Files as files
+use Rattle.lfs_store.specs.Growing.{asked_by_changes}
 use Rattle.lfs_entries.specs.Telling.{AsksOnly, DraftsOnly}
 use Rattle.lfs_path.specs.dirs.Growing.{GrowsDirectory}
 use Rattle.lfs_fs.specs.declared.error.FsError.TheVariants as error
@@ -115,12 +116,13 @@ module _ {D : Type 0} {state : D → DeviceState} {f : Fs D} {store : Store D} {
 
 -- ---- what it drafts
 
--- memory takes it where it is so many headers and blocks
+-- it asks for no more memory than so many headers and blocks do
 pub draft_fits : {D : Type 0} {state : D → DeviceState} (lawful : (d : D) → IsLawful (state d)) {v : Mounted D} {f : Fs D}
     → IsBegun state v f → {store : Store D} {result : Result (Unit {0}) EntryFault}
-    → DraftsOnly (files_of state f.store) (files_of state store) result → (headers blocks : ℕ) → 2 * headers + 4 * blocks ≤ 452
+    → DraftsOnly (files_of state f.store) (files_of state store) result → (headers blocks : ℕ) {most : ℕ}
+    → asked_by_changes headers blocks ≤ most
     → OnOk result (GrowsDirectory (files_of state f.store) (files_of state store) headers blocks)
-    → OnOk result (asked_by (draft_of store) ≤ 456)
+    → OnOk result (asked_by (draft_of store) ≤ most)
 draft_fits {state = state} lawful {v} {f} begun {store} {result} only headers blocks few =
     ok_then result _ _ (takes_draft state lawful v f begun store only.redrafts headers blocks few)
 
@@ -128,7 +130,8 @@ draft_fits {state = state} lawful {v} {f} begun {store} {result} only headers bl
 pub entry_fits : {D : Type 0} {state : D → DeviceState} (lawful : (d : D) → IsLawful (state d)) {old f : Fs D} {path : List ℕ} {d : ℕ}
     {l : Last} → BeginsAt state old f path d l → {asked drafted : Store D} {X : Type 0} {rule : Result X EntryFault}
     → AsksOnly (files_of state f.store) (files_of state asked) rule → {result : Result (Unit {0}) EntryFault}
-    → DraftsOnly (files_of state asked) (files_of state drafted) result → (headers blocks : ℕ) → 2 * headers + 4 * blocks ≤ 452
+    → DraftsOnly (files_of state asked) (files_of state drafted) result → (headers blocks : ℕ) {most : ℕ}
+    → asked_by_changes headers blocks ≤ most
     → OnOk result (GrowsDirectory (files_of state asked) (files_of state drafted) headers blocks)
-    → OnOk result (asked_by (draft_of drafted) ≤ 456)
+    → OnOk result (asked_by (draft_of drafted) ≤ most)
 entry_fits {state = state} lawful begins {asked} only = draft_fits lawful (read state lawful begins asked only.reads)

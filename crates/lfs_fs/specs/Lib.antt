@@ -1,6 +1,7 @@
 pub mod Refusals
 pub mod Faults
 pub mod Handles
+pub mod Asking
 pub mod Volume
 pub mod Seen
 pub mod Accepting

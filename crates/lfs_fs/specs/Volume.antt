@@ -3,8 +3,9 @@
 use Rattle.std.specs.Prelude.{◌≡◌, ◌⊎◌, ◌≤◌, ◌+◌, ◌/◌, ◌^◌, ℕ, Bool, true, false, IsTrue, [], ◌∷◌, length}
 use Rattle.lfs_model.specs.Call.{Call, Open, Create, Close, Pread, Pwrite, Truncate, Mkdir, LinkTo, Symlink, Readlink, Unlink, Rmdir}
 use Rattle.lfs_model.specs.Call.{Rename, StatOf, LstatOf, Readdir, Fsync, Sync, Clean, Space, Version, Upgrade, Widen, ListTree, Answer}
-use Rattle.lfs_model.specs.Call.{Refuse, cleans, may_write, takes_no_memory}
+use Rattle.lfs_model.specs.Call.{Refuse, cleans, commits, may_write, takes_no_memory}
 use Rattle.lfs_model.specs.Checkpoint.{CheckpointValue}
+use Rattle.lfs_model.specs.declared.limits.TheConstants.{MOST_UNSAVED}
 use Rattle.lfs_model.specs.Device.{DeviceState, Carries, AllLeft, IsUntouched}
 use Rattle.lfs_model.specs.Encodes.{IsLogMap}
 use Rattle.lfs_model.specs.Refusal.{Refusal, NoMemory, Halted, Stuck}
@@ -18,6 +19,7 @@ use Rattle.lfs_store.specs.log.Saving.{commit_orders}
 use Rattle.lfs_store.specs.cleaner.Making.{clean_orders}
 use Rattle.lfs_store.specs.Accepting.{HasClean, HasCleanForTwo}
 use Rattle.lfs_model.specs.Totals.{IsCounted}
+use Rattle.lfs_fs.specs.Asking.{most_asked}
 
 -- a volume between two calls: what is seen of its log, and the table of open files
 pub record Mounted (D : Type 0) : Type 0 where
@@ -92,6 +94,10 @@ module _ {D : Type 0} (state : D → DeviceState) where
   abbrev pub TellsAtMost : LogState D → LogState D → ℕ → Type 0
   TellsAtMost old new most = length (state new.device).told ≤ length (state old.device).told + most
 
+  -- it is given none
+  abbrev pub TellsNothing : LogState D → LogState D → Type 0
+  TellsNothing old new = (state new.device).told ≡ (state old.device).told
+
   -- The volume is in state s: its log has the log map of s, over one that is a tree's, which the acknowledged checkpoint stands for.
   pub record IsIn (v : Mounted D) (k : CheckpointValue) (m0 m : LogMap) (s : State) : Type 0 where
     pub holds : Holds state v.log k m0 m
@@ -152,6 +158,12 @@ module _ {D : Type 0} (state : D → DeviceState) where
     pub told : TellsAtMost old.log new.log (most_orders call (segments_of old))
     -- no more than in a commit, where enough segments are clean for two: no pass of the cleaner comes then
     pub one_commit : cleans call ≡ false → HasCleanForTwo old.log → TellsAtMost old.log new.log commit_orders
+    -- none by one that saves, where all is saved
+    pub all_saved : commits call ≡ true → old.log.saved ≡ true → TellsNothing old.log new.log
+    -- nor by any that neither saves nor cleans, where memory has room for what it asks for at most beside what isn't saved, and enough
+    -- segments are clean: it is saved later
+    pub idle : commits call ≡ false → cleans call ≡ false → HasClean old.log → old.log.waiting + most_asked call ≤ MOST_UNSAVED
+        → TellsNothing old.log new.log
 
   -- A call of a volume at a point: its answer is the model's, or an excused refusal; a stop at any moment leaves what it might have left
   -- before, or the state before or after the call, without files of no name; where the call saves, what is left is the state after it.

@@ -14,6 +14,7 @@ use Rattle.lfs_model.specs.Refusal.{Worn}
 use Rattle.lfs_model.specs.Run.{IsExcused, IsPastLast, Point, StepsOr}
 use Rattle.lfs_model.specs.Step.{Step, bad_handle, checked, file_at, file_bytes, no_space, the_node, when, with_tree, writes}
 use Rattle.lfs_model.specs.Tree.{File, State, Tree, with_node}
+use Rattle.lfs_fs.specs.Asking.{most_asked}
 use Rattle.lfs_fs.specs.Volume.{Behaves, Mounted, Serves}
 
 -- ---- more bytes than a write takes
@@ -136,15 +137,21 @@ module _ (N h off : ℕ) (w : List ℕ) (p q : Point) where
 at_most : (now before most : ℕ) → now ≤ before + 0 → now ≤ before + most
 at_most now before most none = omega (arith, none)
 
+-- a write of too many bytes is said to ask for as much memory as any write may
+long_asked : (h off waiting most : ℕ) (w v : List ℕ) → 65536 < length v → waiting + most_asked (Pwrite h off v) ≤ most
+    → waiting + most_asked (Pwrite h off w) ≤ most
+long_asked h off waiting most w v long room = omega (arith, long, room)
+
 no_halt : Refuse NoMemory ≡ Refuse Halted → ⊥
 no_halt e = cc
 
 -- ---- the calls
 
 module _ {D : Type 0} {state : D → DeviceState} {old new : Mounted D} {h off : ℕ} where
-  -- what holds over any device of a write of other bytes
-  filled_behaves : (w v : List ℕ) (a : Answer) → Behaves state old new (Pwrite h off w) a → Behaves state old new (Pwrite h off v) a
-  filled_behaves w v a behaves = record {
+  -- what holds over any device of a write of too many bytes holds of one of others, where these are too many too
+  filled_behaves : (w v : List ℕ) → 65536 < length w → 65536 < length v → (a : Answer) → Behaves state old new (Pwrite h off w) a
+      → Behaves state old new (Pwrite h off v) a
+  filled_behaves w v long_w long_v a behaves = record {
     refused = behaves.refused;
     handles = behaves.handles;
     first_halted = behaves.first_halted;
@@ -155,6 +162,9 @@ module _ {D : Type 0} {state : D → DeviceState} {old new : Mounted D} {h off :
     stuck = behaves.stuck;
     told = behaves.told;
     one_commit = behaves.one_commit;
+    all_saved = behaves.all_saved;
+    idle = λ later unclean clean room. behaves.idle later unclean clean
+        (long_asked h off old.log.waiting 456 w v long_v room);
   }
 
   -- and of a write that is refused where room was asked for
@@ -171,6 +181,8 @@ module _ {D : Type 0} {state : D → DeviceState} {old new : Mounted D} {h off :
     stuck = none;
     told = at_most _ _ _ behaves.told;
     one_commit = λ unclean. behaves.one_commit refl;
+    all_saved = λ saves. absurd (cc);
+    idle = λ later unclean clean room. behaves.idle refl refl clean (omega (arith, room));
   }
 
   long_serves : {w : List ℕ} (v : List ℕ) → 65536 < length w → 65536 < length v → (a : Answer) → Serves state old new (Pwrite h off w) a
@@ -180,7 +192,7 @@ module _ {D : Type 0} {state : D → DeviceState} {old new : Mounted D} {h off :
     segments = serves.segments;
     orderly = serves.orderly;
     halts = serves.halts;
-    behaves = filled_behaves w v a serves.behaves;
+    behaves = filled_behaves w v long_w long_v a serves.behaves;
     model = λ p keeps at. (
         let does = serves.model p keeps at in
         let answers = does.answers in record {

@@ -49,6 +49,11 @@ keeps_none = record { draft = refl; totals = refl; drafted = refl }
 no_more : {x y : ℕ} {most : ℕ} → x ≡ y → y ≤ most → x ≤ most
 no_more same le = rw same le
 
+-- what is told where the log was left as it was, and only looked at then
+told_after : {D : Type 0} (state : D → DeviceState) (a b h : LogState D) → b ≡ a → (state h.device).told ≡ (state b.device).told
+    → (state h.device).told ≡ (state a.device).told
+told_after {D} state a b h same told = told ∙ ap (λ (l : LogState D). (state l.device).told) same
+
 keeps_then : {D : Type 0} (a b c : Store D) → KeepsDraft a b → KeepsDraft b c → KeepsDraft a c
 keeps_then a b c one two = record {
   draft = cc;
@@ -173,6 +178,7 @@ module _ {D : Type 0} {state : D → DeviceState} where
     quiet = λ room clean. refl;
     told = omega arith;
     one_commit = λ two. omega arith;
+    idle = λ room clean. refl;
   }
 
   -- ---- what holds however a draft ends, behind what readied the log
@@ -199,6 +205,7 @@ module _ {D : Type 0} {state : D → DeviceState} where
       quiet = λ room clean. cc (quiet room clean);
       told = told;
       one_commit = one_commit;
+      idle = λ room clean. told_after state a.log b.log b.log (quiet room clean) refl;
     }
 
     module _ {h : LogState D} (lawful : IsLawful (state b.log.device)) (made : Reserves state a b (Ok tt)) (enough : HasClean b.log) where
@@ -220,6 +227,7 @@ module _ {D : Type 0} {state : D → DeviceState} where
         quiet = λ room clean. cc (quiet room clean);
         told = no_more (cc) told;
         one_commit = λ two. no_more (cc) (one_commit two);
+        idle = λ room clean. told_after state a.log b.log h (quiet room clean) s.alters.looks.told;
       }
 
       -- it is refused
@@ -247,4 +255,5 @@ module _ {D : Type 0} {state : D → DeviceState} where
             quiet = λ room clean. cc (quiet room clean);
             told = no_more (cc) told;
             one_commit = λ two. no_more (cc) (one_commit two);
+            idle = λ room clean. told_after state a.log b.log h (quiet room clean) r.alters.looks.told;
           }

@@ -1,5 +1,5 @@
 -- What the layers above know of a store: of its draft, and of its volume where calls on files only read it.
-use Rattle.std.proofs.Common.{◌≡◌, ◌≤◌, ◌+◌, ◌*◌, ◌/◌, ℕ, Bool, true, false, cond, length, ap, arith}
+use Rattle.std.proofs.Common.{◌≡◌, ◌≤◌, ◌+◌, ◌/◌, ℕ, Bool, true, false, cond, length, ap, arith}
 use Rattle.lfs_model.specs.Device.{DeviceState}
 use Rattle.lfs_model.specs.Stands.{LogMap}
 use Rattle.lfs_cleaner.specs.log.LogState.{LogState, Reads, commits_due}
@@ -7,6 +7,7 @@ use Rattle.lfs_cleaner.specs.log.memory.Present.{Looks}
 use Rattle.lfs_cleaner.specs.Making.{most_checkpoints}
 use Rattle.lfs_store.specs.declared.draft.Draft.{Draft}
 use Rattle.lfs_store.specs.Drafting.{IsApart}
+use Rattle.lfs_store.specs.Growing.{asked_by_changes}
 use Rattle.lfs_store.specs.Seen.{StagedLog, staged_of}
 use Rattle.lfs_store.specs.StoreState.{Fits, IsEmpty, asked_by, with_draft}
 use Rattle.lfs_store.proofs.Apart.{draft_empty, nothing_apart}
@@ -25,11 +26,11 @@ empty_apart d n none = rw none.loss (nothing_apart _)
 -- ---- how many blocks of memory a draft asks for
 
 -- one that was empty, by how much it grew
-pub grown_asks : (a b : Draft) (h k : ℕ) → 2 * h + 4 * k ≤ 452 → IsEmpty a
+pub grown_asks : (a b : Draft) (h k : ℕ) → IsEmpty a
     → length b.changes.headers.items ≤ length a.changes.headers.items + h
-    → length b.changes.blocks.items ≤ length a.changes.blocks.items + k → asked_by b ≤ 456
-grown_asks a b h k few none headers blocks =
-    omega (arith, room_few b.changes h k (omega (arith, headers, ap length none.headers)) (omega (arith, blocks, ap length none.blocks)))
+    → length b.changes.blocks.items ≤ length a.changes.blocks.items + k → asked_by b ≤ asked_by_changes h k
+grown_asks a b h k none headers blocks =
+    room_few b.changes h k (omega (arith, headers, ap length none.headers)) (omega (arith, blocks, ap length none.blocks))
 
 -- ---- its volume
 

@@ -1,8 +1,13 @@
 -- How much a draft asks for, and in what order its blocks stand.
-use Rattle.std.specs.Prelude.{◌≡◌, ◌+◌, ℕ, List, [], ◌∷◌, ◌++◌}
+use Rattle.std.specs.Prelude.{◌≡◌, ◌+◌, ◌*◌, ℕ, List, [], ◌∷◌, ◌++◌}
 use Rattle.lfs_cleaner.specs.log.memory.declared.batch.BlockEdit.{BlockEdit}
 use Rattle.lfs_cleaner.specs.log.memory.declared.changes.Changes.{Changes}
 use Rattle.lfs_store.specs.Drafting.{IsBlock, NoBlock}
+
+-- how many blocks of memory a draft asks for at most that changes so many headers and blocks: two for each header, four for each block,
+-- those on the way to it among them, and four more
+abbrev pub asked_by_changes : ℕ → ℕ → ℕ
+asked_by_changes headers blocks = 2 * headers + 4 * blocks + 4
 
 -- how many blocks of memory it asks for where it lays no more bytes over a file than one call gives, and nothing else
 abbrev pub asked_by_transfer : ℕ

@@ -70,3 +70,4 @@ module _ {D : Type 0} (state : D → DeviceState) where
         ≤ length (state old.log.device).told + clean_orders old.log.segments
     pub one_commit : HasCleanForTwo old.log
         → length (state h'.device).told ≤ length (state old.log.device).told + commit_orders
+    pub idle : HasRoomFor old.log old.draft → HasClean old.log → (state h'.device).told ≡ (state old.log.device).told

@@ -4,10 +4,13 @@ use Rattle.lfs_fs.proofs.Prelude.{IsTrue, Order, Answer, Call, Create, Pwrite, T
 use Rattle.lfs_fs.proofs.Prelude.{Fsync, Sync, Clean, Upgrade, Widen, Refuse, changes, cleans, commits, is_ok, may_write, takes_no_memory}
 use Rattle.lfs_fs.proofs.Prelude.{never_for_device, DeviceState, Refusal, Halted, Stuck, LogState, commit_orders, clean_orders, TellsFew}
 use Rattle.lfs_fs.proofs.Prelude.{Behaves, CommitsFew, IsStill, Mounted, TellsAtMost, changes_handles, most_orders, segments_of, reads_none}
-use Rattle.lfs_fs.proofs.Prelude.{◌⊎◌}
+use Rattle.lfs_fs.proofs.Prelude.{◌⊎◌, HasClean}
+use Rattle.lfs_model.specs.declared.limits.TheConstants.{MOST_UNSAVED}
 use Rattle.lfs_model.specs.Refusal.{NoMemory}
 use Rattle.lfs_store.specs.Accepting.{HasCleanForTwo}
 use Rattle.lfs_store.specs.memory.Present.{Looks}
+use Rattle.lfs_fs.specs.Asking.{most_asked}
+use Rattle.lfs_fs.specs.Volume.{TellsNothing}
 
 -- ---- answers and calls
 
@@ -53,6 +56,12 @@ change_orders Upgrade segments change = refl
 change_orders (Widen p) segments change = refl
 change_orders other segments change = absurd (cc)
 
+-- a call that changes something doesn't save
+pub change_saves_none : (call : Call) → changes call ≡ true → commits call ≡ false
+change_saves_none (Fsync h) change = absurd (cc)
+change_saves_none Sync change = absurd (cc)
+change_saves_none other change = refl
+
 -- a call that may be refused because a call of the device failed commits nothing
 pub commits_none : (call : Call) → never_for_device call ≡ false → commits call ≡ false
 commits_none (Fsync h) free = absurd (cc)
@@ -71,24 +80,42 @@ module _ {D : Type 0} (state : D → DeviceState) where
     pub few : CommitsFew old new
     pub told : TellsAtMost state old.log new.log (most_orders call (segments_of old))
     pub one_commit : cleans call ≡ false → HasCleanForTwo old.log → TellsAtMost state old.log new.log commit_orders
+    pub all_saved : commits call ≡ true → old.log.saved ≡ true → TellsNothing state old.log new.log
+    pub idle : commits call ≡ false → cleans call ≡ false → HasClean old.log → old.log.waiting + most_asked call ≤ MOST_UNSAVED
+        → TellsNothing state old.log new.log
 
-  -- one that changes the tree, or was to
-  pub change_bounded : (old new : Mounted D) (call : Call) → changes call ≡ true → CommitsFew old new → TellsFew state old.log new.log
-      → IsBounded old new call
-  change_bounded old new call change few tells = record {
+  -- one that changes the tree, or was to, by a draft that asks for so many blocks of memory
+  pub change_bounded : (old new : Mounted D) (call : Call) {asked : ℕ} → changes call ≡ true → CommitsFew old new → asked ≤ most_asked call
+      → TellsFew state old.log new.log asked → IsBounded old new call
+  change_bounded old new call change few small tells = record {
     few = few;
     told = subst (λ (most : ℕ). TellsAtMost state old.log new.log most) (sym (change_orders call (segments_of old) change)) tells.room;
     one_commit = λ unclean. tells.one_commit;
+    all_saved = λ saves all. absurd (not_both saves (change_saves_none call change));
+    idle = λ later unclean clean room. tells.idle clean (omega (arith, small, room));
   }
 
   -- one that saves
-  pub sync_bounded : (old new : Mounted D) → CommitsFew old new → TellsAtMost state old.log new.log commit_orders → IsBounded old new Sync
-  sync_bounded old new few told = record { few = few; told = told; one_commit = λ unclean clean. told }
+  pub sync_bounded : (old new : Mounted D) → CommitsFew old new → TellsAtMost state old.log new.log commit_orders
+      → (old.log.saved ≡ true → TellsNothing state old.log new.log) → IsBounded old new Sync
+  sync_bounded old new few told none = record {
+    few = few;
+    told = told;
+    one_commit = λ unclean clean. told;
+    all_saved = λ saves all. none all;
+    idle = λ later unclean clean room. absurd (cc);
+  }
 
   -- one that cleans
   pub clean_bounded : (old new : Mounted D) → CommitsFew old new → TellsAtMost state old.log new.log (clean_orders (segments_of old))
       → IsBounded old new Clean
-  clean_bounded old new few told = record { few = few; told = told; one_commit = λ unclean clean. absurd (cc) }
+  clean_bounded old new few told = record {
+    few = few;
+    told = told;
+    one_commit = λ unclean clean. absurd (cc);
+    all_saved = λ saves all. absurd (cc);
+    idle = λ later unclean clean room. absurd (cc);
+  }
 
   module _ {old new : Mounted D} (call : Call) (a : Answer) where
     -- nothing is written
@@ -107,6 +134,8 @@ module _ {D : Type 0} (state : D → DeviceState) where
         stuck = stuck;
         told = tells_none old.log new.log (most_orders call (segments_of old)) looks.told;
         one_commit = λ unclean clean. tells_none old.log new.log commit_orders looks.told;
+        all_saved = λ saves all. looks.told;
+        idle = λ later unclean clean room. looks.told;
       }
 
       -- the open files stay
@@ -133,6 +162,8 @@ module _ {D : Type 0} (state : D → DeviceState) where
       stuck = none;
       told = bounded.told;
       one_commit = bounded.one_commit;
+      all_saved = bounded.all_saved;
+      idle = bounded.idle;
     }
 
     -- one that opens a file
@@ -149,6 +180,8 @@ module _ {D : Type 0} (state : D → DeviceState) where
       stuck = ok_refuses_none ok;
       told = bounded.told;
       one_commit = bounded.one_commit;
+      all_saved = bounded.all_saved;
+      idle = bounded.idle;
     }
 
   -- a volume that was halted

@@ -1,6 +1,6 @@
 -- Calls over files, as the model's steps: what is told of each log map,
 -- in each state that the volume may be in; and what becomes of a draft.
-use Rattle.lfs_fs.proofs.Prelude.{◌≡◌, ◌<◌, ◌≤◌, ◌+◌, ◌*◌, ℕ, true, false, List, Option, Some, None, Result, refl, sym, ◌∙◌, subst, ap}
+use Rattle.lfs_fs.proofs.Prelude.{◌≡◌, ◌<◌, ◌≤◌, ◌*◌, ℕ, true, false, List, Option, Some, None, Result, refl, sym, ◌∙◌, subst, ap}
 use Rattle.lfs_fs.proofs.Prelude.{arith, Answer, Call, Refuse, changes, cleans, is_ok, never_for_device, takes_no_memory, CheckpointValue}
 use Rattle.lfs_fs.proofs.Prelude.{DeviceState, IsLawful, Refusal, LogMap, Step, no_last, IsCounted, Handles, State, At, Parent, LogFault}
 use Rattle.lfs_fs.proofs.Prelude.{Store, asked_by, draft_of, drafted_of, volume_of, files_of, BlockTotals, empty_draft, Last}
@@ -12,9 +12,11 @@ use Rattle.lfs_model.specs.Sound.{Sound}
 use Rattle.lfs_files.specs.declared.fault.LogFault.TheVariants as log
 use Rattle.lfs_files.specs.Files as files
 use Rattle.lfs_files.specs.Files.{AreCounted}
+use Rattle.lfs_store.specs.Growing.{asked_by_changes}
 use Rattle.lfs_store.proofs.Known.{empty_apart, reads_staged}
 use Rattle.lfs_entries.specs.declared.fault.EntryFault.TheVariants as fault
 use Rattle.lfs_entries.specs.Telling as telling
+use Rattle.lfs_fs.specs.Asking.{most_asked}
 use Rattle.lfs_fs.specs.Finishing.{EndsDraft, GivesUp}
 use Rattle.lfs_fs.proofs.calls.AnyDevice.{IsBounded, IsOrdinary}
 use Rattle.lfs_fs.proofs.calls.DraftSizes.{adds_fit}
@@ -207,9 +209,9 @@ module _ {D : Type 0} (state : D → DeviceState) (lawful : (d : D) → IsLawful
       pub still_ready : IsStill state (seen f) (seen after)
       still_ready = record { reads = reads_staged redrafts.looks redrafts.staged; table = refl }
 
-      -- memory takes a draft of so many headers and blocks
-      pub takes_draft : (headers blocks : ℕ) → 2 * headers + 4 * blocks ≤ 452
-          → GrowsDirectory (files_of state f.store) (files_of state store) headers blocks → asked_by (draft_of store) ≤ 456
+      -- a draft of so many headers and blocks asks for no more memory than these do
+      pub takes_draft : (headers blocks : ℕ) {most : ℕ} → asked_by_changes headers blocks ≤ most
+          → GrowsDirectory (files_of state f.store) (files_of state store) headers blocks → asked_by (draft_of store) ≤ most
       takes_draft headers blocks few grows = adds_fit state f.store store headers blocks few begun.ready.empty grows
 
       module _ (call : Call) (change : changes call ≡ true) (free : never_for_device call ≡ false)
@@ -236,23 +238,25 @@ module _ {D : Type 0} (state : D → DeviceState) (lawful : (d : D) → IsLawful
               (is : IsIn state v k m0 m s) → ((makes k m0 m s keeps is).answer ≡ x) × ((makes k m0 m s keeps is).next.handles ≡ table)
 
           -- it is staged, or it isn't; the open files stay
-          pub finish_ends : is_ok a ≡ true → EndsWith a v.table → {result : Result (Unit {0}) FsError} → EndsDraft state after new result
-              → Serves state v (seen new) call (answer_by (λ _. a) result)
-          unfolding drafts
-          finish_ends ok ends {result} finishes = draft_ends state lawful v after new call a (still_after still_ready) was rest change free
-              memory unclean drafts ok (λ keeps k m0 m s is. ends k m0 m s keeps is) result finishes.done finishes.refused
+          module _ (small : asked_by (draft_of store) ≤ most_asked call) where
+            pub finish_ends : is_ok a ≡ true → EndsWith a v.table → {result : Result (Unit {0}) FsError}
+                → EndsDraft state after new result → Serves state v (seen new) call (answer_by (λ _. a) result)
+            unfolding drafts
+            finish_ends ok ends {result} finishes = draft_ends state lawful v after new call a (still_after still_ready) was rest small
+                change free memory unclean drafts ok (λ keeps k m0 m s is. ends k m0 m s keeps is) result finishes.done finishes.refused
 
-          -- it isn't
-          pub finish_turned : (e : FsError) → TurnsDown state after new e → Serves state v (seen new) call (Refuse (refusal_of e))
-          finish_turned = draft_turned state lawful v after new call a (still_after still_ready) was rest change free memory unclean drafts
+            -- it isn't
+            pub finish_turned : (e : FsError) → TurnsDown state after new e → Serves state v (seen new) call (Refuse (refusal_of e))
+            finish_turned = draft_turned state lawful v after new call a (still_after still_ready) was rest small change free memory
+                unclean drafts
 
-          -- it is, and the open files are these then
-          pub finish_opens : is_ok a ≡ true → (table : Handles) → EndsWith a table
-              → (IsBounded state v (with_open new table) call → Behaves state v (with_open new table) call a)
-              → StagesDraft state after new → Serves state v (with_open new table) call a
-          unfolding drafts
-          finish_opens ok table ends behaves stages = accepted_serves state lawful v after new call a (still_after still_ready) was rest
-              change free drafts a ok table (λ keeps k m0 m s is. ends k m0 m s keeps is) behaves stages
+            -- it is, and the open files are these then
+            pub finish_opens : is_ok a ≡ true → (table : Handles) → EndsWith a table
+                → (IsBounded state v (with_open new table) call → Behaves state v (with_open new table) call a)
+                → StagesDraft state after new → Serves state v (with_open new table) call a
+            unfolding drafts
+            finish_opens ok table ends behaves stages = accepted_serves state lawful v after new call a (still_after still_ready) was rest
+                small change free drafts a ok table (λ keeps k m0 m s is. ends k m0 m s keeps is) behaves stages
 
         -- A draft of P and Q is whole and ends so, or it is given up, and this explains why.
         pub drafted_ends : {P Q : Type 0} {Why : EntryFault → Type 0} (makes : P → Q → InEach Makes) (new : Fs D)
@@ -260,12 +264,12 @@ module _ {D : Type 0} (state : D → DeviceState) (lawful : (d : D) → IsLawful
             → ((p : P) (q : Q) → EndsWith (makes p q) new rest a a v.table)
             → ((e : EntryFault) → Why e → InEach (λ m s. Explains call (segments_of v) s (Rose state v store) e))
             → (draft : Result (Unit {0}) EntryFault) (result : Result (Unit {0}) FsError) → Finishes state after new draft result
-            → OnOk draft P → OnOk draft Q → IfErr draft Why
+            → OnOk draft (asked_by (draft_of store) ≤ most_asked call) → OnOk draft P → OnOk draft Q → IfErr draft Why
             → (IsErrOf draft (fault.Log log.Halted) → (files_of state f.store).halted ≡ true)
             → (IsErrOf draft (fault.Log log.Full) → ⊥) → Serves state v (seen new) call (answer_by (λ _. a) result)
-        drafted_ends makes new rest a ok ends explains (Ok u) result finishes p q failed halted other =
-            finish_ends (makes p q) new rest a ok (ends p q) finishes
-        drafted_ends makes new rest a ok ends explains (Err why) result finishes p q failed halted other =
+        drafted_ends makes new rest a ok ends explains (Ok u) result finishes small p q failed halted other =
+            finish_ends (makes p q) new rest a small ok (ends p q) finishes
+        drafted_ends makes new rest a ok ends explains (Err why) result finishes small p q failed halted other =
             gives_up still_ready call free unclean memory finishes (λ e. halted (ap Err e)) (λ e. other (ap Err e))
             (explains why failed) a
 

@@ -1,13 +1,15 @@
 -- The ends of a call that finishes a draft, by what is told of it.
-use Rattle.lfs_fs.proofs.Prelude.{◌≡◌, ℕ, true, false, Result, Ok, Err, refl, ap, IfErr, OnOk, Answer, Call, Done, Refuse, changes, cleans}
+use Rattle.lfs_fs.proofs.Prelude.{◌≡◌, ◌≤◌, ℕ, true, false, Result, Ok, Err, refl, ap, IfErr, OnOk, Answer, Call, Done, Refuse, changes}
 use Rattle.lfs_fs.proofs.Prelude.{is_ok, never_for_device, takes_no_memory, DeviceState, IsLawful, Handles, FilesState, Store, files_of}
 use Rattle.lfs_fs.proofs.Prelude.{GrowsDirectory, EntryFault, FsError, Fs, error_of_entry, Finishes, refusal_of, answer_by, seen, Behaves}
-use Rattle.lfs_fs.proofs.Prelude.{Mounted, Serves, segments_of}
+use Rattle.lfs_fs.proofs.Prelude.{Mounted, Serves, segments_of, asked_by, cleans, draft_of}
+use Rattle.lfs_store.specs.Growing.{asked_by_changes}
 use Rattle.lfs_entries.specs.declared.fault.EntryFault.TheVariants as fault
 use Rattle.lfs_entries.specs.Telling.{DraftsOnly, FailsAt}
+use Rattle.lfs_fs.specs.Asking.{most_asked}
 use Rattle.lfs_fs.proofs.calls.AnyDevice.{IsBounded}
 use Rattle.lfs_fs.proofs.calls.Files.{EndsWith, Explains, In, IsBegun, MakesNext, RedraftsTo, Rose, finish_ends, finish_opens}
-use Rattle.lfs_fs.proofs.calls.Files.{finish_turned, gives_up, has_in, risen, still_ready, with_store}
+use Rattle.lfs_fs.proofs.calls.Files.{finish_turned, gives_up, has_in, risen, still_ready, takes_draft, with_store}
 use Rattle.lfs_fs.proofs.write.Ends.{with_open}
 
 -- what is told of a draft that has P and Q where it is whole, and grows by so many headers and blocks at most
@@ -26,9 +28,13 @@ module _ {D : Type 0} {state : D → DeviceState} (lawful : (d : D) → IsLawful
   Told = DraftTold (files_of state f.store) (files_of state store)
 
   module _ (call : Call) (change : changes call ≡ true) (free : never_for_device call ≡ false)
-      (memory : takes_no_memory call ≡ false) (unclean : cleans call ≡ false) (headers blocks : ℕ) {P Q : Type 0}
+      (memory : takes_no_memory call ≡ false) (unclean : cleans call ≡ false) (headers blocks : ℕ)
+      (most : asked_by_changes headers blocks ≤ most_asked call) {P Q : Type 0}
       (makes : P → Q → In state v (with_store f store) (MakesNext state v (with_store f store) call))
       (new : Fs D) (rest : new.handles ≡ f.handles) where
+    small : GrowsDirectory (files_of state f.store) (files_of state store) headers blocks → asked_by (draft_of store) ≤ most_asked call
+    small = takes_draft state lawful v f begun store redrafts headers blocks most
+
     -- the draft isn't whole
     failed : (why : EntryFault) → Told headers blocks P Q (Err why) → (result : Result (Unit {0}) FsError)
         → Finishes state (with_store f store) new (Err why) result → Serves state v (seen new) call (answer_by (λ _. Done) result)
@@ -51,14 +57,14 @@ module _ {D : Type 0} {state : D → DeviceState} (lawful : (d : D) → IsLawful
         → (result : Result (Unit {0}) FsError) → Finishes state (with_store f store) new draft result
         → Serves state v (seen new) call (answer_by (λ _. Done) result)
     told_ends ends (Ok u) draft result finishes = finish_ends state lawful v f begun store redrafts call change free memory unclean
-        (makes draft.done draft.counted) new rest Done refl (ends draft.done draft.counted) finishes
+        (makes draft.done draft.counted) new rest Done (small draft.small) refl (ends draft.done draft.counted) finishes
     told_ends ends (Err why) draft result finishes = failed why draft result finishes
 
     -- or the call was to open the file: it is refused,
     pub told_turned : (draft : Result (Unit {0}) EntryFault) → Told headers blocks P Q draft → (e : FsError)
         → Finishes state (with_store f store) new draft (Err e) → Serves state v (seen new) call (Refuse (refusal_of e))
     told_turned (Ok u) draft e finishes = finish_turned state lawful v f begun store redrafts call change free memory unclean
-        (makes draft.done draft.counted) new rest Done e finishes.refused
+        (makes draft.done draft.counted) new rest Done (small draft.small) e finishes.refused
     told_turned (Err why) draft e finishes = failed why draft (Err e) finishes
 
     -- or these files are open then
@@ -68,7 +74,7 @@ module _ {D : Type 0} {state : D → DeviceState} (lawful : (d : D) → IsLawful
         → Told headers blocks P Q draft → (u : Unit {0}) → Finishes state (with_store f store) new draft (Ok u)
         → Serves state v (with_open new table) call a
     told_opens a ok table ends behaves (Ok done) draft u finishes =
-        finish_opens state lawful v f begun store redrafts call change free memory unclean (makes draft.done draft.counted) new rest a ok
-        table (ends draft.done draft.counted) behaves finishes.done
+        finish_opens state lawful v f begun store redrafts call change free memory unclean (makes draft.done draft.counted) new rest a
+        (small draft.small) ok table (ends draft.done draft.counted) behaves finishes.done
     told_opens a ok table ends behaves (Err why) draft u finishes =
         absurd (let no : ◌≡◌ {A = Result (Unit {0}) FsError} (Ok u) (Err (error_of_entry why)) = finishes.is in cc)

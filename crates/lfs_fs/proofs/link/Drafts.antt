@@ -58,5 +58,5 @@ module _ {D : Type 0} (state : D → DeviceState) (lawful : (d : D) → IsLawful
       → (result : Result (Unit {0}) FsError) → Finishes state after new draft result
       → Serves state v (seen new) (LinkTo a b) (answer_by (λ _. Done) result)
   unfolding makes
-  link_ends new rest = told_ends lawful begun store redrafts (LinkTo a b) refl refl refl refl 2 2 makes new rest
+  link_ends new rest = told_ends lawful begun store redrafts (LinkTo a b) refl refl refl refl 2 2 (omega arith) makes new rest
       (λ drafts counts k m0 m st keeps is. (refl, is.handles))

@@ -8,7 +8,9 @@ use Rattle.lfs_model.specs.Step.{with_new}
 use Rattle.lfs_model.specs.Tree.{least}
 use Rattle.lfs_model.proofs.KeepsAll.{call_keeps}
 use Rattle.lfs_files.specs.declared.header.Header.{Header}
+use Rattle.lfs_store.specs.Growing.{asked_by_changes}
 use Rattle.lfs_entries.specs.NewNames.{CountsEntry, DraftsEntry}
+use Rattle.lfs_fs.specs.Asking.{most_asked}
 use Rattle.lfs_fs.proofs.calls.AnyDevice.{IsBounded}
 use Rattle.lfs_fs.proofs.calls.Files.{In, IsBegun, MakesNext, RedraftsTo, apart_now, counted_now, fits_now, has_in, with_store}
 use Rattle.lfs_fs.proofs.calls.Told.{DraftTold, told_ends, told_opens, told_turned}
@@ -82,13 +84,13 @@ module _ {D : Type 0} (state : D → DeviceState) (lawful : (d : D) → IsLawful
   abbrev EntryTold : Result (Unit {0}) EntryFault → Type 0
   EntryTold = DraftTold s s' 4 4 (DraftsEntry s s' d head n of.kind l.name.now) (CountsEntry s s' d head n of.kind)
 
-  module _ (new : Fs D) (rest : new.handles ≡ f.handles) where
+  module _ (most : asked_by_changes 4 4 ≤ most_asked of.call) (new : Fs D) (rest : new.handles ≡ f.handles) where
     pub entry_ends : Asked d f.handles head.links (λ s. (of.answer s ≡ Done) × (of.handles s ≡ s.handles))
         → (draft : Result (Unit {0}) EntryFault) → EntryTold draft → (result : Result (Unit {0}) FsError)
         → Finishes state after new draft result → Serves state v (seen new) of.call (answer_by (λ _. Done) result)
     unfolding makes
     entry_ends so =
-        told_ends lawful begun store redrafts of.call of.changing of.uncommitted of.remembering of.unclean 4 4 makes new rest
+        told_ends lawful begun store redrafts of.call of.changing of.uncommitted of.remembering of.unclean 4 4 most makes new rest
         (λ drafts counts k m0 m st keeps is.
         let ends = asked so k m0 m st keeps is in (ends.0, ends.1 ∙ is.handles))
 
@@ -96,7 +98,7 @@ module _ {D : Type 0} (state : D → DeviceState) (lawful : (d : D) → IsLawful
     pub entry_turned : (draft : Result (Unit {0}) EntryFault) → EntryTold draft → (e : FsError) → Finishes state after new draft (Err e)
         → Serves state v (seen new) of.call (Refuse (refusal_of e))
     entry_turned =
-        told_turned lawful begun store redrafts of.call of.changing of.uncommitted of.remembering of.unclean 4 4 makes new rest
+        told_turned lawful begun store redrafts of.call of.changing of.uncommitted of.remembering of.unclean 4 4 most makes new rest
 
     pub entry_opens : {a : Answer} → is_ok a ≡ true → (table : Handles)
         → Asked d f.handles head.links (λ s. least s.tree ≡ n → (of.answer s ≡ a) × (of.handles s ≡ table))
@@ -105,7 +107,7 @@ module _ {D : Type 0} (state : D → DeviceState) (lawful : (d : D) → IsLawful
         → Serves state v (with_open new table) of.call a
     unfolding makes
     entry_opens {a} ok table so =
-        told_opens lawful begun store redrafts of.call of.changing of.uncommitted of.remembering of.unclean 4 4 makes new rest a
-        ok table
+        told_opens lawful begun store redrafts of.call of.changing of.uncommitted of.remembering of.unclean 4 4 most makes new rest
+        a ok table
         (λ drafts counts k m0 m st keeps is.
         asked so k m0 m st keeps is (may k m0 m st keeps is).first)

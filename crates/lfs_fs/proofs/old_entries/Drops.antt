@@ -1,11 +1,12 @@
 -- A name that a call drafted away, as a step of the model.
-use Rattle.lfs_fs.proofs.Prelude.{◌≡◌, ◌≢◌, ℕ, Bool, true, false, List, Result, refl, sym, ◌∙◌, subst, arith, IfErr, IsErrOf, OnOk, Call}
-use Rattle.lfs_fs.proofs.Prelude.{Done, changes, cleans, never_for_device, takes_no_memory, DeviceState, IsLawful, opened, FilesState}
+use Rattle.lfs_fs.proofs.Prelude.{◌≡◌, ◌≢◌, ◌≤◌, ℕ, Bool, true, false, List, Result, refl, sym, ◌∙◌, subst, arith, IfErr, IsErrOf, OnOk}
+use Rattle.lfs_fs.proofs.Prelude.{Call, Done, changes, cleans, never_for_device, takes_no_memory, DeviceState, IsLawful, opened, FilesState}
 use Rattle.lfs_fs.proofs.Prelude.{Draft, Store, StagedLog, files_of, totals_of_tree, Last, Entry, EntryFault, is_directory, CountsDrop}
 use Rattle.lfs_fs.proofs.Prelude.{DraftsDrop, HasOld, FailsWhere, FsError, Fs, Finishes, answer_by, seen, Mounted, Serves, segments_of}
-use Rattle.lfs_fs.proofs.Prelude.{MayGo, gone, room_shaped, Handles}
+use Rattle.lfs_fs.proofs.Prelude.{MayGo, gone, room_shaped, Handles, asked_by, draft_of}
 use Rattle.lfs_files.specs.declared.fault.LogFault.TheVariants as log
 use Rattle.lfs_entries.specs.declared.fault.EntryFault.TheVariants as fault
+use Rattle.lfs_fs.specs.Asking.{most_asked}
 use Rattle.lfs_fs.proofs.calls.Files.{In, IsBegun, MakesNext, RedraftsTo, apart_now, counted_now, drafted_ends, explains_where, fits_now}
 use Rattle.lfs_fs.proofs.calls.Files.{has_in, with_store}
 use Rattle.lfs_steps.proofs.old_entries.Dropping.{gone_map, gone_shape, has_old, takes_drop}
@@ -55,13 +56,14 @@ module _ {D : Type 0} (state : D → DeviceState) (lawful : (d : D) → IsLawful
 
   -- ---- the call
   pub drop_ends : (new : Fs D) → new.handles ≡ f.handles → (drafted : Result (Unit {0}) EntryFault) (result : Result (Unit {0}) FsError)
-      → Finishes state (with_store f store) new drafted result → OnOk drafted (DraftsDrop s s' d e is_open l.name.now)
+      → Finishes state (with_store f store) new drafted result
+      → OnOk drafted (asked_by (draft_of store) ≤ most_asked call) → OnOk drafted (DraftsDrop s s' d e is_open l.name.now)
       → OnOk drafted (CountsDrop s s' d e) → IfErr drafted (FailsWhere s s' (HasOld d e l.name.now))
       → (IsErrOf drafted (fault.Log log.Halted) → s.halted ≡ true) → (IsErrOf drafted (fault.Log log.Full) → ⊥)
       → Serves state v (seen new) call (answer_by (λ _. Done) result)
   unfolding makes
-  drop_ends new rest drafted result finishes drafts counts =
+  drop_ends new rest drafted result finishes small drafts counts =
       drafted_ends state lawful v f begun store redrafts call change free memory unclean makes new rest Done refl
       (λ p q k m0 m st keeps is. (refl, is.handles))
       (explains_where begun store {P = HasOld d e l.name.now} (λ k m0 m st keeps is. has_old (may k m0 m st keeps is)) call)
-      drafted result finishes drafts counts
+      drafted result finishes small drafts counts

@@ -88,7 +88,13 @@ module _ {D : Type 0} {state : D → DeviceState} {old new : Mounted D} (was : o
     orderly = sync.orderly;
     halts = sync.halts;
     behaves = write_behaves state (Fsync h) a refl (sync.behaves.handles refl) sync.behaves.stuck sync.behaves.memory
-        record { few = sync.behaves.few; told = sync.behaves.told; one_commit = sync.behaves.one_commit };
+        record {
+          few = sync.behaves.few;
+          told = sync.behaves.told;
+          one_commit = sync.behaves.one_commit;
+          all_saved = λ saves. sync.behaves.all_saved refl;
+          idle = λ later. absurd (cc);
+        };
     model = λ p keeps at. fsync_at p at (sync.model p keeps at);
   }
 

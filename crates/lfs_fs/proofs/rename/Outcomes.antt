@@ -5,7 +5,8 @@ use Rattle.lfs_fs.proofs.Prelude.{need, Refusal, Step, last_dots, no_last, Handl
 use Rattle.lfs_fs.proofs.Prelude.{HasLast, is_dots, here, last_says, EntryFault, Source, Target, ChecksRename, HasBothNames, RefusesRename}
 use Rattle.lfs_fs.proofs.Prelude.{FailsWhere, FsError, Fs, need_of, error_of_entry, Finishes, Reaches, refusal_of, IsOpen, IsShut}
 use Rattle.lfs_fs.proofs.Prelude.{ReachesBoth, IsReady, answer_by, seen, IsStill, Mounted, Serves, segments_of, IsRename, StopsAt}
-use Rattle.lfs_fs.proofs.Prelude.{conditions, rename_stops, need_shaped}
+use Rattle.lfs_fs.proofs.Prelude.{asked_by, conditions, draft_of, rename_stops, need_shaped}
+use Rattle.lfs_fs.specs.Asking.{most_asked}
 use Rattle.lfs_model.specs.Refusal as refusals
 use Rattle.lfs_files.specs.declared.fault.LogFault.TheVariants as log
 use Rattle.lfs_path.specs.Laws.{SaysLast}
@@ -176,6 +177,7 @@ module _ {D : Type 0} (state : D → DeviceState) (lawful : (d : D) → IsLawful
 
           pub move_ends : (new : Fs D) → new.handles ≡ f.handles → (drafted : Result (Unit {0}) EntryFault)
               (result : Result (Unit {0}) FsError) → Finishes state (with_store now next) new drafted result
+              → OnOk drafted (asked_by (draft_of next) ≤ most_asked (Rename a b))
               → OnOk drafted (DraftsMove (files_of state store) (files_of state next) source dest is_open)
               → OnOk drafted (CountsMove (files_of state store) (files_of state next) source dest)
               → IfErr drafted (FailsWhere (files_of state store) (files_of state next) (HasNames source dest))
@@ -183,9 +185,9 @@ module _ {D : Type 0} (state : D → DeviceState) (lawful : (d : D) → IsLawful
               → (IsErrOf drafted (fault.Log log.Full) → ⊥)
               → Serves state v (seen new) (Rename a b) (answer_by (λ _. Done) result)
           unfolding makes
-          move_ends new rest drafted result finishes drafts counts =
+          move_ends new rest drafted result finishes small drafts counts =
               drafted_ends state lawful v now begun_now next redrafts (Rename a b) refl refl refl refl makes new rest Done refl
               (λ p q k m0 m s keeps is. (refl, is.handles))
               (explains_where begun_now next {P = HasNames source dest}
               (λ k m0 m s keeps is. has_names (renames_in k m0 m s (redrafts.looks.carries.kept_before keeps) is)) (Rename a b))
-              drafted result finishes drafts counts
+              drafted result finishes small drafts counts

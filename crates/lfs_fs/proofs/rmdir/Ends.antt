@@ -1,11 +1,11 @@
 -- The call rmdir as a step of the model: what the rule of an empty directory takes, why it takes none, and the name that goes.
-use Rattle.lfs_fs.proofs.Prelude.{◌≡◌, ◌<◌, ◌*◌, ℕ, Bool, true, false, List, [], length, Option, Some, Result, refl, sym, ◌∙◌, ap, nat_lt}
+use Rattle.lfs_fs.proofs.Prelude.{◌≡◌, ◌<◌, ◌≤◌, ◌*◌, ℕ, Bool, true, false, List, [], length, Option, Some, Result, refl, sym, ◌∙◌, ap}
 use Rattle.lfs_fs.proofs.Prelude.{arith, IfErr, IsErrOf, OnOk, unwrap_or, Kind, Done, Refuse, Rmdir, DeviceState, IsLawful, LogMap, Step}
 use Rattle.lfs_fs.proofs.Prelude.{Dir, File, Names, Node, State, is_dir, names_in, names_of, node, slot_len, node_by, FilesState, Store}
 use Rattle.lfs_fs.proofs.Prelude.{files_of, Last, Entry, EntryFault, is_directory, GivesObject, CountsDrop, DraftsDrop, HasOld, FailsWhere}
 use Rattle.lfs_fs.proofs.Prelude.{FsError, Fs, error_of_entry, Finishes, Reaches, refusal_of, IsReady, answer_by, seen, Mounted, Serves}
 use Rattle.lfs_fs.proofs.Prelude.{segments_of, MayGo, gone, IsReached, gives_is, has_piece, holder, kind_is, last_dots_is, long_is}
-use Rattle.lfs_fs.proofs.Prelude.{short_is, target_is, there_is, IsShaped, node_by_header}
+use Rattle.lfs_fs.proofs.Prelude.{short_is, target_is, there_is, IsShaped, node_by_header, nat_lt, asked_by, draft_of}
 use Rattle.lfs_model.specs.declared.Kind.TheVariants as kind
 use Rattle.lfs_model.specs.Step.{target}
 use Rattle.lfs_model.proofs.KeepsNames.{rmdir_keeps}
@@ -15,6 +15,7 @@ use Rattle.lfs_files.specs.Headers.{as_header}
 use Rattle.lfs_path.proofs.of_dirs.SlotsKept.{empty_directory}
 use Rattle.lfs_entries.specs.declared.fault.EntryFault.TheVariants as fault
 use Rattle.lfs_entries.specs.OldEntries.{HasEmpty, RefusesEmpty}
+use Rattle.lfs_fs.specs.Asking.{most_asked}
 use Rattle.lfs_steps.proofs.calls.Checks.{below, not_below}
 use Rattle.lfs_fs.proofs.calls.Files.{Explains, In, IsBegun, ReadsTo, RedraftsTo, Rose, begun_after, begun_at, fault_serves, has_in}
 use Rattle.lfs_fs.proofs.calls.Files.{reached_in, read_still, risen, with_store}
@@ -140,6 +141,7 @@ module _ {D : Type 0} {state : D → DeviceState} (lawful : (d : D) → IsLawful
 
     pub rmdir_ends : (new : Fs D) → new.handles ≡ f.handles → (drafted : Result (Unit {0}) EntryFault) (result : Result (Unit {0}) FsError)
         → Finishes state (with_store f next) new drafted result
+        → OnOk drafted (asked_by (draft_of next) ≤ most_asked (Rmdir path))
         → OnOk drafted (DraftsDrop (files_of state store) (files_of state next) d e false l.name.now)
         → OnOk drafted (CountsDrop (files_of state store) (files_of state next) d e)
         → IfErr drafted (FailsWhere (files_of state store) (files_of state next) (HasOld d e l.name.now))

@@ -4,6 +4,7 @@ use Rattle.lfs_fs.proofs.Prelude.{Refuse, Sync, changes, takes_no_memory, never_
 use Rattle.lfs_fs.proofs.Prelude.{Commits, Declines, IsAcceptFault, Draft, CommitsFew, Mounted, Serves, TellsAtMost, segments_of}
 use Rattle.lfs_model.specs.Refusal.{NoMemory}
 use Rattle.lfs_store.specs.StoreState.{Fits}
+use Rattle.lfs_fs.specs.Volume.{TellsNothing}
 use Rattle.lfs_fs.proofs.calls.AnyDevice.{IsBounded, change_writes, not_both, sync_bounded, write_behaves}
 use Rattle.lfs_fs.proofs.calls.Steps.{never_worn}
 use Rattle.lfs_fs.proofs.calls.Drafts.{InEach, IsRest, commits_by, declines_by}
@@ -15,10 +16,11 @@ use Rattle.lfs_fs.proofs.calls.Exits.{map_dropped}
 module _ {D : Type 0} (state : D → DeviceState) (old new : Mounted D) (lawful : IsLawful (state old.log.device))
     (after : IsLawful (state new.log.device)) where
   pub sync_serves : IsRest state old new → Commits state old.log new.log
-      → TellsAtMost state old.log new.log commit_orders → Serves state old new Sync Done
-  sync_serves rest done tells =
+      → TellsAtMost state old.log new.log commit_orders → (old.log.saved ≡ true → TellsNothing state old.log new.log)
+      → Serves state old new Sync Done
+  sync_serves rest done tells none =
       commits_by state old new Sync lawful after done.carries done.segments done.was_running later rest done Done (λ e. cc)
-      (write_behaves state Sync Done refl rest.table (λ e. cc) (λ takes e. absurd (cc)) (sync_bounded state old new few tells))
+      (write_behaves state Sync Done refl rest.table (λ e. cc) (λ takes e. absurd (cc)) (sync_bounded state old new few tells none))
       (λ p keeps at. inl (sync_done (segments_of old) p.state, never_worn (segments_of old) Sync p refl refl))
     where
       one_more : (b : Bool) (n : ℕ) → n ≤ cond b n (n + 1)

@@ -25,6 +25,6 @@ module _ {D : Type 0} (state : D → DeviceState) (v : Mounted D) (lawful : IsLa
     orderly = λ e. absurd (cc);
     halts = λ e. absurd (cc);
     behaves = write_behaves state Sync (Refuse Device) refl refl (λ e. cc) (λ takes e. absurd (cc))
-        (sync_bounded state v v (omega arith) (tells_none state v.log v.log commit_orders refl));
+        (sync_bounded state v v (omega arith) (tells_none state v.log v.log commit_orders refl) (λ all. refl));
     model = λ p keeps at. absurd (never_full (at.running was));
   }

@@ -1,14 +1,15 @@
 -- The call unlink as a step of the model: what the rule of an old entry takes, and the name that goes.
-use Rattle.lfs_fs.proofs.Prelude.{◌≡◌, ◌≢◌, ℕ, Bool, true, false, List, Some, Result, refl, sym, ◌∙◌, IfErr, IsErrOf, OnOk, Done, Unlink}
+use Rattle.lfs_fs.proofs.Prelude.{◌≡◌, ◌≢◌, ◌≤◌, ℕ, Bool, true, false, List, Some, Result, refl, sym, ◌∙◌, IfErr, IsErrOf, OnOk, Done}
 use Rattle.lfs_fs.proofs.Prelude.{DeviceState, IsLawful, LogMap, Step, State, is_dir, node, opened, FilesState, Store, files_of, Last}
 use Rattle.lfs_fs.proofs.Prelude.{Entry, EntryFault, GivesObject, CountsDrop, DraftsDrop}
 use Rattle.lfs_fs.proofs.Prelude.{HasOld, FailsWhere, FsError, Fs, Finishes, Reaches}
 use Rattle.lfs_fs.proofs.Prelude.{IsReady, answer_by, seen, Mounted, Serves, segments_of, MayGo, gone, IsReached, dots_is, gives_is}
-use Rattle.lfs_fs.proofs.Prelude.{kind_is, short_is, slash_is, there_is, IsShaped}
+use Rattle.lfs_fs.proofs.Prelude.{kind_is, short_is, slash_is, there_is, IsShaped, Unlink, asked_by, draft_of}
 use Rattle.lfs_model.proofs.Keeps.{unlink_keeps}
 use Rattle.lfs_files.specs.declared.fault.LogFault.TheVariants as log
 use Rattle.lfs_entries.specs.declared.fault.EntryFault.TheVariants as fault
 use Rattle.lfs_entries.specs.OldEntries.{HasEntry}
+use Rattle.lfs_fs.specs.Asking.{most_asked}
 use Rattle.lfs_fs.proofs.calls.Files.{In, IsBegun, ReadsTo, RedraftsTo, begun_after, begun_at, has_in, reached_in, with_store}
 use Rattle.lfs_fs.proofs.old_entries.Drops.{drop_ends}
 use Rattle.lfs_fs.proofs.old_entries.Explained.{plain_so}
@@ -61,6 +62,7 @@ module _ {D : Type 0} {state : D → DeviceState} (lawful : (d : D) → IsLawful
       → (is_open ≡ false → opened f.handles e.object.number.value ≡ 0) → (new : Fs D) → new.handles ≡ f.handles
       → (drafted : Result (Unit {0}) EntryFault) (result : Result (Unit {0}) FsError)
       → Finishes state (with_store f next) new drafted result
+      → OnOk drafted (asked_by (draft_of next) ≤ most_asked (Unlink path))
       → OnOk drafted (DraftsDrop (files_of state store) (files_of state next) d e is_open l.name.now)
       → OnOk drafted (CountsDrop (files_of state store) (files_of state next) d e)
       → IfErr drafted (FailsWhere (files_of state store) (files_of state next) (HasOld d e l.name.now))

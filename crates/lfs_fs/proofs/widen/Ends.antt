@@ -8,6 +8,7 @@ use Rattle.lfs_model.specs.declared.Kind.TheVariants as kind
 use Rattle.lfs_files.specs.declared.fault.LogFault.TheVariants as log
 use Rattle.lfs_files.specs.declared.header.Header.{Header}
 use Rattle.lfs_files.specs.Files as files
+use Rattle.lfs_files.specs.Files.{asked_by_directory}
 use Rattle.lfs_files.specs.Headers.{as_header}
 use Rattle.lfs_path.specs.dirs.Widening.{CountsWidened, HasWidened, Widens}
 use Rattle.lfs_entries.specs.declared.fault.EntryFault.TheVariants as fault
@@ -75,9 +76,9 @@ module _ {D : Type 0} {state : D → DeviceState} (lawful : (d : D) → IsLawful
 -- ---- it is widened
 -- the memory that it asks for
 pub takes_wide : {D : Type 0} (state : D → DeviceState) {f : Fs D} → IsReady f → (store : Store D) (n : ℕ) (head : Header)
-    → Widens (files_of state f.store) (files_of state store) n head → asked_by (draft_of store) ≤ 456
+    → Widens (files_of state f.store) (files_of state store) n head → asked_by (draft_of store) ≤ asked_by_directory
 takes_wide state ready store n head widens =
-    let few = widens.asked (ap length ready.empty.headers) (ap length ready.empty.blocks) in omega (arith, few)
+    widens.asked (ap length ready.empty.headers) (ap length ready.empty.blocks)
 
 module _ {D : Type 0} {state : D → DeviceState} (lawful : (d : D) → IsLawful (state d)) {v : Mounted D} {f : Fs D} {path : List ℕ} {n : ℕ}
     {head : Header} (at : ReachesNarrow state v f path n head) (store : Store D)
@@ -137,7 +138,8 @@ module _ {D : Type 0} {state : D → DeviceState} (lawful : (d : D) → IsLawful
         → Serves state v (seen new) (Widen path) (answer_by (λ _. Done) result)
     unfolding widen_makes
     widen_ends (Ok drafted) finishes widens counts failed halted other =
-        finish_ends state lawful v f begun store redrafts (Widen path) refl refl refl refl (widen_makes widens counts) new rest Done refl
+        finish_ends state lawful v f begun store redrafts (Widen path) refl refl refl refl (widen_makes widens counts) new rest Done
+        (takes_wide state begun.ready store n head widens) refl
         (λ k m0 m s keeps is. (refl, is.handles)) finishes
     widen_ends (Err why) finishes widens counts failed halted other =
         gives_up_where state lawful v f begun store (still_ready state lawful v f begun store redrafts) (Widen path) refl refl refl

@@ -4,7 +4,7 @@ use Rattle.lfs_fs.proofs.Prelude.{Result, Ok, Err, OnOk, OnErr, IfErr, Call, Don
 use Rattle.lfs_fs.proofs.Prelude.{IsLawful, Worn, acknowledges, LogMap, Step, State, Tree, links, Store, AreTotals}
 use Rattle.lfs_fs.proofs.Prelude.{totals_of_tree, draft_of, drafted_of, volume_of, with_draft, FsError, Fs, StagesDraft, TurnsDown}
 use Rattle.lfs_fs.proofs.Prelude.{Begins, answer_by, seen, IsIn, IsStill, Mounted, Serves, segments_of, IsMapOf, room_shaped}
-use Rattle.lfs_fs.proofs.Prelude.{shape_of}
+use Rattle.lfs_fs.proofs.Prelude.{asked_by, length, shape_of}
 use Rattle.lfs_model.specs.Entry.{Header}
 use Rattle.lfs_model.specs.Raising.{raised}
 use Rattle.lfs_model.specs.TreeOf.{AreFormed, object, slots}
@@ -12,6 +12,8 @@ use Rattle.lfs_model.proofs.Raising.{raised_kept, raised_tree}
 use Rattle.lfs_model.proofs.Widening.{upgrade_keeps}
 use Rattle.lfs_store.specs.Making.{DraftsUpgrade}
 use Rattle.lfs_store.specs.Recounting.{CountsUpgraded}
+use Rattle.lfs_store.proofs.Growths.{room_few}
+use Rattle.lfs_fs.specs.Asking.{most_asked}
 use Rattle.lfs_fs.specs.declared.error.FsError.TheVariants as error
 use Rattle.lfs_fs.proofs.calls.Steps.{not_worn, worn}
 use Rattle.lfs_fs.proofs.calls.Drafts.{not_acknowledged}
@@ -116,11 +118,16 @@ module _ {D : Type 0} {state : D → DeviceState} (lawful : (d : D) → IsLawful
       room = room_shaped totals_of_tree (segments_of (seen mid)) after (shape_of (segments_of (seen mid)) after
           (λ n h there. headers_of_volume is n h (headers n h there))) totals
 
+    -- it asks for next to nothing
+    small : asked_by (draft_of b) ≤ most_asked Upgrade
+    small = room_few (draft_of b).changes 0 0 (omega (arith, ap length drafts.headers)) (omega (arith, ap length drafts.blocks))
+
     pub upgrade_ends : (new : Fs D) → new.handles ≡ ready.handles → {X : Type 0} (r : Result X FsError)
         → OnOk r (StagesDraft state ready new) → IfErr r (TurnsDown state ready new)
         → Serves state (seen mid) (seen new) Upgrade (answer_by (λ _. Done) r)
     upgrade_ends new rest r done down =
-        draft_ends state lawful (seen mid) ready new Upgrade Done still running rest refl refl refl refl (λ keeps k m0 m s is. record {
+        draft_ends state lawful (seen mid) ready new Upgrade Done still running rest small refl refl refl refl
+        (λ keeps k m0 m s is. record {
           next = upgraded s;
           answer = Done;
           ok = refl;

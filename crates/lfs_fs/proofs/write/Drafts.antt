@@ -3,15 +3,17 @@ use Rattle.lfs_fs.proofs.Prelude.{◌≡◌, ◌<◌, ◌≤◌, ◌+◌, ℕ, t
 use Rattle.lfs_fs.proofs.Prelude.{nat_cmp, find, AreBytes, Count, Done, Pwrite, Truncate, CheckpointValue, DeviceState, IsLawful}
 use Rattle.lfs_fs.proofs.Prelude.{IsHeaderOf, LogMap, with_tree, State, FilesState, HasHeader, HasObject, Draft, Store, StagedLog, files_of}
 use Rattle.lfs_fs.proofs.Prelude.{IsEmpty, draft_of, totals_of_tree, EntryFault, FailsWhere, FsError, Fs, Finishes, answer_by, seen, IsIn}
-use Rattle.lfs_fs.proofs.Prelude.{Mounted, Serves, segments_of, written, IsMapOf, IsShaped, opened_file, room_shaped}
+use Rattle.lfs_fs.proofs.Prelude.{asked_by, Mounted, Serves, segments_of, written, IsMapOf, IsShaped, opened_file, room_shaped}
 use Rattle.lfs_model.specs.declared.Kind.TheVariants as kind
 use Rattle.lfs_model.specs.Entry as entry
 use Rattle.lfs_files.specs.declared.fault.LogFault.TheVariants as log
 use Rattle.lfs_files.specs.declared.header.Header.{Header}
-use Rattle.lfs_files.specs.Files.{Counts, IsLoneWrite}
+use Rattle.lfs_files.specs.Files.{Counts, IsLoneWrite, asked_by_directory}
 use Rattle.lfs_files.specs.Headers.{as_header}
 use Rattle.lfs_entries.specs.declared.fault.EntryFault.TheVariants as fault
 use Rattle.lfs_entries.specs.Bytes.{DraftsBytes, DraftsLength}
+use Rattle.lfs_fs.specs.Asking.{most_asked}
+use Rattle.lfs_fs.proofs.calls.DraftSizes.{bytes_fit}
 use Rattle.lfs_fs.proofs.calls.Files.{In, IsBegun, MakesNext, RedraftsTo, apart_now, counted_now, drafted_ends, explains_where, fits_now}
 use Rattle.lfs_fs.proofs.calls.Files.{has_in, with_store}
 use Rattle.lfs_fs.proofs.calls.Steps.{pwrite_ends}
@@ -129,19 +131,22 @@ module _ {D : Type 0} {state : D → DeviceState} (lawful : (d : D) → IsLawful
       (failed : IfErr drafted (FailsWhere a b (HasObject n)))
       (halted : IsErrOf drafted (fault.Log log.Halted) → a.halted ≡ true) (other : IsErrOf drafted (fault.Log log.Full) → ⊥) where
     pub write_ends : {at : ℕ} {w : List ℕ} → 0 < length w → length w ≤ 65536 → at + length w ≤ 8511488 → AreBytes w
-        → OnOk drafted (DraftsBytes a b n at w) → Serves state v (seen new) (Pwrite h at w) (answer_by (λ _. Count (length w)) result)
+        → OnOk drafted (DraftsBytes a b n at w) → OnOk drafted (asked_by (draft_of store) ≤ asked_by_directory)
+        → Serves state v (seen new) (Pwrite h at w) (answer_by (λ _. Count (length w)) result)
     unfolding write_makes
-    write_ends {at} {w} some few end bytes drafts =
+    write_ends {at} {w} some few end bytes drafts asked =
         drafted_ends state lawful v f begun store redrafts (Pwrite h at w) refl refl refl refl (write_makes at w some few end bytes) new
         rest (Count (length w)) refl (λ p q k m0 m s keeps is. (refl, is.handles))
         (explains_where begun store {P = HasObject n} (λ k m0 m s keeps is. object is) (Pwrite h at w))
-        drafted result finishes drafts counts failed halted other
+        drafted result finishes (bytes_fit state f.store store n at w begun.ready.empty drafted drafts asked h) drafts counts failed halted
+        other
 
     pub cut_ends : {len : ℕ} → len ≤ 8511488 → OnOk drafted (DraftsLength a b n len)
+        → OnOk drafted (asked_by (draft_of store) ≤ most_asked (Truncate h len))
         → Serves state v (seen new) (Truncate h len) (answer_by (λ _. Done) result)
     unfolding cut_makes
-    cut_ends {len} end drafts =
+    cut_ends {len} end drafts small =
         drafted_ends state lawful v f begun store redrafts (Truncate h len) refl refl refl refl (cut_makes len end) new rest Done refl
         (λ p q k m0 m s keeps is. (refl, is.handles))
         (explains_where begun store {P = HasObject n} (λ k m0 m s keeps is. object is) (Truncate h len))
-        drafted result finishes drafts counts failed halted other
+        drafted result finishes small drafts counts failed halted other

@@ -7,13 +7,14 @@ use Rattle.lfs_fs.proofs.Prelude.{most_checkpoints, clean_orders, Holds, LogStat
 use Rattle.lfs_fs.proofs.Prelude.{Accepts, Declines, IsAcceptFault, FsError, Fs, StagesDraft, TellsFew, TurnsDown, need_of, error_of_store}
 use Rattle.lfs_fs.proofs.Prelude.{refusal_of, answer_by, seen, Behaves, CommitsFew, IsIn, IsStill, Mounted, Serves, TellsAtMost}
 use Rattle.lfs_fs.proofs.Prelude.{segments_of, IsMapOf, Step, acknowledges, draft_of, drafted_of, with_draft, AreTotals, Draft, held_still}
-use Rattle.lfs_fs.proofs.Prelude.{reads_none, few_checkpoints, StepsOr, Refusal}
+use Rattle.lfs_fs.proofs.Prelude.{asked_by, reads_none, few_checkpoints, StepsOr, Refusal}
 use Rattle.lfs_model.specs.Refusal as refusal
 use Rattle.lfs_files.specs.declared.fault.LogFault.TheVariants as log
 use Rattle.lfs_files.specs.declared.fault.StoreFault.TheVariants as store
 use Rattle.lfs_store.specs.Accepting.{SavesFew}
 use Rattle.lfs_fs.specs.declared.error.FsError.TheVariants as error
 use Rattle.lfs_fs.specs.Accepting.{IsDeclined, limit_of}
+use Rattle.lfs_fs.specs.Asking.{most_asked}
 use Rattle.lfs_fs.proofs.calls.AnyDevice.{IsBounded, change_bounded, change_writes, commits_none, not_both, ok_refuses_none, write_behaves}
 use Rattle.lfs_fs.proofs.calls.Drafts.{accepts_by, declines_by}
 use Rattle.lfs_fs.proofs.clean.Room.{has_room}
@@ -28,7 +29,8 @@ module _ {D : Type 0} (state : D → DeviceState) (old new : Fs D) where
 
   -- why a draft isn't staged, by the fault of the store
   pub turned_down : (fault : StoreFault) {e : FsError} → e ≡ error_of_store fault → (seen old).log.halted ≡ false
-      → (seen old).log.number < 2 ^ 62 → (seen new).log.totals ≡ (seen old).log.totals → TellsFew state (seen old).log (seen new).log
+      → (seen old).log.number < 2 ^ 62 → (seen new).log.totals ≡ (seen old).log.totals
+      → TellsFew state (seen old).log (seen new).log (asked_by (draft_of old.store))
       → (fault ≡ store.Log log.Full → Turned) → (fault ≡ store.Log log.Full → MayNotMakeClean state (seen old).log (seen new).log)
       → (fault ≡ store.NoMemory → Turned) → (fault ≡ store.Log log.Device → Turned)
       → (fault ≡ store.Log log.Device → IsAcceptFault state (seen old).log (seen new).log (draft_of old.store))
@@ -79,12 +81,14 @@ module _ {D : Type 0} (state : D → DeviceState) (lawful : (d : D) → IsLawful
   module _ {a b : LogState D} (reads : Reads state a b) where
     module _ (h : LogState D) where
       -- what is told after the reads is told after what was before them
-      pub tells_after : TellsFew state b h → TellsFew state a h
+      pub tells_after : {asked : ℕ} → TellsFew state b h asked → TellsFew state a h asked
       tells_after tells = record {
         room = told_before (clean_orders a.segments)
             (subst (λ (n : ℕ). TellsAtMost state b h (clean_orders n)) reads.segments tells.room);
         one_commit = λ clean. told_before commit_orders (tells.one_commit
             (let same = reads.clean in let size = reads.segments in omega (arith, clean, same, size)));
+        idle = λ clean room. tells.idle (clean_still state reads clean) (let same = reads.waiting in omega (arith, same, room))
+            ∙ reads.looks.told;
       }
         where
           told_before : (most : ℕ) → TellsAtMost state b h most → TellsAtMost state a h most
@@ -180,7 +184,7 @@ module _ {D : Type 0} (state : D → DeviceState) (lawful : (d : D) → IsLawful
   -- ---- what becomes of a draft
 
   module _ (v : Mounted D) (ready new : Fs D) (call : Call) (a : Answer) (still : IsStill state v (seen ready)) (was : v.log.halted ≡ false)
-      (rest : new.handles ≡ ready.handles) where
+      (rest : new.handles ≡ ready.handles) (small : asked_by (draft_of ready.store) ≤ most_asked call) where
     abbrev d : Draft
     d = draft_of ready.store
 
@@ -190,7 +194,7 @@ module _ {D : Type 0} (state : D → DeviceState) (lawful : (d : D) → IsLawful
     declines_old : IsDeclined state ready new → Declines state v.log (seen new).log d
     declines_old done = declines_after still.reads (seen new).log d done.declines
 
-    tells_old : TellsFew state (seen ready).log (seen new).log → TellsFew state v.log (seen new).log
+    tells_old : TellsFew state (seen ready).log (seen new).log (asked_by d) → TellsFew state v.log (seen new).log (asked_by d)
     tells_old = tells_after still.reads (seen new).log
 
     low_old : (seen ready).log.number < 2 ^ 62 → v.log.number < 2 ^ 62
@@ -214,7 +218,7 @@ module _ {D : Type 0} (state : D → DeviceState) (lawful : (d : D) → IsLawful
         (lawful (seen new).log.device) accepts.carries accepts.segments was accepts.saves.number d
         accepts low x (ok_refuses_none {a = x} {r = refusal.Halted} ok)
         (λ e. let no : acknowledges call x ≡ false = ap (λ (b : Bool). b && is_ok x) (commits_none call free) in cc)
-        (behaves (change_bounded state v (with_open new table) call change accepts.saves.few
+        (behaves (change_bounded state v (with_open new table) call change accepts.saves.few small
         (tells_old stages.tells)))
         (λ p keeps here k m0 m is. (
         let before = stages.accepts.carries.kept_before keeps in
@@ -249,7 +253,7 @@ module _ {D : Type 0} (state : D → DeviceState) (lawful : (d : D) → IsLawful
           declines.saves.number d record { totals = done.totals ∙ still.reads.totals; table = table_same } declines (low_old done.young)
           other
           (write_behaves state call (Refuse r) (change_writes call change) table_same (λ e. none (cc)) (λ never e. not_both never takes)
-          (change_bounded state v (seen new) call change declines.saves.few (tells_old done.tells)))
+          (change_bounded state v (seen new) call change declines.saves.few small (tells_old done.tells)))
           (λ p keeps at k m0 m is. (
           let fit = (drafts (done.declines.carries.kept_before keeps) k m0 m p.state is).fits in (fit, each p keeps at k m0 m is fit)))
 
@@ -281,7 +285,8 @@ module _ {D : Type 0} (state : D → DeviceState) (lawful : (d : D) → IsLawful
       draft_turned error.Halted down =
           halts_serves v {new = seen new} call was (change_writes call change) table_same
           (subst (λ (n : ℕ). most_checkpoints (seen ready).log ≤ n / 8 + 1) still.reads.segments (few_checkpoints (seen ready).log))
-          (λ few. change_bounded state v (seen new) call change few (tells_old down.1)) (halts_after still.reads (seen new).log down.0)
+          (λ few. change_bounded state v (seen new) call change few small (tells_old down.1))
+          (halts_after still.reads (seen new).log down.0)
       draft_turned fault down = absurd down
 
       -- it is, or it isn't; the open files stay

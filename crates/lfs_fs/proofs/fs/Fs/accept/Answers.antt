@@ -11,7 +11,11 @@ returns-in-Err-accept-clause-refused g c =
       store = c.accept.new.self;
       handles = c.args.self.now.handles;
     } c.in-Err-accept.fault c.from.ensures c.requires.running c.in-Ok.ensures.young c.in-Err-accept.ensures.accepts.kept
-    record { room = c.in-Err-accept.ensures.accepts.told; one_commit = c.in-Err-accept.ensures.accepts.one_commit }
+    record {
+      room = c.in-Err-accept.ensures.accepts.told;
+      one_commit = c.in-Err-accept.ensures.accepts.one_commit;
+      idle = λ clean room. c.in-Err-accept.ensures.accepts.idle (c.requires.running, room) clean;
+    }
     (λ e. c.in-Err-accept.ensures.accepts.full (ap Err e)) (λ e. c.in-Err-accept.ensures.accepts.never (ap Err e))
     (λ e. c.in-Err-accept.ensures.accepts.memory (ap Err e)) (λ e. c.in-Err-accept.ensures.accepts.device (ap Err e))
     (λ e. c.in-Err-accept.ensures.accepts.failed (ap Err e))

@@ -64,7 +64,7 @@ returns-in_err-finish g c =
     (entry_turned _ (lawful_in_sectors g.met.D.SectorDevice.lawful) begins (create_call _ _ _ _ begins.reached.bytes) _ _
     c.in_ok-holder.ensures (λ on. cc)
     _ c.in-Some-least_free.ensures.some (λ s handles are. free_handle c.in-Some.ensures.first c.in-Some.ensures.within handles)
-    _ draft.only.redrafts c.finish.new.self c.in_err-finish.ensures.rest _ draft _ c.in_err-finish.ensures.ends)
+    _ draft.only.redrafts (omega arith) c.finish.new.self c.in_err-finish.ensures.rest _ draft _ c.in_err-finish.ensures.ends)
 
 pub returns : goal.returns
 returns g c =
@@ -75,7 +75,7 @@ returns g c =
     entry_opens _ (lawful_in_sectors g.met.D.SectorDevice.lawful) begins (create_call _ _ _ _ begins.reached.bytes) _ _
     c.in_ok-holder.ensures (λ on. cc)
     _ c.in-Some-least_free.ensures.some (λ s handles are. free_handle first c.in-Some.ensures.within handles)
-    _ draft.only.redrafts c.finish.new.self rest refl c.open.new.self
+    _ draft.only.redrafts (omega arith) c.finish.new.self rest refl c.open.new.self
     (λ s handles are least.
     let is = ap least_handle handles ∙ first in
     (ap Handle is, (λ i. put nat_cmp (is i) (least i) ((handles ∙ sym rest) i)) ∙ sym c.open.ensures))

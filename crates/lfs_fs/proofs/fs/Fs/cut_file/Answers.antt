@@ -21,3 +21,6 @@ returns g c handle opens =
     draft.new.files draft.ensures.only.redrafts handle opens c.finish.new.self c.finish.ensures.rest draft.result
     c.finish.result c.finish.ensures.ends draft.ensures.counted draft.ensures.failed draft.ensures.only.halted draft.ensures.only.other
     c.requires.most draft.ensures.done
+    (draft_fits (lawful_in_sectors g.met.D.SectorDevice.lawful) (here_begun _ (lawful_in_sectors g.met.D.SectorDevice.lawful)
+    c.requires.ready c.requires.counted)
+    draft.ensures.only 1 1 (omega arith) draft.ensures.small)

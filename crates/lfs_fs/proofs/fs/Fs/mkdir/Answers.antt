@@ -63,4 +63,5 @@ returns g c =
     entry_ends _ (lawful_in_sectors g.met.D.SectorDevice.lawful) begins (mkdir_call _ _ _ _ begins.reached.bytes _ form) _ _ rule
     (λ on. few)
     c.in-Some.number.value c.in-Some.ensures.some (λ s handles are. not_at_most 1000 _ (omega (arith, few, are)))
-    _ draft.only.redrafts c.finish.new.self c.finish.ensures.rest (λ s handles are. (refl, refl)) _ draft _ c.finish.ensures.ends
+    _ draft.only.redrafts (omega arith) c.finish.new.self
+    c.finish.ensures.rest (λ s handles are. (refl, refl)) _ draft _ c.finish.ensures.ends

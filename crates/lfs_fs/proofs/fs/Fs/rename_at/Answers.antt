@@ -56,6 +56,10 @@ returns g c v a b reached =
     _ c.in_ok-found.ensures.only.reads
     (rw c.in-Some-found.is at c.in_ok-found.ensures.taken) c.is_open-is_open.ensures.held c.is_open-is_open.ensures.shut
     _ drafted.only.redrafts c.finish.new.self c.finish.ensures.rest _ _ c.finish.ensures.ends
+    (ok_then _ _ _ (adds_fit (in_sectors g.D.SectorDevice.state) _ c.draft_move-drafted.new.files 6 4 (omega arith)
+    (ready_after (in_sectors g.D.SectorDevice.state) c.requires.ready
+    (path_read (in_sectors g.D.SectorDevice.state) {old = c.args.self.now} _ c.in_ok-found.ensures.only.reads)).empty)
+    drafted.small)
     drafted.done drafted.counted drafted.failed drafted.only.halted
     drafted.only.other
 

@@ -37,5 +37,8 @@ returns g c =
     let drops = c.drop_entry-drafted.ensures in
     rmdir_ends (lawful_in_sectors g.met.D.SectorDevice.lawful) begun.reached begun.ready _ c.in_ok-entry.ensures.only.reads
     c.in_ok-entry.ensures.has
-    _ drops.only.redrafts c.finish.new.self c.finish.ensures.rest _ _ c.finish.ensures.ends drops.done drops.counted drops.failed
+    _ drops.only.redrafts c.finish.new.self c.finish.ensures.rest _ _ c.finish.ensures.ends
+    (entry_fits (lawful_in_sectors g.met.D.SectorDevice.lawful) c.in_ok-directory.ensures.begun c.in_ok-entry.ensures.only
+    drops.only 4 2 (omega arith) drops.small)
+    drops.done drops.counted drops.failed
     drops.only.halted drops.only.other

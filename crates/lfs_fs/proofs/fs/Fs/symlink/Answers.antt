@@ -79,4 +79,5 @@ returns g c =
     entry_ends _ (lawful_in_sectors g.met.D.SectorDevice.lawful) begins (symlink_call _ _ _ _ begins.reached.bytes c.args.text.now
     (bytes_of c.args.text.now c.type_inv.text) c.in_ok-check_link_text.ensures.good)
     _ _ c.in_ok-holder.ensures (λ on. absurd (cc)) c.in-Some.number.value c.in-Some.ensures.some (λ s handles are. refl)
-    _ draft.only.redrafts c.finish.new.self c.finish.ensures.rest (λ s handles are. (refl, refl)) _ draft _ c.finish.ensures.ends
+    _ draft.only.redrafts (omega arith) c.finish.new.self
+    c.finish.ensures.rest (λ s handles are. (refl, refl)) _ draft _ c.finish.ensures.ends

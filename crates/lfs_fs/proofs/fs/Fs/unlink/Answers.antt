@@ -37,4 +37,7 @@ returns g c =
     unlink_ends (lawful_in_sectors g.met.D.SectorDevice.lawful) begun.reached begun.ready _ c.in_ok-entry.ensures.only.reads
     c.in_ok-entry.ensures.has
     _ drops.only.redrafts c.gives-is_open.ensures.open c.gives-is_open.ensures.shut c.finish.new.self c.finish.ensures.rest _ _
-    c.finish.ensures.ends drops.done drops.counted drops.failed drops.only.halted drops.only.other
+    c.finish.ensures.ends
+    (entry_fits (lawful_in_sectors g.met.D.SectorDevice.lawful) c.in_ok-directory.ensures.begun c.in_ok-entry.ensures.only
+    drops.only 4 2 (omega arith) drops.small)
+    drops.done drops.counted drops.failed drops.only.halted drops.only.other

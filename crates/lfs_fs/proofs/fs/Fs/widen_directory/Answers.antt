@@ -1,3 +1,4 @@
+use Rattle.lfs_fs.proofs.Prelude.{arith}
 use Rattle.lfs_store.proofs.of_memory.Going.{ok_then}
 use Rattle.lfs_fs.proofs.widen.Ends.{takes_wide, widen_ends}
 use Rattle.lfs_fs.proofs.InSectors.{lawful_in_sectors}
@@ -7,7 +8,8 @@ use Rattle.lfs_fs.proofs.fs.Fs.widen_directory.Goals as goal
 pub finish-requires-clause-room : goal.finish-requires-clause-room
 finish-requires-clause-room g c =
     ok_then c.draft_wide-drafted.result _ _
-    (takes_wide (in_sectors g.D.SectorDevice.state) c.requires.ready c.draft_wide-drafted.new.files c.args.number.value c.args.header)
+    (λ widens. (let asks = takes_wide (in_sectors g.D.SectorDevice.state) c.requires.ready c.draft_wide-drafted.new.files
+    c.args.number.value c.args.header widens in omega (arith, asks)))
     c.draft_wide-drafted.ensures.done
 
 pub returns : goal.returns

@@ -21,4 +21,4 @@ returns g c handle opens few =
     (here_begun (in_sectors g.D.SectorDevice.state) (lawful_in_sectors g.met.D.SectorDevice.lawful) c.requires.ready c.requires.counted)
     draft.new.files draft.ensures.only.redrafts handle opens c.finish.new.self c.finish.ensures.rest draft.result
     c.finish.result c.finish.ensures.ends draft.ensures.counted draft.ensures.failed draft.ensures.only.halted draft.ensures.only.other
-    c.requires.bytes few c.requires.end (bytes_of c.args.bytes.now (λ i. search rules)) draft.ensures.done
+    c.requires.bytes few c.requires.end (bytes_of c.args.bytes.now (λ i. search rules)) draft.ensures.done draft.ensures.asked
