@@ -13,6 +13,9 @@ from typing import NamedTuple
 SECTOR, SEGMENT, FIRST = 512, 64, 2
 LEAST_SEGMENTS, MOST_SEGMENTS, SEGMENTS_STEP = 64, 1_024, 8
 MAGIC = b"SLFSCKP1"
+# The forms of a directory in each version; the one whose checkpoints have a checksum, what stands there behind the unit, and the largest unit.
+FORMS = {1: (0,), 2: (0, 1), 3: (1,)}
+SUMMED_VERSION, SHAPE, MOST_UNIT_POWER = 3, bytes((6, 9, 0, 0, 0, 0, 0)), 6
 MOST_OBJECTS, MOST_LINKS = 4_095, 1_000
 DIRECT, LEAF = 112, 128
 DOUBLE_FROM = DIRECT + LEAF
@@ -40,6 +43,8 @@ class Checkpoint(NamedTuple):
     number: int
     segments: int
     version: int
+    # How many sectors a unit has.
+    unit: int
     map: tuple
     usage: tuple
 
@@ -137,13 +142,27 @@ def first_bytes(blocks, count):
     return b"".join(blocks.get(place, bytes(SECTOR)) for place in range(blocks_of(count)))[:count]
 
 
+def crc32c(message):
+    """The checksum of RFC 3720, sections 12.1 and B.4, bit by bit."""
+    register = 0xFFFF_FFFF
+    for byte in message:
+        register ^= byte
+        for _ in range(8):
+            register = register >> 1 ^ (0x82F6_3B78 if register & 1 else 0)
+    return register ^ 0xFFFF_FFFF
+
+
 def checkpoint_of(slot, block):
     """The checkpoint that a slot's sector holds, or None."""
     number, segments, version = struct.unpack_from("<QII", block, 8)
-    fits = block[:8] == MAGIC and number >= 1 and number % 2 == slot and version in (1, 2)
-    fits = fits and is_zero(block[24:32]) and is_zero(block[224:])
+    fits = block[:8] == MAGIC and number >= 1 and number % 2 == slot and version in FORMS
+    if version == SUMMED_VERSION:
+        fits = fits and block[24] <= MOST_UNIT_POWER and block[25:32] == SHAPE and is_zero(block[224:508])
+        fits = fits and int.from_bytes(block[508:], "little") == crc32c(block[:508])
+    else:
+        fits = fits and is_zero(block[24:32]) and is_zero(block[224:])
     if fits and LEAST_SEGMENTS <= segments <= MOST_SEGMENTS and segments % SEGMENTS_STEP == 0:
-        return Checkpoint(number, segments, version, numbers(block, 32, 160), numbers(block, 160, 224))
+        return Checkpoint(number, segments, version, 1 << block[24], numbers(block, 32, 160), numbers(block, 160, 224))
     return None
 
 
@@ -164,7 +183,7 @@ def inode_of(block, version):
     """The inode that a sector holds, or None where it is ill-formed in this version."""
     kind, form = block[0], block[1]
     number, links, size = numbers(block, 4, 16)
-    if kind not in KINDS or form > (1 if kind == DIRECTORY and version == 2 else 0):
+    if kind not in KINDS or form not in (FORMS[version] if kind == DIRECTORY else (0,)):
         return None
     if not is_zero(block[2:4]) or not is_zero(block[16:32]) or not is_zero(block[488:]):
         return None
@@ -248,7 +267,7 @@ class Walk:
         self.ask(not any(any(it) for it in self.usage[self.checkpoint.segments :]))
         del self.usage[self.checkpoint.segments :]
         for used, live, _ in self.usage:
-            self.ask(used <= SEGMENT and (used == 0) == (live == 0) and (live < used or used == 0))
+            self.ask(used <= SEGMENT and used % self.checkpoint.unit == 0 and (used == 0) == (live == 0) and (live < used or used == 0))
 
     def summaries(self):
         for segment, (used, _, _) in enumerate(self.usage):

@@ -66,8 +66,13 @@ class Refused(Exception):
     """A call that isn't done, by the name of its refusal."""
 
 
+def form_of_new(version):
+    """The form of the directories that a volume of this version is given."""
+    return 0 if version == 1 else 1
+
+
 def new(segments, version=1):
-    root = Node("dir", {}, version - 1)
+    root = Node("dir", {}, form_of_new(version))
     return State(segments, version, {ROOT: root}, {}, BASE + cost(root)[2])
 
 
@@ -358,7 +363,7 @@ def call_mkdir(state, path):
     if links_of(state, directory) >= MOST_LINKS:
         raise Refused("TooManyLinks")
     number = least(state.nodes, 1, MOST_NUMBERS + 1, "NoNumber")
-    return "ok", put_if_it_fits(state, {number: Node("dir", {}, state.version - 1), directory: named(state, directory, name, number)})
+    return "ok", put_if_it_fits(state, {number: Node("dir", {}, form_of_new(state.version)), directory: named(state, directory, name, number)})
 
 
 def call_link(state, old, path):
@@ -542,7 +547,7 @@ CALLS = {
     "space": (call_space,),
     "tree": (call_tree,),
     "version": (lambda state: (f"ok {state.version}", state),),
-    "upgrade": (lambda state: ("ok", state._replace(version=2)),),
+    "upgrade": (lambda state: ("ok", state._replace(version=max(state.version, 2))),),
     "widen": (call_widen, path_of),
 }
 

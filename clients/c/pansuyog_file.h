@@ -55,7 +55,7 @@ int32_t pansuyog_file_new(pansuyog_file *volume);
 /* Takes a descriptor, which lies in a block of malloc, as the file of a volume, where none is mounted: one of a file or a block device, to
  * be read, and to be written but for READ_ONLY. It is locked as the program lfs does, and what was held before is closed. Block and
  * descriptor are the library's from then on, also where they are refused: then the descriptor is closed, and nothing else changes.
- * ALREADY_MOUNTED, IN_USE, LOCK_FAILED, DEVICE, INVAL for other flags. pansuyog_file_attach opens a file and gives it. */
+ * ALREADY_MOUNTED, IN_USE, LOCK_FAILED, DEVICE, NO_MEMORY, INVAL for other flags. pansuyog_file_attach opens a file and gives it. */
 int32_t pansuyog_file_take(pansuyog_file *volume, int32_t *descriptor, uint32_t flags);
 /* The number of errno.h for which the newest call of the file that failed was refused, or 0. */
 int32_t pansuyog_file_errno(pansuyog_file *volume);
@@ -126,7 +126,7 @@ int32_t pansuyog_file_widen(pansuyog_file *volume, const char *path, size_t leng
 
 /* Opening and making. These are C, and stand here. */
 
-/* Gives a descriptor to pansuyog_file_take, in a block of its own. It is closed where it is refused. NO_MEMORY besides. */
+/* Gives a descriptor to pansuyog_file_take, in a block of its own. It is closed where it is refused. NO_MEMORY also for that block. */
 static inline int32_t pansuyog_file_lend(pansuyog_file *volume, int fd, uint32_t flags) {
     int32_t *descriptor = (int32_t *)malloc(sizeof *descriptor);
     if (descriptor != NULL) {

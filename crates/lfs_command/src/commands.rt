@@ -205,7 +205,7 @@ fn run<Here: World, R: Files<File = File> + Clock, I: Read, W: Write>(
     input: &mut I,
     output: &mut W,
 ) -> Played<Ending> {
-    match image::open_to_write::<Here, R>(rt, image) {
+    match image::open_to_write::<Here, R>(rt, alloc, image) {
         Ok(device) => {
             let mut glances = Glances::new();
             let (played, mut device) = play(alloc, device, input, output, &mut glances);
@@ -214,8 +214,8 @@ fn run<Here: World, R: Files<File = File> + Clock, I: Read, W: Write>(
                 is_saved: played.is_saved,
             }
         }
-        Err(fault) => Played {
-            end: refuse(output, Refusal::Image(fault)),
+        Err(refusal) => Played {
+            end: refuse(output, refusal),
             is_saved: true,
         },
     }
@@ -301,7 +301,7 @@ fn run_strict<Here: World, R: Files<File = File> + Clock, I: Read, W: Write>(
     input: &mut I,
     output: &mut W,
 ) -> Played<Outcome> {
-    match image::open_to_write::<Here, R>(rt, image) {
+    match image::open_to_write::<Here, R>(rt, alloc, image) {
         Ok(device) => {
             let mut glances = Glances::new();
             let (played, mut device) = play_strict(alloc, device, input, output, &mut glances);
@@ -310,8 +310,8 @@ fn run_strict<Here: World, R: Files<File = File> + Clock, I: Read, W: Write>(
                 is_saved: played.is_saved,
             }
         }
-        Err(fault) => Played {
-            end: outcome_of(refuse(output, Refusal::Image(fault))),
+        Err(refusal) => Played {
+            end: outcome_of(refuse(output, refusal)),
             is_saved: true,
         },
     }

@@ -80,7 +80,7 @@ pub fn read_plan(
 
 /// The device of a new volume, which is to stop.
 pub fn start(alloc: Global, plan: Plan) -> Result<MemDevice, Refusal>
-    ensures new { IfOk result (λ d. IsNew plan.version plan.segments (device_state d).content) }
+    ensures new { IfOk result (λ d. IsNew plan.version plan.segments 0 (device_state d).content) }
     ensures alone { IfOk result (λ d. Only (device_state d).content (device_state d)) }
     ensures stops { IfOk result (λ d. (bench_of d).stop ≡ Some plan.stop) }
     ensures unit { IfOk result

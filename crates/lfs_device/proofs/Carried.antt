@@ -1,13 +1,14 @@
 -- A call that is noted carries a device on.
 use Rattle.std.proofs.Common.{◌≡◌, ◌⊎◌, inl, inr, ℕ, ◌+◌, ◌≤◌, List, ◌∷◌, length, refl, sym, subst, arith}
-use Rattle.lfs_model.specs.Device.{Cell, Carries, Grows, MayWriteUnit}
+use Rattle.lfs_model.specs.Device.{Cell, Carries, Grows, MayWriteUnit, left_old}
 use Rattle.lfs_model.specs.declared.Order.{Order}
 use Rattle.lfs_model.proofs.Moments.{grows_none, grows_one}
 use Rattle.lfs_device.specs.Fate.{Fate}
 use Rattle.lfs_device.specs.Bench.{HasNoFault}
 use Rattle.lfs_model.proofs.Pasts.{holds_before, until_before}
 use Rattle.lfs_device.specs.File.{AreAnswers, MayLeave, answered, content_after, failed_orders_in, failures_in}
-use Rattle.lfs_device.specs.File.{orders_in, file_state, may_after_refusal}
+use Rattle.lfs_device.specs.File.{orders_in, file_state}
+use Rattle.lfs_model.proofs.UnitWrites.{to_unit}
 use Rattle.lfs_device.specs.declared.bench.Bench.{Bench}
 use Rattle.lfs_device.specs.Memory.{memory_state}
 use Rattle.lfs_device.specs.Rows.{CanLeave, LeftBetween, LeftIn, PassedThrough, count}
@@ -44,7 +45,7 @@ reads_before FailedSync calls = omega arith
 told_before : (call : Call) (calls : List Call) → Grows (orders_in calls) (orders_in (call ∷ calls))
 told_before (Given sector bytes) calls = grows_none _ _ refl
 told_before (Written sector bytes) calls = grows_one _ _ _ refl
-told_before (Refused sector bytes) calls = grows_one _ _ _ refl
+told_before (Refused sector bytes) calls = grows_none _ _ refl
 told_before Synced calls = grows_one _ _ _ refl
 told_before FailedRead calls = grows_none _ _ refl
 told_before FailedSync calls = grows_none _ _ refl
@@ -76,7 +77,7 @@ pub refused_may : {n : ℕ} (fate : Fate n) (sector : ℕ) (bytes : List ℕ) (o
     → new ≡ Refused sector bytes ∷ old → MayWriteUnit fate.unit sector bytes (content_after fate old) (content_after fate new)
 refused_may fate sector bytes old is =
     subst (λ (calls : List Call). MayWriteUnit fate.unit sector bytes (content_after fate old) (content_after fate calls)) (sym is)
-    (may_after_refusal fate (length old) sector bytes (content_after fate old))
+    (to_unit fate.unit sector bytes _ _ (left_old refl))
 
 -- a memory device: what a call makes of the counts of failures
 pub record Counts (failed failed' orders orders' : Count) (bench : Bench) : Type 0 where

@@ -1,7 +1,10 @@
 pub mod Bearing
 pub mod Carried
-pub mod Made
+pub mod KeptRuns
+pub mod RunBytes
+pub mod RunTests
 pub mod SectorStops
+pub mod Sending
 pub mod Spoiling
 pub mod Stops
 pub mod Syncs

@@ -1,5 +1,5 @@
 -- What nobody can know of a file as it is opened.
-use Rattle.std.specs.Prelude.{◌≡◌, ℕ, Bool, false, Some, List, length, replicate, refl}
+use Rattle.std.specs.Prelude.{◌≡◌, ℕ, Some, List, length, replicate, refl}
 use Rattle.std.specs.List.{AllByRecursion}
 use Rattle.std.specs.declared.fs.attrs.Metadata.{Metadata}
 use Rattle.std.proofs.Common.{sym, ◌∙◌, ap, subst}
@@ -7,10 +7,8 @@ use Rattle.std.proofs.lemmas.List.{length-replicate}
 use Rattle.lfs_model.specs.declared.limits.TheConstants.{SECTOR_LEN}
 use Rattle.lfs_model.specs.Device.{Cell, IsSector}
 use Rattle.lfs_model.proofs.Cells.{all_same, zeros_are_bytes}
-use Rattle.lfs_device.specs.declared.rows.Left.{Left}
-use Rattle.lfs_device.specs.declared.rows.Left.TheVariants.{Old}
 
--- the content and the future of a file of n sectors
+-- the content of a file of n sectors, and what a stop may make of it
 pub record Fate (n : ℕ) : Type 1 where
   -- what it holds
   pub content : List Cell
@@ -18,10 +16,6 @@ pub record Fate (n : ℕ) : Type 1 where
   pub left : List Cell → Type 0
   -- the unit that each sector is of
   pub unit : ℕ → ℕ
-  -- what each call, counted from 0, makes of its sector if it is a write that fails
-  pub outcome : ℕ → Left
-  -- whether it makes this other sector of its unit unreadable then
-  pub spoils : ℕ → ℕ → Bool
   pub size : length content ≡ n
   pub sizes : (c : List Cell) → left c → length c ≡ n
   pub now : AllByRecursion IsSector content
@@ -46,8 +40,6 @@ fate_of opened n = record {
   content = replicate n zero_sector;
   left = λ c. c ≡ replicate n zero_sector;
   unit = λ k. k;
-  outcome = λ call. Old;
-  spoils = λ call k. false;
   size = length-replicate n zero_sector;
   sizes = λ c is. ap (λ (l : List Cell). length l) is ∙ length-replicate n zero_sector;
   now = all_same IsSector n zero_sector zero_is_sector;

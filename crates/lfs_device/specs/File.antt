@@ -1,12 +1,9 @@
 -- A file as contracts see it: a device of the model, in so far as its answers were such a device's.
-use Rattle.std.specs.Prelude.{◌≡◌, ◌⊎◌, ℕ, zero, suc, ◌+◌, ◌^◌, ◌<◌, ◌≤◌, Some, None, List, [], ◌∷◌, length, refl}
-use Rattle.std.specs.Prelude.{Bool, true, false, not, ◌&&◌, ◌==◌, if◌then◌else◌}
+use Rattle.std.specs.Prelude.{◌≡◌, ℕ, ◌+◌, ◌^◌, ◌<◌, Some, List, [], ◌∷◌, length, refl}
 use Rattle.std.specs.List.{AllByRecursion}
-use Rattle.std.proofs.Common.{inl, inr, sym, ◌∙◌, ap, ap₂, subst, arith, eq-eqb, length-set}
-use Rattle.std.proofs.lemmas.Bool.{ne_eqb}
-use Rattle.lfs_model.specs.Device.{Cell, cell_at, put, lose, MayWrite, MayWriteUnit, left_old, left_new}
-use Rattle.lfs_model.specs.Device.{left_bad, IsSector, AreSectorBytes, DeviceState}
-use Rattle.lfs_model.specs.Device.{IsLawful}
+use Rattle.std.proofs.Common.{sym, ◌∙◌, ap, subst, length-set}
+use Rattle.lfs_model.specs.Device.{Cell, cell_at, put, MayWriteUnit, left_old, left_new}
+use Rattle.lfs_model.specs.Device.{IsSector, AreSectorBytes, DeviceState, IsLawful}
 use Rattle.lfs_model.specs.Past.{AtSince, AtUntil, HoldsUntil}
 use Rattle.lfs_model.proofs.Pasts.{counts_at, earlier_at, holds_earlier, holds_end, only_at, until_end}
 use Rattle.lfs_model.specs.declared.Order.{Order}
@@ -14,36 +11,15 @@ use Rattle.lfs_model.specs.declared.Order.TheVariants as order
 use Rattle.lfs_model.proofs.Cells.{all_set}
 use Rattle.lfs_model.proofs.UnitWrites.{to_unit, unit_cells}
 use Rattle.lfs_device.specs.Fate.{Fate}
-use Rattle.lfs_device.specs.declared.rows.Left.{Left}
-use Rattle.lfs_device.specs.declared.rows.Left.TheVariants.{Old, New, Bad}
 use Rattle.lfs_device.specs.History.{Call, Given, Written, Refused, Synced, FailedRead, FailedSync}
 
--- the content with these sectors unreadable
-abbrev pub spoil : (ℕ → Bool) → List Cell → List Cell
-spoil these [] = []
-spoil these (x ∷ content) = (if these 0 then None else x) ∷ spoil (λ k. these (suc k)) content
-
--- what a failed write makes of its sector
-abbrev pub refused : Left → ℕ → List ℕ → List Cell → List Cell
-refused Old sector bytes content = content
-refused New sector bytes content = put content sector bytes
-refused Bad sector bytes content = lose content sector
-
 module _ {n : ℕ} (fate : Fate n) where
-  -- whether a call that is a failed write to the sector spoils this one: it is another of the unit
-  abbrev pub is_spoiled : ℕ → ℕ → ℕ → Bool
-  is_spoiled call sector k = (fate.unit k == fate.unit sector) && not (k == sector) && fate.spoils call k
-
-  -- what the call makes of a content
-  abbrev pub after_refusal : ℕ → ℕ → List ℕ → List Cell → List Cell
-  after_refusal call sector bytes content = refused (fate.outcome call) sector bytes (spoil (is_spoiled call sector) content)
-
   -- what the file holds after these calls
   abbrev pub content_after : List Call → List Cell
   content_after [] = fate.content
   content_after (Given sector bytes ∷ calls) = content_after calls
   content_after (Written sector bytes ∷ calls) = put (content_after calls) sector bytes
-  content_after (Refused sector bytes ∷ calls) = after_refusal (length calls) sector bytes (content_after calls)
+  content_after (Refused sector bytes ∷ calls) = content_after calls
   content_after (Synced ∷ calls) = content_after calls
   content_after (FailedRead ∷ calls) = content_after calls
   content_after (FailedSync ∷ calls) = content_after calls
@@ -91,12 +67,12 @@ failed_orders_in (Synced ∷ calls) = failed_orders_in calls
 failed_orders_in (FailedRead ∷ calls) = failed_orders_in calls
 failed_orders_in (FailedSync ∷ calls) = failed_orders_in calls + 1
 
--- the writes, done or failed, and the syncs that succeeded
+-- the writes and syncs that succeeded
 abbrev pub orders_in : List Call → List Order
 orders_in [] = []
 orders_in (Given sector bytes ∷ calls) = orders_in calls
 orders_in (Written sector bytes ∷ calls) = order.Write sector bytes ∷ orders_in calls
-orders_in (Refused sector bytes ∷ calls) = order.Write sector bytes ∷ orders_in calls
+orders_in (Refused sector bytes ∷ calls) = orders_in calls
 orders_in (Synced ∷ calls) = order.Sync ∷ orders_in calls
 orders_in (FailedRead ∷ calls) = orders_in calls
 orders_in (FailedSync ∷ calls) = orders_in calls
@@ -126,94 +102,12 @@ AreWhole (Written sector bytes ∷ calls) = AreSectorBytes bytes × AreWhole cal
 AreWhole (Refused sector bytes ∷ calls) = AreSectorBytes bytes × AreWhole calls
 AreWhole (call ∷ calls) = AreWhole calls
 
--- sectors that are spoiled
-size_spoiled : (these : ℕ → Bool) (content : List Cell) → length (spoil these content) ≡ length content
-size_spoiled these [] = refl
-size_spoiled these (x ∷ content) = ap (λ (l : ℕ). suc l) (size_spoiled (λ k. these (suc k)) content)
-
-is_sector_or_none : (bad : Bool) (x : Cell) → IsSector x → IsSector (if bad then None else x)
-is_sector_or_none true x has = tt
-is_sector_or_none false x has = has
-
-cells_spoiled : (these : ℕ → Bool) (content : List Cell) → AllByRecursion IsSector content → AllByRecursion IsSector (spoil these content)
-cells_spoiled these [] all = tt
-cells_spoiled these (x ∷ content) all = (is_sector_or_none (these 0) x all.0, cells_spoiled (λ k. these (suc k)) content all.1)
-
-either_way : (bad : Bool) (x : Cell) → x ≡ (if bad then x else x)
-either_way true x = refl
-either_way false x = refl
-
-cell_spoiled : (these : ℕ → Bool) (content : List Cell) (k : ℕ)
-    → cell_at (spoil these content) k ≡ (if these k then None else cell_at content k)
-cell_spoiled these [] k = either_way (these k) None
-cell_spoiled these (x ∷ content) zero = refl
-cell_spoiled these (x ∷ content) (suc k) = cell_spoiled (λ j. these (suc j)) content k
-
-same_or_none : (bad : Bool) (x : Cell) → ((if bad then None else x) ≡ x) ⊎ ((if bad then None else x) ≡ None)
-same_or_none true x = inr refl
-same_or_none false x = inl refl
-
--- a write after others of its unit were spoiled
-module _ (unit : ℕ → ℕ) (sector : ℕ) (bytes : List ℕ) (these : ℕ → Bool) (content new : List Cell) where
-  spoiled_too : these sector ≡ false → ((k : ℕ) → (unit k ≡ unit sector → ⊥) → these k ≡ false)
-      → MayWriteUnit unit sector bytes (spoil these content) new → MayWriteUnit unit sector bytes content new
-  spoiled_too own others may = record {
-    size = may.size ∙ size_spoiled these content;
-    own = elim may.own [ inl is ↦ inl (is ∙ same sector own) | inr is ↦ inr is ];
-    beside = λ k e ne. elim (may.beside k e ne) [
-      | inl is ↦ elim (same_or_none (these k) (cell_at content k)) [
-        | inl kept ↦ inl (is ∙ cell_spoiled these content k ∙ kept)
-        | inr lost ↦ inr (is ∙ cell_spoiled these content k ∙ lost)
-      ]
-      | inr is ↦ inr is
-    ];
-    others = λ k ne. may.others k ne ∙ same k (others k ne);
-  }
-    where
-      same : (k : ℕ) → these k ≡ false → cell_at (spoil these content) k ≡ cell_at content k
-      same k is = cell_spoiled these content k ∙ ap (λ (bad : Bool). if bad then None else cell_at content k) is
-
--- a failed write
-size_refused : (outcome : Left) (sector : ℕ) (bytes : List ℕ) (content : List Cell)
-    → length (refused outcome sector bytes content) ≡ length content
-size_refused Old sector bytes content = refl
-size_refused New sector bytes content = length-set content sector _
-size_refused Bad sector bytes content = length-set content sector _
-
-cells_refused : (outcome : Left) (sector : ℕ) (bytes : List ℕ) (content : List Cell) → AreSectorBytes bytes
-    → AllByRecursion IsSector content
-    → AllByRecursion IsSector (refused outcome sector bytes content)
-cells_refused Old sector bytes content has all = all
-cells_refused New sector bytes content has all = all_set IsSector content sector (Some bytes) has all
-cells_refused Bad sector bytes content has all = all_set IsSector content sector None tt all
-
-written_refused : (outcome : Left) (sector : ℕ) (bytes : List ℕ) (content : List Cell)
-    → MayWrite sector bytes content (refused outcome sector bytes content)
-written_refused Old sector bytes content = left_old refl
-written_refused New sector bytes content = left_new refl
-written_refused Bad sector bytes content = left_bad refl
-
-module _ {n : ℕ} (fate : Fate n) (call sector : ℕ) (bytes : List ℕ) (content : List Cell) where
-  own_unspoiled : is_spoiled fate call sector sector ≡ false
-  own_unspoiled = ap₂ (λ (u s : Bool). u && not s && fate.spoils call sector) (eq-eqb (fate.unit sector) (fate.unit sector) refl)
-      (eq-eqb sector sector refl)
-
-  others_unspoiled : (k : ℕ) → (fate.unit k ≡ fate.unit sector → ⊥) → is_spoiled fate call sector k ≡ false
-  others_unspoiled k ne = ap (λ (u : Bool). u && not (k == sector) && fate.spoils call k) (ne_eqb (fate.unit k) (fate.unit sector) ne)
-
-  pub may_after_refusal : MayWriteUnit fate.unit sector bytes content (after_refusal fate call sector bytes content)
-  may_after_refusal =
-      spoiled_too fate.unit sector bytes (is_spoiled fate call sector) content (after_refusal fate call sector bytes content)
-      own_unspoiled others_unspoiled
-      (to_unit fate.unit sector bytes _ _ (written_refused (fate.outcome call) sector bytes (spoil (is_spoiled fate call sector) content)))
-
 module _ {n : ℕ} (fate : Fate n) where
-  size_after : (calls : List Call) → length (content_after fate calls) ≡ n
+  pub size_after : (calls : List Call) → length (content_after fate calls) ≡ n
   size_after [] = fate.size
   size_after (Given sector bytes ∷ calls) = size_after calls
   size_after (Written sector bytes ∷ calls) = length-set (content_after fate calls) sector _ ∙ size_after calls
-  size_after (Refused sector bytes ∷ calls) = size_refused (fate.outcome (length calls)) sector bytes _
-      ∙ size_spoiled (is_spoiled fate (length calls) sector) (content_after fate calls) ∙ size_after calls
+  size_after (Refused sector bytes ∷ calls) = size_after calls
   size_after (Synced ∷ calls) = size_after calls
   size_after (FailedRead ∷ calls) = size_after calls
   size_after (FailedSync ∷ calls) = size_after calls
@@ -223,9 +117,7 @@ module _ {n : ℕ} (fate : Fate n) where
   cells_after (Given sector bytes ∷ calls) whole = cells_after calls whole
   cells_after (Written sector bytes ∷ calls) whole =
       all_set IsSector (content_after fate calls) sector (Some bytes) whole.0 (cells_after calls whole.1)
-  cells_after (Refused sector bytes ∷ calls) whole =
-      cells_refused (fate.outcome (length calls)) sector bytes _ whole.0
-      (cells_spoiled (is_spoiled fate (length calls) sector) (content_after fate calls) (cells_after calls whole.1))
+  cells_after (Refused sector bytes ∷ calls) whole = cells_after calls whole.1
   cells_after (Synced ∷ calls) whole = cells_after calls whole
   cells_after (FailedRead ∷ calls) whole = cells_after calls whole
   cells_after (FailedSync ∷ calls) whole = cells_after calls whole
@@ -258,7 +150,7 @@ module _ {n : ℕ} (fate : Fate n) where
   present_left (Refused sector bytes ∷ calls) = (
     content_after fate calls,
     present_left calls,
-    may_after_refusal fate (length calls) sector bytes (content_after fate calls),
+    to_unit fate.unit sector bytes _ _ (left_old refl),
   )
   present_left (Synced ∷ calls) = refl
   present_left (FailedRead ∷ calls) = present_left calls

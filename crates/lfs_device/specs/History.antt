@@ -1,7 +1,8 @@
--- The calls on a file as a device, read off those of the system.
+-- The calls on a file as a device, read off what was done for it.
 use Rattle.std.specs.Prelude.{ℕ, ◌/◌, true, false, List, [], ◌∷◌}
 use Rattle.lfs_model.specs.declared.limits.TheConstants.{SECTOR_LEN}
-use Rattle.lfs_device.specs.HostCall.{HostCall, Length, Read, Write, Sync}
+use Rattle.lfs_device.specs.Event.{Event, Called, Kept, Shown, WriteRefused, SyncRefused}
+use Rattle.lfs_device.specs.HostCall.{Length, Read, Write, Sync}
 
 -- a call and what it answered
 pub data Call : Type 0 where
@@ -15,13 +16,16 @@ pub data Call : Type 0 where
   FailedRead : Call
   FailedSync : Call
 
--- the newest first; the length is asked for before there is a device
-abbrev pub calls_of : List HostCall → List Call
+-- the newest first; the length is asked for before there is a device, and sending a run is a part of the call for which it is sent
+abbrev pub calls_of : List Event → List Call
 calls_of [] = []
-calls_of (Length told ∷ calls) = calls_of calls
-calls_of (Read offset bytes true ∷ calls) = Given (offset / SECTOR_LEN) bytes ∷ calls_of calls
-calls_of (Read offset bytes false ∷ calls) = FailedRead ∷ calls_of calls
-calls_of (Write offset bytes true ∷ calls) = Written (offset / SECTOR_LEN) bytes ∷ calls_of calls
-calls_of (Write offset bytes false ∷ calls) = Refused (offset / SECTOR_LEN) bytes ∷ calls_of calls
-calls_of (Sync true ∷ calls) = Synced ∷ calls_of calls
-calls_of (Sync false ∷ calls) = FailedSync ∷ calls_of calls
+calls_of (Called (Length told) ∷ events) = calls_of events
+calls_of (Called (Read offset bytes true) ∷ events) = Given (offset / SECTOR_LEN) bytes ∷ calls_of events
+calls_of (Called (Read offset bytes false) ∷ events) = FailedRead ∷ calls_of events
+calls_of (Called (Write offset bytes done) ∷ events) = calls_of events
+calls_of (Called (Sync true) ∷ events) = Synced ∷ calls_of events
+calls_of (Called (Sync false) ∷ events) = FailedSync ∷ calls_of events
+calls_of (Kept sector bytes ∷ events) = Written sector bytes ∷ calls_of events
+calls_of (Shown sector bytes ∷ events) = Given sector bytes ∷ calls_of events
+calls_of (WriteRefused sector bytes ∷ events) = Refused sector bytes ∷ calls_of events
+calls_of (SyncRefused ∷ events) = FailedSync ∷ calls_of events

@@ -1,24 +1,29 @@
--- The calls that were made of an open file, as a list.
-use Rattle.std.specs.Prelude.{ℕ, Option, Some, None, Result, Ok, Err, List, [], ◌∷◌}
-use Rattle.lfs_device.specs.HostCall.{HostCall, Length, Read, Write, Sync}
+-- What was done with an open file, as a list.
+use Rattle.std.specs.Prelude.{ℕ, Option, Some, None, Result, Ok, Err, List, [], ◌∷◌, take}
+use Rattle.lfs_device.specs.Event.{Event, Called, Kept, Shown, WriteRefused, SyncRefused}
+use Rattle.lfs_device.specs.HostCall.{Length, Read, Write, Sync}
 use Rattle.lfs_device.specs.declared.host.HostFile.{HostFile}
 use Rattle.lfs_device.specs.declared.host.Noted.{Noted}
 use Rattle.lfs_device.specs.declared.host.Noted.TheVariants as noted
 use Rattle.lfs_device.specs.declared.host.Notes.{Notes, Nothing, After'}
 
-abbrev pub call_noted : Noted → HostCall
-call_noted (noted.Length told) = Length told
-call_noted (noted.Read offset bytes done) = Read offset bytes.value done
-call_noted (noted.Write offset bytes done) = Write offset bytes.value done
-call_noted (noted.Sync done) = Sync done
+abbrev pub event_noted : Noted → Event
+event_noted (noted.Length told) = Called (Length told)
+event_noted (noted.Read offset bytes done) = Called (Read offset bytes.value done)
+event_noted (noted.Write offset bytes len done) = Called (Write offset (take len bytes.value.items) done)
+event_noted (noted.Sync done) = Called (Sync done)
+event_noted (noted.Kept sector bytes) = Kept sector bytes.value
+event_noted (noted.Shown sector bytes) = Shown sector bytes.value
+event_noted (noted.WriteRefused sector bytes) = WriteRefused sector bytes.value
+event_noted noted.SyncRefused = SyncRefused
 
-abbrev pub calls_noted : Notes → List HostCall
-calls_noted Nothing = []
-calls_noted (After' call mark before) = call_noted call ∷ calls_noted before
+abbrev pub events_noted : Notes → List Event
+events_noted Nothing = []
+events_noted (After' note mark before) = event_noted note ∷ events_noted before
 
 -- the newest first
-abbrev pub host_calls : HostFile → List HostCall
-host_calls file = calls_noted file.notes.value
+abbrev pub events : HostFile → List Event
+events file = events_noted file.notes.value
 
 -- what a call for the length told
 abbrev pub told_by : {E : Type 0} → Result ℕ E → Option ℕ

@@ -304,7 +304,7 @@ fn over_file(rt: &HostRuntime, path: &str, writes: bool) -> Option<FileDevice> {
         .write(writes)
         .open(rt, path)
         .ok()?;
-    FileDevice::new(file).ok()
+    FileDevice::new(rt.alloc(), file).ok()
 }
 
 /// Whether the first three sectors of these bytes are filled with 9, 4 and 6, and the rest with 5.
@@ -329,11 +329,16 @@ fn a_file_is_a_device(rt: HostRuntime) {
         Step::Sectors(3),
         Step::Read(0, Ok(5)),
         Step::Fill(0, 9, true),
+        // It doesn't go on with the first sector, nor does the one after it with this.
+        Step::Fill(2, 6, true),
+        Step::Fill(1, 3, true),
+        // The last one does, and this one is written over before it is sent.
         Step::Fill(2, 6, true),
         Step::Fill(1, 4, true),
         Step::Read(1, Ok(4)),
         Step::Sync(true),
         Step::Read(0, Ok(9)),
+        Step::Read(1, Ok(4)),
     ];
     let is_put = fs::write(&rt, "device.img", [5u8; 2000].as_slice()).is_ok();
     assert!(rt; is_put);
@@ -343,11 +348,19 @@ fn a_file_is_a_device(rt: HostRuntime) {
     assert!(rt; is_left && is_gone);
 }
 
-/// Whether a write fails on a file that isn't open for that, and, once the file is shorter, a read
-/// of what is gone.
+/// Whether a sync fails on a file that isn't open for writing, where a write waits for it, and, once
+/// the file is shorter, a read of what is gone. What was written is read as it was.
 fn fails_well(rt: &HostRuntime, device: &mut FileDevice) -> bool {
-    let calls = [Step::Fill(0, 9, false), Step::Read(0, Ok(5))];
-    let gone = [Step::Read(0, Err(ReadFault::Failed))];
+    let calls = [
+        Step::Fill(0, 9, true),
+        Step::Sync(false),
+        Step::Read(0, Ok(9)),
+        Step::Read(1, Ok(5)),
+        // The first sector can't be sent, so no other is taken but the next.
+        Step::Fill(2, 9, false),
+        Step::Read(2, Ok(5)),
+    ];
+    let gone = [Step::Read(1, Err(ReadFault::Failed)), Step::Read(0, Ok(9))];
     first_wrong(device, &calls).is_none()
         && fs::write(rt, "readonly.img", [5u8; 100].as_slice()).is_ok()
         && first_wrong(device, &gone).is_none()
@@ -355,7 +368,7 @@ fn fails_well(rt: &HostRuntime, device: &mut FileDevice) -> bool {
 
 #[test]
 fn a_file_that_is_not_open_for_writing_fails(rt: HostRuntime) {
-    let is_put = fs::write(&rt, "readonly.img", [5u8; 512].as_slice()).is_ok();
+    let is_put = fs::write(&rt, "readonly.img", [5u8; 1536].as_slice()).is_ok();
     let is_well = match over_file(&rt, "readonly.img", false) {
         Some(mut device) => fails_well(&rt, &mut device),
         None => false,

@@ -42,6 +42,14 @@ const WITH_A_FILE: [Piece; 13] = [
     (8, 0, &[0x61]),
 ];
 
+/// What changes in it where it is of version 3. The last piece is the checksum of all before it.
+const OF_VERSION_3: [Piece; 4] = [
+    (1, 20, &[0x03]),
+    (1, 24, &[0, 0x06, 0x09]),
+    (1, 508, &[0x85, 0xdd, 0x5f, 0x39]),
+    (3, 1, &[0x01]),
+];
+
 /// Puts the pieces of a sector into it.
 fn change(bytes: &mut [u8; 512], sector: usize, pieces: &[Piece]) {
     for (in_sector, byte, new) in pieces {
@@ -137,6 +145,7 @@ fn first_checkpoint() -> Checkpoint {
         number: 1,
         segments: 64,
         version: 1,
+        unit_power: 0,
         map: front(&[4]),
         usage: front(&[5]),
     }
@@ -178,6 +187,40 @@ fn sectors_of_a_new_volume(rt: HostRuntime) {
         spells_usage(&sector(5, &[]), usage),
     ];
     assert_eq!(rt; seen, [true; 7]);
+}
+
+/// How many of the bytes of this checkpoint may be others: each by one bit.
+fn others_are_checkpoints(sector: &[u8; 512]) -> usize {
+    let mut count = 0;
+    for place in 0..512usize {
+        let mut other = *sector;
+        other[place] ^= 0x10;
+        if Checkpoint::decode(&other).is_some() {
+            count += 1;
+        }
+    }
+    count
+}
+
+#[test]
+fn sectors_of_version_3(rt: HostRuntime) {
+    let changes = OF_VERSION_3.as_slice();
+    let checkpoint = Checkpoint {
+        version: 3,
+        ..first_checkpoint()
+    };
+    let root = Inode {
+        form: 1,
+        ..root(0, 0)
+    };
+    let seen = [
+        spells_checkpoint(&sector(1, changes), &checkpoint),
+        spells_inode(&sector(3, changes), &root),
+        others_are_checkpoints(&sector(1, changes)) == 0,
+        // Of an older version the addresses may be any.
+        others_are_checkpoints(&sector(1, &[])) > 4 * 48,
+    ];
+    assert_eq!(rt; seen, [true; 4]);
 }
 
 #[test]

@@ -72,7 +72,7 @@ fn volume(alloc: Global, read: u64) -> Result<(Cached, LogMemory), NoMemory> {
     lose(&mut device, 30);
     device.fail(DeviceCall::Read, read);
     let map = InodeMap::new(alloc)?;
-    let usage = Usage::new(alloc, 64)?;
+    let usage = Usage::new(alloc, 64, 0)?;
     let dirty = DirtyTable::new(alloc, 4, 4)?;
     let mut memory = LogMemory {
         map,

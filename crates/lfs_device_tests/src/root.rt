@@ -1,3 +1,5 @@
+ghost use Rattle.std.specs.Prelude.{◌≤◌};
+
 use crate::examples::{commit, write_blocks};
 use crate::helpers::{BAD, Row, all_well, filled, lose, put};
 use lfs_device::{DeviceCall, InSectors, Left, MemDevice, ReadFault, SectorDevice};
@@ -43,6 +45,14 @@ fn sector(number: u8) -> [u8; 512] {
     sector[32] = 4;
     sector[160] = 5;
     sector
+}
+
+/// The sector of a checkpoint of 64 segments with this number, of version 3. All its tables stand at
+/// this address.
+fn summed(number: u64, address: u32) -> [u8; 512]
+    requires { 1 ≤ number }
+{
+    Checkpoint::new(number, 64, 3, 0, [address; 32], [address; 16]).encode()
 }
 
 /// Puts it into a slot: whether that succeeds.
@@ -141,6 +151,33 @@ fn the_newest_of_the_two_slots(rt: HostRuntime) {
             Step::Newest(found),
         ];
         all_well(&rt, MemDevice::new(rt.alloc(), 5), &steps);
+    }
+}
+
+/// The number of the newest checkpoint of a device with these slots.
+fn newest_of(alloc: Global, first: &[u8; 512], second: &[u8; 512]) -> Option<u64> {
+    let mut device = MemDevice::new(alloc, 2).ok()?;
+    if !put(&mut device, 0, first) || !put(&mut device, 1, second) {
+        return None;
+    }
+    number(&mut device).ok()
+}
+
+#[test]
+fn a_half_written_slot_of_version_3(rt: HostRuntime) {
+    let older = summed(2, 7);
+    let old = summed(1, 0x0102_0304);
+    let new = summed(3, 0x0506_0708);
+    for cut in 0..=512usize {
+        // As far as the cut the new bytes arrived, or all behind it.
+        let mut front = old;
+        front[..cut].copy_from_slice(&new[..cut]);
+        let mut back = new;
+        back[..cut].copy_from_slice(&old[..cut]);
+        for slot in [front, back] {
+            let found = if slot == new { 3 } else { 2 };
+            assert_eq!(rt; newest_of(rt.alloc(), &older, &slot), Some(found));
+        }
     }
 }
 

@@ -105,7 +105,7 @@ fn volume(alloc: Global, segments: u32) -> Result<(MemorySectors, Usage), NoMemo
     requires { segments ≤ 1024 }
 {
     let device = MemDevice::new(alloc, 2 + 64 * segments)?;
-    Ok((InSectors::new(device), Usage::new(alloc, segments)?))
+    Ok((InSectors::new(device), Usage::new(alloc, segments, 0)?))
 }
 
 #[test]
@@ -345,7 +345,7 @@ impl Row<Usage> for Seed {
 
 #[test]
 fn a_random_sequence_beside_a_plain_list(rt: HostRuntime) {
-    all_well(&rt, Usage::new(rt.alloc(), 64), &[Seed(1)]);
+    all_well(&rt, Usage::new(rt.alloc(), 64, 0), &[Seed(1)]);
 }
 
 /// What is done with segment 71, and what is seen.
@@ -393,7 +393,7 @@ fn a_usage_block_counts_what_lives(rt: HostRuntime) {
     ];
     let held = [Step::Take, Step::Place(false), Step::Says(0, 0, 0)];
     for segments in [72, 1_024] {
-        all_well(&rt, Usage::new(rt.alloc(), segments), &steps);
-        all_well(&rt, Usage::new(rt.alloc(), segments), &held);
+        all_well(&rt, Usage::new(rt.alloc(), segments, 0), &steps);
+        all_well(&rt, Usage::new(rt.alloc(), segments, 0), &held);
     }
 }

@@ -174,7 +174,7 @@ fn segments_of_as_many_blocks(rt: HostRuntime) {
         Step::TakesNone(0, 2),
         Step::Takes(0, 9, &[(40, 41), (0, 8)]),
     ];
-    all_well(&rt, Usage::new(rt.alloc(), 64), &rows);
+    all_well(&rt, Usage::new(rt.alloc(), 64, 0), &rows);
 }
 
 #[test]
@@ -192,7 +192,7 @@ fn blocks_that_hold_a_segment_count(rt: HostRuntime) {
         // Each further segment is full, and asks for as many as it gives.
         Step::TakesNone(4, 72),
     ];
-    all_well(&rt, Usage::new(rt.alloc(), 72), &rows);
+    all_well(&rt, Usage::new(rt.alloc(), 72, 0), &rows);
 }
 
 #[test]
@@ -206,7 +206,7 @@ fn as_many_victims_as_a_list_holds(rt: HostRuntime) {
         Step::Takes(18, 129, &[(0, 129)]),
         Step::TakesNone(19, 129),
     ];
-    all_well(&rt, Usage::new(rt.alloc(), 1_024), &rows);
+    all_well(&rt, Usage::new(rt.alloc(), 1_024, 0), &rows);
 }
 
 #[test]
@@ -227,7 +227,7 @@ fn a_tree_with_the_greatest_need(rt: HostRuntime) {
         Step::Takes(326, 8, &[(0, 8)]),
         Step::Takes(326, 9, &[(0, 9)]),
     ];
-    all_well(&rt, Usage::new(rt.alloc(), 64), &data);
+    all_well(&rt, Usage::new(rt.alloc(), 64, 0), &data);
     // 672 * 9 + 97 * 8 is 6,824, and 6,772 * 6 is 40,632: 48,128 for 1,024. 9 * k + 6,723 is at
     // most 63 * (k - 1) from 126 on.
     let meta = [
@@ -238,7 +238,7 @@ fn a_tree_with_the_greatest_need(rt: HostRuntime) {
         // 97 * 8 + 31 * 9 + 6,820 is 7,875, which fills 125 of 128. 129 fill 126, and gain no more.
         Step::Takes(6_772, 129, &[(672, 769), (0, 31)]),
     ];
-    all_well(&rt, Usage::new(rt.alloc(), 1_024), &meta);
+    all_well(&rt, Usage::new(rt.alloc(), 1_024, 0), &meta);
 }
 
 #[test]
@@ -257,7 +257,7 @@ fn as_many_as_are_missing_to_a_quarter(rt: HostRuntime) {
         Step::Takes(0, 8, &[(0, 7)]),
         Step::Takes(0, 9, &[(0, 9)]),
     ];
-    all_well(&rt, Usage::new(rt.alloc(), 64), &rows);
+    all_well(&rt, Usage::new(rt.alloc(), 64, 0), &rows);
 }
 
 #[test]
@@ -270,7 +270,7 @@ fn the_segment_of_the_last_chunk_is_no_victim(rt: HostRuntime) {
         Step::Begins(10),
         Step::Takes(0, 9, &[(0, 5)]),
     ];
-    all_well(&rt, Usage::new(rt.alloc(), 64), &rows);
+    all_well(&rt, Usage::new(rt.alloc(), 64, 0), &rows);
 }
 
 #[test]
@@ -286,7 +286,7 @@ fn victims_by_benefit_and_cost(rt: HostRuntime) {
         // An age past the checkpoint counts as none: all are worth nothing, and go by their numbers.
         Step::TakesAt(20, 0, 9, &[(0, 6)]),
     ];
-    all_well(&rt, Usage::new(rt.alloc(), 64), &rows);
+    all_well(&rt, Usage::new(rt.alloc(), 64, 0), &rows);
     let rows = [
         // 1 * 99 of 125 is more than 53 * 1 of 73. But nine with 62 blocks gain nothing, so those
         // with the least blocks are taken.
@@ -294,7 +294,7 @@ fn victims_by_benefit_and_cost(rt: HostRuntime) {
         Step::Age((12, 20), 10, 99),
         Step::TakesAt(100, 0, 9, &[(12, 18)]),
     ];
-    all_well(&rt, Usage::new(rt.alloc(), 64), &rows);
+    all_well(&rt, Usage::new(rt.alloc(), 64, 0), &rows);
 }
 
 #[test]
@@ -312,5 +312,5 @@ fn quotients_of_benefit_and_cost(rt: HostRuntime) {
         Step::Before((0, 0), (1, 0), 18_446_744_073_709_551_615, true),
         Step::Before((1, 0), (0, 0), 18_446_744_073_709_551_615, false),
     ];
-    all_well(&rt, Usage::new(rt.alloc(), 64), &rows);
+    all_well(&rt, Usage::new(rt.alloc(), 64, 0), &rows);
 }

@@ -2,7 +2,7 @@
 #![tactic(auto)]
 
 use anyhow::{Error, Result};
-use lfs_device::{FileDevice, Left, MemDevice, SectorDevice};
+use lfs_device::{FileDevice, FileFault, Left, MemDevice, SectorDevice};
 use lfs_fs::{Fs, FsError, format};
 use std::alloc::Global;
 use std::fs::File;
@@ -78,10 +78,19 @@ fn new_file<R: Files<File = File>>(rt: &R, path: &str) -> Result<File> {
     Ok(file)
 }
 
+/// A file as a device.
+fn over(alloc: Global, file: File) -> Result<FileDevice> {
+    match FileDevice::new(alloc, file) {
+        Ok(device) => Ok(device),
+        Err(FileFault::NoMemory) => Err(Error::msg("NoMemory")),
+        Err(FileFault::Failed) => Err(Error::msg("Device")),
+    }
+}
+
 /// One record on a volume in a file: what a second mount finds.
 pub fn in_a_file<R: Files<File = File>>(rt: &R, alloc: Global, path: &str) -> Result<Vec<u8>> {
     let file = new_file(rt, path)?;
-    let mut device = FileDevice::new(file).map_err(|_| Error::msg("Device"))?;
+    let mut device = over(alloc, file)?;
     make(&mut device)?;
     let mut fs = mounted(alloc, device)?;
     append(&mut fs, b"three\n").map_err(refused)?;

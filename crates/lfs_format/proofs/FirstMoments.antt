@@ -1,7 +1,8 @@
 -- What a stop leaves while an empty volume is made, and what stands then.
 use Rattle.std.proofs.Common.{◌<◌, ◌≡◌, ◌⊎◌, inl, inr, ℕ, ◌+◌, ◌*◌, ◌%◌, ◌≤◌, List, [], length, Some, None, refl, sym, ◌∙◌, ap}
 use Rattle.std.proofs.Common.{subst, arith, length-set, get_or-set_other, get_or-set_same}
-use Rattle.lfs_model.specs.Checkpoint.{CheckpointValue, IsSegmentCount, IsVersion, checkpoint_sector, checkpoint_in, usage_blocks}
+use Rattle.lfs_model.specs.Checkpoint.{CheckpointValue, IsSegmentCount, IsVersion, checkpoint_sector, checkpoint_in, most_unit_power}
+use Rattle.lfs_model.specs.Checkpoint.{usage_blocks}
 use Rattle.lfs_model.specs.Content.{Content, newest, newer, slot, with_parity, bytes_of}
 use Rattle.lfs_model.specs.Device.{AreSectors, Cell, cell_at, put, MayWrite, MayWriteUnit, left_old, left_new, left_bad, DeviceState}
 use Rattle.lfs_model.specs.Device.{IsUntouched, Only, AllLeft, Carries, Elapses, LeavesOnly, ComesFrom, SameOutside, IsLawful, CrashWrites}
@@ -37,22 +38,24 @@ pub clear_none : {c : Content} → AreClear c → newest c ≡ None
 clear_none {c} clear = no_newest c (holds_none c 0 clear.first) (holds_none c 1 clear.second)
 
 -- the chunk leaves the slots clear
-pub chunk_clear : {version : ℕ} (N : ℕ) {n : ℕ} {c0 c : Content} → AreClear c0 → HasChunk version N n c0 c → AreClear c
+pub chunk_clear : {version : ℕ} (N : ℕ) {p n : ℕ} {c0 c : Content} → AreClear c0 → HasChunk version N p n c0 c → AreClear c
 chunk_clear N clear chunk =
     record { first = chunk.others.before 0 (omega arith) ∙ clear.first; second = chunk.others.before 1 (omega arith) ∙ clear.second }
 
-module _ (version N : ℕ) (known : IsVersion version) (count : IsSegmentCount N) (c0 c1 : Content) (long : 2 + 64 * N ≤ length c0)
-    (clear : AreClear c0) (chunk : HasChunk version N (usage_blocks N) c0 c1) where
+module _ (version N p : ℕ) (known : IsVersion version) (unit : p ≤ most_unit_power version) (count : IsSegmentCount N)
+    (c0 c1 : Content) (long : 2 + 64 * N ≤ length c0)
+    (clear : AreClear c0) (chunk : HasChunk version N p (usage_blocks N) c0 c1) where
   room : 2 + 64 * N ≤ length c1
   room = omega arith
 
   abbrev bytes : List ℕ
-  bytes = checkpoint_sector (first_checkpoint version N)
+  bytes = checkpoint_sector (first_checkpoint version N p)
 
   -- the chunk, and then the checkpoint
-  pub whole : {c2 : Content} → c2 ≡ put c1 1 bytes → IsNew version N c2
+  pub whole : {c2 : Content} → c2 ≡ put c1 1 bytes → IsNew version N p c2
   whole {c2} is = record {
     known = known;
+    unit = unit;
     count = count;
     size = let same : length c2 ≡ length c1 = ap length is ∙ length-set c1 1 (Some bytes) in omega (arith, room);
     empty_slot = other 0 (λ e. omega arith) ∙ (chunk_clear N clear chunk).first;
@@ -67,7 +70,7 @@ module _ (version N : ℕ) (known : IsVersion version) (count : IsSegmentCount N
       other k ne = ap (λ x. cell_at x k) is ∙ get_or-set_other c1 1 k (Some bytes) None ne
 
   -- the checkpoint's write leaves none or that one
-  pub torn : (c2 : Content) → MayWrite 1 bytes c1 c2 → (newest c2 ≡ None) ⊎ IsNew version N c2
+  pub torn : (c2 : Content) → MayWrite 1 bytes c1 c2 → (newest c2 ≡ None) ⊎ IsNew version N p c2
   torn c2 (left_old is) = inl (clear_none (subst AreClear (sym is) (chunk_clear N clear chunk)))
   torn c2 (left_new is) = inr (whole is)
   torn c2 (left_bad is) = inl (no_newest c2 (holds_none c2 0 first) (ap (λ x. checkpoint_in (bytes_of x)) second ∙ none_empty))
@@ -82,9 +85,9 @@ module _ (version N : ℕ) (known : IsVersion version) (count : IsSegmentCount N
 -- ---- at any moment
 
 -- the device before, and with clear slots
-module _ (version N : ℕ) {a b : DeviceState} (cleared : LeavesOnly a b (ComesFrom a MayClearSlots)) where
+module _ (version N p : ℕ) {a b : DeviceState} (cleared : LeavesOnly a b (ComesFrom a MayClearSlots)) where
   abbrev P : Content → Type 0
-  P = MayStand version N a
+  P = MayStand version N p a
 
   pub moments_cleared : LeavesOnly a b P
   moments_cleared = weaker _ _ (λ x from. inl from) cleared
@@ -106,17 +109,17 @@ module _ (version N : ℕ) {a b : DeviceState} (cleared : LeavesOnly a b (ComesF
           goes_on _ moments_chunked carries time (λ x left. inr (inl (clear_none (still all_clear x (same.crash x left)))))
 
       -- with the checkpoint, whose write comes from what has the chunk
-      pub moments_written : {r : DeviceState} {k : CheckpointValue} → k ≡ first_checkpoint version N → IsVersion version → IsSegmentCount N
-          → 2 + 64 * N ≤ length b.content
-          → HasChunk version N (usage_blocks N) b.content c.content → Only s.content s
+      pub moments_written : {r : DeviceState} {k : CheckpointValue} → k ≡ first_checkpoint version N p → IsVersion version
+          → p ≤ most_unit_power version → IsSegmentCount N → 2 + 64 * N ≤ length b.content
+          → HasChunk version N p (usage_blocks N) b.content c.content → Only s.content s
           → LeavesOnly s r (ComesFrom s (MayWrite (k.number % 2) (checkpoint_sector k))) → LeavesOnly a r P
-      moments_written is known count long chunk alone written =
+      moments_written is known unit count long chunk alone written =
           joined _ _ _ moments_synced written (λ x has. has) (λ x from.
           let content : from.0 ≡ c.content = alone from.0 from.1 ∙ same.content in
-          let first : MayWrite 1 (checkpoint_sector (first_checkpoint version N)) from.0 x =
+          let first : MayWrite 1 (checkpoint_sector (first_checkpoint version N p)) from.0 x =
           subst (λ m. MayWrite (m.number % 2) (checkpoint_sector m) from.0 x) is from.2 in
-          inr (torn version N known count b.content c.content long clear chunk x
-          (subst (λ d. MayWrite 1 (checkpoint_sector (first_checkpoint version N)) d x) content first)))
+          inr (torn version N p known unit count b.content c.content long clear chunk x
+          (subst (λ d. MayWrite 1 (checkpoint_sector (first_checkpoint version N p)) d x) content first)))
 
 -- ---- the sectors that are written
 
@@ -213,23 +216,23 @@ writes_then {N} lawful one two = record {
 }
 
 -- the slots are cleared
-pub making_cleared : {version N : ℕ} {a b : DeviceState} → (AreSectors a.unit → LeavesOnly a b (ComesFrom a MayClearSlots)) → Carries a b
-    → IsMaking version N a b
-making_cleared {version} {N} cleared carries = record {
-  any_moment = λ sectors keeps. moments_cleared version N (cleared sectors);
+pub making_cleared : {version N p : ℕ} {a b : DeviceState} → (AreSectors a.unit → LeavesOnly a b (ComesFrom a MayClearSlots)) → Carries a b
+    → IsMaking version N p a b
+making_cleared {version} {N} {p} cleared carries = record {
+  any_moment = λ sectors keeps. moments_cleared version N p (cleared sectors);
   touched = λ sectors. touches_slots (5 + usage_blocks N) (omega arith) (cleared sectors);
   carries = carries;
 }
 
 -- then the chunk is written
-module _ {version N : ℕ} {a b c : DeviceState} (lawful : IsLawful b)
+module _ {version N p : ℕ} {a b c : DeviceState} (lawful : IsLawful b)
     (cleared : AreSectors a.unit → LeavesOnly a b (ComesFrom a MayClearSlots)) (clears : Carries a b)
     (clear : b.keeps_model → AreClear b.content) (only : b.keeps_model → Only b.content b) (writes : WritesChunk N b c) where
-  pub making_chunked : IsMaking version N a c
+  pub making_chunked : IsMaking version N p a c
   making_chunked = record {
     any_moment = λ sectors keeps.
         let kept = writes.carries.kept_before keeps in
-        moments_chunked version N (cleared sectors) (clear kept) (only kept) (writes.any_moment (sectors_after sectors clears));
+        moments_chunked version N p (cleared sectors) (clear kept) (only kept) (writes.any_moment (sectors_after sectors clears));
     touched = λ sectors.
         touches_then (5 + usage_blocks N) lawful (touches_slots (5 + usage_blocks N) (omega arith) (cleared sectors))
         (writes.touched (sectors_after sectors clears));
@@ -238,22 +241,23 @@ module _ {version N : ℕ} {a b c : DeviceState} (lawful : IsLawful b)
 
   -- it is synced
   module _ {s : DeviceState} (lawful_c : IsLawful c) (same : IsUntouched c s) (carries : Carries c s) (time : Elapses c s) where
-    pub making_synced : IsMaking version N a s
+    pub making_synced : IsMaking version N p a s
     making_synced = record {
       any_moment = λ sectors keeps.
           let kept = writes.carries.kept_before (carries.kept_before keeps) in
           let then = sectors_after sectors clears in
-          moments_synced version N (cleared sectors) (clear kept) (only kept) (writes.any_moment then) (writes.left then) same carries time;
+          moments_synced version N p (cleared sectors) (clear kept) (only kept) (writes.any_moment then) (writes.left then) same carries
+          time;
       touched = λ sectors. touches_still (5 + usage_blocks N) lawful_c (making_chunked.touched sectors) same carries time;
       carries = carries_then making_chunked.carries carries;
     }
 
     -- and the checkpoint is written
-    pub making_written : {r : DeviceState} {k : CheckpointValue} → IsLawful s → k ≡ first_checkpoint version N → IsVersion version
-        → IsSegmentCount N → 2 + 64 * N ≤ a.size
-        → (c.keeps_model → HasChunk version N (usage_blocks N) b.content c.content) → (s.keeps_model → Only s.content s)
-        → LeavesOnly s r (ComesFrom s (MayWriteUnit s.unit (k.number % 2) (checkpoint_sector k))) → Carries s r → IsMaking version N a r
-    making_written {k} lawful_s is known count room chunk alone written replaces = record {
+    pub making_written : {r : DeviceState} {k : CheckpointValue} → IsLawful s → k ≡ first_checkpoint version N p → IsVersion version
+        → p ≤ most_unit_power version → IsSegmentCount N → 2 + 64 * N ≤ a.size
+        → (c.keeps_model → HasChunk version N p (usage_blocks N) b.content c.content) → (s.keeps_model → Only s.content s)
+        → LeavesOnly s r (ComesFrom s (MayWriteUnit s.unit (k.number % 2) (checkpoint_sector k))) → Carries s r → IsMaking version N p a r
+    making_written {k} lawful_s is known unit count room chunk alone written replaces = record {
       any_moment = λ sectors keeps.
           let synced = replaces.kept_before keeps in
           let kept = carries.kept_before synced in
@@ -261,8 +265,8 @@ module _ {version N : ℕ} {a b c : DeviceState} (lawful : IsLawful b)
           let then = sectors_after sectors clears in
           let long : 2 + 64 * N ≤ length b.content = omega (arith, room) in
           let torn = by_sectors (sectors_after sectors making_synced.carries) written in
-          moments_written version N (cleared sectors) (clear was) (only was) (writes.any_moment then) (writes.left then) same carries time
-          is known count long (chunk kept) (alone synced) torn;
+          moments_written version N p (cleared sectors) (clear was) (only was) (writes.any_moment then) (writes.left then) same carries time
+          is known unit count long (chunk kept) (alone synced) torn;
       touched = λ sectors. touches_then (5 + usage_blocks N) lawful_s (making_synced.touched sectors)
           (touches_slot (5 + usage_blocks N) (k.number % 2) (checkpoint_sector k) (omega arith)
           (by_sectors (sectors_after sectors making_synced.carries) written));
@@ -270,16 +274,16 @@ module _ {version N : ℕ} {a b c : DeviceState} (lawful : IsLawful b)
     }
 
     -- which makes the volume
-    pub volume_made : {r : DeviceState} {k : CheckpointValue} → k ≡ first_checkpoint version N → IsVersion version → IsSegmentCount N
-        → 2 + 64 * N ≤ a.size → (b.keeps_model → SameOutside 0 2 a.content b.content)
-        → (c.keeps_model → HasChunk version N (usage_blocks N) b.content c.content) → Carries s r
+    pub volume_made : {r : DeviceState} {k : CheckpointValue} → k ≡ first_checkpoint version N p → IsVersion version
+        → p ≤ most_unit_power version → IsSegmentCount N → 2 + 64 * N ≤ a.size → (b.keeps_model → SameOutside 0 2 a.content b.content)
+        → (c.keeps_model → HasChunk version N p (usage_blocks N) b.content c.content) → Carries s r
         → (r.keeps_model → r.content ≡ put s.content (k.number % 2) (checkpoint_sector k)) → (r.keeps_model → Only r.content r)
-        → r.failures ≡ a.failures → HasMade version N a r
-    volume_made {r} is known count room slots chunk replaces written alone failures = record {
+        → r.failures ≡ a.failures → HasMade version N p a r
+    volume_made {r} is known unit count room slots chunk replaces written alone failures = record {
       no_failure = failures;
       image = image;
-      volume = λ keeps. new_volume version N r.content (image keeps);
-      checkpoint = λ keeps. (formatted version N r.content (image keeps)).0;
+      volume = λ keeps. new_volume version N p r.content (image keeps);
+      checkpoint = λ keeps. (formatted version N p r.content (image keeps)).0;
       durable = alone;
       others = others;
     }
@@ -290,20 +294,20 @@ module _ {version N : ℕ} {a b c : DeviceState} (lawful : IsLawful b)
         was : r.keeps_model → b.keeps_model
         was keeps = writes.carries.kept_before (kept keeps)
 
-        first : r.keeps_model → r.content ≡ put c.content 1 (checkpoint_sector (first_checkpoint version N))
+        first : r.keeps_model → r.content ≡ put c.content 1 (checkpoint_sector (first_checkpoint version N p))
         first keeps = written keeps ∙ ap (λ m. put s.content (m.number % 2) (checkpoint_sector m)) is
-            ∙ ap (λ x. put x 1 (checkpoint_sector (first_checkpoint version N))) same.content
+            ∙ ap (λ x. put x 1 (checkpoint_sector (first_checkpoint version N p))) same.content
 
-        image : r.keeps_model → IsNew version N r.content
+        image : r.keeps_model → IsNew version N p r.content
         image keeps =
             let long : 2 + 64 * N ≤ length b.content = omega (arith, room) in
-            whole version N known count b.content c.content long (clear (was keeps)) (chunk (kept keeps)) (first keeps)
+            whole version N p known unit count b.content c.content long (clear (was keeps)) (chunk (kept keeps)) (first keeps)
 
         others : r.keeps_model → SameBehindChunk N a.content r.content
         others keeps =
             let below = slots (was keeps) in
             let behind = (chunk (kept keeps)).others in
-            let x : Cell = Some (checkpoint_sector (first_checkpoint version N)) in
+            let x : Cell = Some (checkpoint_sector (first_checkpoint version N p)) in
             record {
               size = ap length (first keeps) ∙ length-set c.content 1 x ∙ behind.size ∙ below.size;
               before = λ at lt. absurd (omega arith);

@@ -13,11 +13,6 @@ use Rattle.lfs_model.proofs.Image.{unused_spelled}
 use Rattle.lfs_model.proofs.Moments.{Run, run_none, run_call, all_left_write, Survives, same_outside_none, write_outside}
 use Rattle.lfs_model.proofs.UnitWrites.{crash_of_sectors}
 use Rattle.lfs_format.specs.Making.{MayClear, left_as_was, left_clear, left_unreadable, MayClearSlots, AreClear, HasChunk}
-use Rattle.lfs_model.specs.Checkpoint.{IsVersion}
-
--- a version of the layout that there is
-pub known_version : (v : ℕ) → 1 ≤ v → v ≤ 2 → IsVersion v
-known_version v low high = grind arith
 
 -- ---- the slots
 
@@ -83,14 +78,14 @@ wider : {first n : ℕ} (m : ℕ) {d : Content} (c : Content) → n ≤ m → Sa
 wider m c le same = record { size = same.size; before = λ k lt. same.before k lt; after = λ k past. same.after k (omega arith) }
 
 -- a later usage block is zeros
-later_uses : (N n : ℕ) → 1 ≤ n → blank 512 ≡ usage_sector (first_uses N n)
-later_uses N zero some = absurd (omega arith)
-later_uses N (suc n) some = sym (unused_spelled N n)
+later_uses : (N p n : ℕ) → 1 ≤ n → blank 512 ≡ usage_sector (first_uses N p n)
+later_uses N p zero some = absurd (omega arith)
+later_uses N p (suc n) some = sym (unused_spelled N p n)
 
 -- and one usage block more
-pub chunk_more : {version : ℕ} (N : ℕ) {n : ℕ} {c0 : Content} (c e : Content) → 1 ≤ n → 5 + n < length c0 → HasChunk version N n c0 c
-    → e ≡ put c (5 + n) (blank 512) → HasChunk version N (n + 1) c0 e
-chunk_more N {n} {c0} c e some room so_far is = record {
+pub chunk_more : {version : ℕ} (N : ℕ) {p n : ℕ} {c0 : Content} (c e : Content) → 1 ≤ n → 5 + n < length c0 → HasChunk version N p n c0 c
+    → e ≡ put c (5 + n) (blank 512) → HasChunk version N p (n + 1) c0 e
+chunk_more N {p} {n} {c0} c e some room so_far is = record {
   others = write_outside 2 (3 + (n + 1)) (5 + n) (blank 512) (omega arith) (omega arith) c0 c e
       (wider (3 + (n + 1)) c (omega arith) so_far.others) (left_new is);
   summary = there c (5 + n) (blank 512) is 2 (λ w. omega arith) ∙ so_far.summary;
@@ -98,8 +93,8 @@ chunk_more N {n} {c0} c e some room so_far is = record {
   pointers = there c (5 + n) (blank 512) is 4 (λ w. omega arith) ∙ so_far.pointers;
   uses = λ j lt. ⊎_elim
       (λ at. ap (λ k. cell_at e (5 + k)) at ∙ here c e (5 + n) (blank 512) is
-      (omega (arith, room)) ∙ ap (λ b. Some b) (later_uses N n some)
-      ∙ ap (λ k. Some (usage_sector (first_uses N k))) (sym at))
+      (omega (arith, room)) ∙ ap (λ b. Some b) (later_uses N p n some)
+      ∙ ap (λ k. Some (usage_sector (first_uses N p k))) (sym at))
       (λ other. there c (5 + n) (blank 512) is (5 + j) (λ w. other (omega arith))
       ∙ so_far.uses j (⊎_elim (λ low. low) (λ high. absurd (other (omega arith))) (cases_lt j n)))
       (cases_eq j n);

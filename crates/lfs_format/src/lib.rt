@@ -4,6 +4,8 @@
 mod fault;
 mod image;
 mod making;
+mod shape;
 
 pub use fault::FormatFault;
-pub use making::{format, format_version};
+pub use making::{format, format_version, format_with};
+pub use shape::Shape;

@@ -1,17 +1,17 @@
 -- What a device that bears its calls leaves no room for.
-use Rattle.lfs_fs.proofs.Prelude.{◌≡◌, ◌⊎◌, ◌+◌, ◌<◌, ◌≤◌, ℕ, Bool, true, false, None, Option, Some, length}
+use Rattle.lfs_fs.proofs.Prelude.{◌≡◌, ◌⊎◌, ◌≤◌, ℕ, false, None, Option, Some}
 use Rattle.lfs_fs.proofs.Prelude.{refl, sym, ◌∙◌, ap, inl, inr, ⊎_elim, arith}
-use Rattle.lfs_fs.proofs.Prelude.{Answer, Call, Refuse, Fsync, Sync, Done, DeviceState, Point, State, commits, find, nat_cmp}
+use Rattle.lfs_fs.proofs.Prelude.{Answer, Call, Refuse, Fsync, Sync, Done, DeviceState, Point, State, find, nat_cmp}
 use Rattle.lfs_model.proofs.Uses.{no_device, no_halt}
 use Rattle.lfs_model.specs.Call.{Open, Create, Close, Pread, Pwrite, Truncate, Mkdir, LinkTo, Symlink}
 use Rattle.lfs_model.specs.Call.{Readlink, Unlink, Rmdir, Rename, StatOf}
 use Rattle.lfs_model.specs.Call.{LstatOf, Readdir, Clean, Space, Version, Upgrade, Widen, ListTree}
 use Rattle.lfs_model.specs.Refusal.{Refusal, BadHandle, Device, Halted, NoMemory, Stuck, Worn}
-use Rattle.lfs_model.specs.Run.{IsExcused, StepsOr}
+use Rattle.lfs_model.specs.Run.{IsExcused}
 use Rattle.lfs_model.specs.Step.{Step}
 use Rattle.lfs_fs.proofs.calls.Steps.{never_worn}
-use Rattle.lfs_fs.specs.Available.{BearsCall, CallsAreAvailable, IsBorne, SyncsAreDone}
-use Rattle.lfs_fs.specs.Volume.{Mounted, ServesAt, most_orders, segments_of}
+use Rattle.lfs_fs.specs.Available.{CallsAreAvailable, IsBorne, SyncsAreDone}
+use Rattle.lfs_fs.specs.Volume.{Mounted, ServesAt, segments_of}
 
 module _ {D : Type 0} (state : D → DeviceState) where
   module _ {old new : Mounted D} {call : Call} {answer : Answer} (is : IsBorne state old new call answer) where

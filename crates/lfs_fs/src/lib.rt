@@ -26,7 +26,7 @@ mod writing;
 pub use error::FsError;
 pub use fs::Fs;
 pub use lfs_entries::{ListedEntry as Entry, TreeRow};
-pub use lfs_format::{FormatFault, format, format_version};
+pub use lfs_format::{FormatFault, Shape, format, format_version, format_with};
 pub use lfs_path as path;
 pub use lfs_store as store;
 pub use lfs_store::MountFault;

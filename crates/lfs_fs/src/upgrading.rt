@@ -18,8 +18,8 @@ use lfs_path::header_of;
 use lfs_store::Header;
 
 impl<D: SectorDevice> Fs<D> {
-    /// Raises the version of the volume's layout to 2: directories that are made then take names of
-    /// up to 123 bytes. Those that are there stay as they are. Nothing changes where it is 2.
+    /// Raises the version of the volume's layout from 1 to 2: directories that are made then take
+    /// names of up to 123 bytes. Those that are there stay as they are. A later version stays.
     ///
     /// # Errors
     ///
@@ -29,7 +29,7 @@ impl<D: SectorDevice> Fs<D> {
             (answer_by (λ _. Done) result) }
     {
         self.begin()?;
-        if self.store.version() == 2 {
+        if self.store.version() != 1 {
             return self.check_worn();
         }
         self.store.upgrade();

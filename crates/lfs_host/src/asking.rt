@@ -109,7 +109,7 @@ fn of_refused(refusal: Refusal, len: u64) -> Result<Seeming, Refusal> {
 
 // What a file of so many bytes seems to be. Nothing is written.
 fn seeming_of<Here: World>(alloc: Global, file: &File, len: u64) -> Result<Seeming, Refusal> {
-    match Fs::mount(alloc, device_of_copy::<Here>(file)?) {
+    match Fs::mount(alloc, device_of_copy::<Here>(alloc, file)?) {
         Ok(mut fs) => {
             let seeming = of_volume(alloc, &mut fs);
             // Who gives the device back has dropped the rest of the volume.

@@ -6,9 +6,9 @@ use crate::cause::Cause;
 use crate::fault::{Ending, Fault, ImageFault, Refusal};
 use crate::foreign::explained;
 use crate::new_image::make_new;
-use lfs_device::{FileDeviceIn, World};
-use lfs_fs::{Fs, MountFault, format_version};
-use lfs_layout::{is_segment_count, is_version};
+use lfs_device::{FileDeviceIn, FileFault, World};
+use lfs_fs::{Fs, FsError, MountFault, format_version};
+use lfs_layout::{is_sector_version, is_segment_count};
 use lfs_model::limits::{CHECKPOINT_SLOTS, SECTOR_LEN, SEGMENT_SECTORS};
 use std::alloc::Global;
 use std::fs::{File, Metadata, OpenOptions, TryLockError};
@@ -165,11 +165,12 @@ fn lock<R: Clock>(rt: &R, file: &File) -> Result<(), ImageFault> {
 }
 
 /// An open file as a device.
-pub fn device_of<Here: World>(file: File) -> Result<FileDeviceIn<Here>, ImageFault> {
-    let Ok(device) = FileDeviceIn::new(file) else {
-        return Err(ImageFault::System);
-    };
-    Ok(device)
+pub fn device_of<Here: World>(alloc: Global, file: File) -> Result<FileDeviceIn<Here>, Refusal> {
+    match FileDeviceIn::new(alloc, file) {
+        Ok(device) => Ok(device),
+        Err(FileFault::NoMemory) => Err(Refusal::Call(FsError::NoMemory)),
+        Err(FileFault::Failed) => Err(Refusal::Image(ImageFault::System)),
+    }
 }
 
 /// The file of an image that is only looked at, and who has it beside. It is opened for reading.
@@ -189,11 +190,12 @@ pub fn open_file_to_look<R: Files<File = File> + Clock>(
 /// The same as a device.
 pub fn open_to_look<Here: World, R: Files<File = File> + Clock>(
     rt: &R,
+    alloc: Global,
     image: &str,
     patience: Patience,
-) -> Result<(FileDeviceIn<Here>, Beside), ImageFault> {
+) -> Result<(FileDeviceIn<Here>, Beside), Refusal> {
     let (file, beside) = open_file_to_look(rt, image, patience)?;
-    Ok((device_of(file)?, beside))
+    Ok((device_of(alloc, file)?, beside))
 }
 
 /// How an image is opened that is written.
@@ -217,10 +219,11 @@ pub fn open_locked<R: Files<File = File> + Clock>(
 /// The device of an image that is written. It is locked until the device is dropped.
 pub fn open_to_write<Here: World, R: Files<File = File> + Clock>(
     rt: &R,
+    alloc: Global,
     image: &str,
-) -> Result<FileDeviceIn<Here>, ImageFault> {
+) -> Result<FileDeviceIn<Here>, Refusal> {
     look_up(rt, image)?;
-    device_of(open_locked(rt, &to_write(), image)?)
+    device_of(alloc, open_locked(rt, &to_write(), image)?)
 }
 
 // Refuses a medium on which no volume is made. A block device wants to be forced.
@@ -313,9 +316,17 @@ fn check_named<R: Files<File = File>>(
     }
 }
 
+// An open file by a descriptor of its own.
+fn copy_of(file: &File) -> Result<File, ImageFault> {
+    Ok(file.try_clone()?)
+}
+
 /// The device of an open file, by a descriptor of its own.
-pub fn device_of_copy<Here: World>(file: &File) -> Result<FileDeviceIn<Here>, ImageFault> {
-    device_of(file.try_clone()?)
+pub fn device_of_copy<Here: World>(
+    alloc: Global,
+    file: &File,
+) -> Result<FileDeviceIn<Here>, Refusal> {
+    device_of(alloc, copy_of(file)?)
 }
 
 fn format_device<Here: World>(
@@ -330,11 +341,11 @@ fn format_device<Here: World>(
 
 /// Makes a volume in a file that is ready for it, or in a block device, with room for each sector
 /// where that is asked for.
-pub fn fill<Here: World>(file: &File, making: Making) -> Result<(), Refusal> {
+pub fn fill<Here: World>(alloc: Global, file: &File, making: Making) -> Result<(), Refusal> {
     if making.reserve {
         reserve(file, making.segments)?;
     }
-    let mut device = device_of_copy::<Here>(file)?;
+    let mut device = device_of_copy::<Here>(alloc, file)?;
     format_device(&mut device, making)
 }
 
@@ -387,7 +398,7 @@ fn make_over<Here: World, R: Files<File = File> + Clock, I: Read, E: Write>(
 ) -> Result<(), Refusal> {
     let file = open_locked(rt, &to_write(), image)?;
     match make_ready::<Here, R, I, E>(rt, alloc, image, &file, making, input, errors) {
-        Ok(()) => fill::<Here>(&file, making),
+        Ok(()) => fill::<Here>(alloc, &file, making),
         Err(refusal) => Err(refusal),
     }
 }
@@ -406,7 +417,7 @@ pub fn make<Here: World, R: Files<File = File> + Clock, I: Read, E: Write>(
     input: &mut I,
     errors: &mut E,
 ) -> Result<(), Refusal> {
-    if !is_segment_count(making.segments) || !is_version(making.version) {
+    if !is_segment_count(making.segments) || !is_sector_version(making.version) {
         return Err(Refusal::Inval);
     }
     if check_name(rt, image, making.force)? {
@@ -455,5 +466,5 @@ pub fn mount_to_write<Here: World, R: Files<File = File> + Clock>(
     alloc: Global,
     image: &str,
 ) -> Result<Fs<FileDeviceIn<Here>>, Refusal> {
-    mount(alloc, open_to_write(rt, image)?)
+    mount(alloc, open_to_write(rt, alloc, image)?)
 }

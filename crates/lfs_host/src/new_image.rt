@@ -180,23 +180,25 @@ fn keep_name<R: Files<File = File>>(rt: &R, names: &Names) -> Result<(), ImageFa
 // Makes a volume in a locked file, and gives it its name.
 fn make_named<Here: World, R: Files<File = File>>(
     rt: &R,
+    alloc: Global,
     file: &File,
     names: &Names,
     making: Making,
 ) -> Result<(), Refusal> {
     empty(file, 0, making)?;
-    fill::<Here>(file, making)?;
+    fill::<Here>(alloc, file, making)?;
     Ok(keep_name(rt, names)?)
 }
 
 // The same in an unmade image, of which nothing is left where that is refused.
 fn make_between<Here: World, R: Files<File = File> + Clock>(
     rt: &R,
+    alloc: Global,
     names: &Names,
     making: Making,
 ) -> Result<(), Refusal> {
     let file = open_unmade(rt, names.unmade.as_str())?;
-    let made = make_named::<Here, R>(rt, &file, names, making);
+    let made = make_named::<Here, R>(rt, alloc, &file, names, making);
     if made.is_err() {
         let _ = fs::remove_file(rt, names.unmade.as_str());
     }
@@ -214,7 +216,7 @@ pub fn make_new<Here: World, R: Files<File = File> + Clock>(
     making: Making,
 ) -> Result<(), Refusal> {
     match names_of(rt, alloc, image) {
-        Ok(names) => make_between::<Here, R>(rt, &names, making),
+        Ok(names) => make_between::<Here, R>(rt, alloc, &names, making),
         Err(AllocError) => Err(Refusal::Call(FsError::NoMemory)),
     }
 }

@@ -9,7 +9,8 @@ use crate::slot::slot_len;
 use crate::writer::SectorWriter;
 use lfs_model::Kind;
 use lfs_model::limits::{
-    DIRECT_BLOCKS, LARGEST_FILE, LAST_NUMBER, LONGEST_PATH, MOST_ENTRIES, MOST_LINKS,
+    DIRECT_BLOCKS, LARGEST_FILE, LAST_NUMBER, LAST_SECTOR_VERSION, LONGEST_PATH, MOST_ENTRIES,
+    MOST_LINKS,
 };
 use std::marker::Model;
 
@@ -35,13 +36,18 @@ impl<'a> Model for InodeView<'a> {
     ghost view = { λ v. inode_of v.sector.now };
 }
 
-/// Whether an inode of the kind may have this form: a directory form 0 or 1, all else 0.
-pub fn is_form(kind: Kind, form: u8) -> bool
-    ensures { IsTrue result ↔ IsForm 2 kind form }
+/// Whether an inode of the kind may have this form in a version of the layout: a directory form 0
+/// in versions 1 and 2, and form 1 in versions 2 and 3, all else form 0.
+pub fn is_form(version: u32, kind: Kind, form: u8) -> bool
+    ensures { IsTrue result ↔ IsForm version kind form }
 {
     match kind {
         Kind::File => form == 0,
-        Kind::Directory => form <= 1,
+        Kind::Directory => match form {
+            0 => version <= LAST_SECTOR_VERSION,
+            1 => 1 < version,
+            _ => false,
+        },
         Kind::Link => form == 0,
     }
 }
@@ -98,7 +104,7 @@ impl<'a> InodeView<'a> {
             return None;
         };
         let form = sector[1];
-        if !is_form(kind, form) {
+        if !is_form(LAST_SECTOR_VERSION, kind, form) {
             return None;
         }
         if !is_zero_at(sector, 2, 2) {
@@ -254,7 +260,7 @@ impl Inode {
         fits_32(&[self.single, self.double]);
         is_within(self.number, LAST_NUMBER as u32)
             && is_within(self.links, MOST_LINKS)
-            && is_form(self.kind, self.form)
+            && is_form(LAST_SECTOR_VERSION, self.kind, self.form)
             && is_size(self.form, self.kind, self.size)
     }
 

@@ -14,7 +14,10 @@ mod writer;
 mod zero;
 
 pub use address::{place_in_segment, segment_of};
-pub use checkpoint::{Checkpoint, is_segment_count, is_version, one_checkpoint_spelling};
+pub use checkpoint::{
+    Checkpoint, is_sector_version, is_segment_count, is_version, most_unit_power,
+    one_checkpoint_spelling,
+};
 pub use inode::{
     DOUBLE_POINTER, FIRST_POINTER, Inode, InodeView, SINGLE_POINTER, is_form, is_size,
     one_inode_spelling,

@@ -94,12 +94,13 @@ module _ (v : LogMemory) (t : TableValue) (c : Chunk) (same : t.blocks ≡ v.dir
     running = running_beside d k m0 m is.running;
     hidden = is.hidden;
     segments = is.segments;
+    unit = is.unit;
     tight = rw same is.tight;
   }
 
   pub loose_beside : (d : DeviceState) (k : CheckpointValue) (m0 m : LogMap) → IsLoose d v k m0 m → IsLoose d (beside v t c) k m0 m
   loose_beside d k m0 m is =
-      record { running = running_beside d k m0 m is.running; hidden = is.hidden; segments = is.segments }
+      record { running = running_beside d k m0 m is.running; hidden = is.hidden; segments = is.segments; unit = is.unit }
 
   -- with tables that are copies of its own
   module _ {map : MapValue} {usage : UsageTable} (same_map : map ≡ v.map) (same_usage : usage ≡ v.usage) (a b : DeviceState) where

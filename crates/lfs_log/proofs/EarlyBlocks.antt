@@ -145,12 +145,19 @@ ended_now d v lawful memory closed =
         short = memory.short;
         usages = memory.usages;
         few = memory.few;
+        unit = memory.unit;
       };
       segments = refl;
       room = omega arith;
       no_failure = refl;
       emptied = λ s is. record { used = is.used; before = is.before; live = is.live; held = is.held };
-      log = λ k m0 m keeps is. record { running = is.running; hidden = is.hidden; segments = is.segments; tight = is.tight };
+      log = λ k m0 m keeps is. record {
+        running = is.running;
+        hidden = is.hidden;
+        segments = is.segments;
+        unit = is.unit;
+        tight = is.tight;
+      };
       quiet = same.quiet;
     }
 
@@ -188,14 +195,14 @@ chunk_told v v' {u} t t' n is closed room due =
 
 -- of its blocks, and of what was left of it then
 pub saved_told : {a b : DeviceState} (c : DeviceState) (v w' : LogMemory) {w : LogMemory} {u : UsageTable} {n p : ℕ} → u ≡ Ended v.usage
-    → v.chunk.names ≡ [] → SavesBlocks a b (record v { usage = u }) w n p → n ≤ 63 → p ≤ 63 → w'.usage ≡ w.usage
+    → v.chunk.names ≡ [] → SavesBlocks a b (record v { usage = u }) w n p → n ≤ 63 → p ≤ 63
+    → clean_in w'.usage.segments ≡ clean_in w.usage.segments
     → length c.told + clean_in w'.usage.segments ≤ orders_due b w → length c.told ≤ length a.told + 63 + 1
 saved_told {a} c v w' {w} is closed saves few less same told =
     let tells = saves.tells in
     let room = saves.goes.room in
     let before = ap (λ (t : UsageTable). clean_in t.segments) is in
-    let after = ap (λ (t : UsageTable). clean_in t.segments) same in
-    chunk_told v w (length a.told) (length c.told) 63 is closed (omega (arith, before, room, few)) (omega (arith, tells, told, after, less))
+    chunk_told v w (length a.told) (length c.told) 63 is closed (omega (arith, before, room, few)) (omega (arith, tells, told, same, less))
 
 -- and where a block wasn't saved
 pub stopped_told : {a b : DeviceState} (v : LogMemory) {w : LogMemory} {u : UsageTable} {n p : ℕ} → u ≡ Ended v.usage → v.chunk.names ≡ []
@@ -208,13 +215,13 @@ stopped_told {a} {b} v {w} {p} is closed stops few =
     omega (arith, le)
 
 -- as many blocks are unsaved: those that left memory are counted where they stand
-pub chunk_due : (v v' v'' : LogMemory) {u : UsageTable} → u ≡ Ended v.usage → v''.dirty ≡ v'.dirty → v''.usage ≡ v'.usage
+pub chunk_due : (v v' v'' : LogMemory) {u : UsageTable} → u ≡ Ended v.usage → v''.dirty ≡ v'.dirty
+    → early_in v''.usage.segments ≡ early_in v'.usage.segments
     → blocks_due v' ≡ length v.dirty.blocks + early_in u.segments → blocks_due v'' ≡ blocks_due v
-chunk_due v v' v'' is dirty usage due =
+chunk_due v v' v'' is dirty early due =
     let blocks = ap (λ (t : TableValue). length t.blocks) dirty in
-    let after = ap (λ (w : UsageTable). early_in w.segments) usage in
     let before = ap (λ (w : UsageTable). early_in w.segments) is in
-    omega (arith, blocks, after, before, due)
+    omega (arith, blocks, early, before, due)
 
 -- ---- chunk after chunk
 pub chunks_none : {d : DeviceState} {v : LogMemory} → IsLawful d → IsMemory v → v.chunk.names ≡ [] → WritesChunks d d v v

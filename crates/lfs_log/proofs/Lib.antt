@@ -1,4 +1,5 @@
 pub mod Sealed
+pub mod Padding
 pub mod MapSteps
 pub mod UsageCounts
 pub mod UsageMoves

@@ -6,7 +6,7 @@ use Rattle.std.proofs.lemmas.List.{get_or_past}
 use Rattle.std.specs.Prelude.{get_or}
 use Rattle.lfs_model.specs.Checkpoint.{CheckpointValue}
 use Rattle.lfs_model.specs.Crash.{StandsOn}
-use Rattle.lfs_model.specs.Device.{DeviceState, CrashWrites, Carries, Elapses, IsLawful, put, left_new}
+use Rattle.lfs_model.specs.Device.{DeviceState, CrashWritesUnit, Carries, Elapses, IsLawful, put, left_new}
 use Rattle.lfs_model.specs.Entry.{Entry, Data, Leaf, Double, Inode, Map, Usage, entry_of}
 use Rattle.lfs_model.specs.Stands.{LogMap}
 use Rattle.lfs_model.specs.Summary.{BlockNameValue, IsPlaced}
@@ -18,6 +18,7 @@ use Rattle.lfs_model.proofs.Leaving.{map_dropping}
 use Rattle.lfs_model.proofs.Stepping.{map_stepping}
 use Rattle.lfs_model.proofs.Moments.{carries_none, started}
 use Rattle.lfs_model.proofs.Settled.{settled_stands}
+use Rattle.lfs_model.proofs.UnitWrites.{to_unit}
 use Rattle.lfs_memory.specs.segments.Chunk.{entries_of}
 use Rattle.lfs_memory.specs.segments.Table.{UsageTable}
 use Rattle.lfs_memory.specs.inodes.Blocks.{blocks_of}
@@ -25,7 +26,8 @@ use Rattle.lfs_memory.specs.inodes.MapValue.{MapValue, IsMap, IsMapOf, AreSettle
 use Rattle.lfs_memory.specs.declared.memory.LogMemory.{LogMemory}
 use Rattle.lfs_memory.specs.Memory.{IsMemory, AreMapsOut, IsLog, IsBlockAt, AreHidden, Places, Goes, GoesUpTo, tables_by, tables_of}
 use Rattle.lfs_memory.specs.Memory.{segment_in, chunk_in}
-use Rattle.lfs_memory.proofs.Begun.{before, begun, noted, place_is, room_left, opened_after, segment_after, segments_same, memory_after}
+use Rattle.lfs_memory.proofs.Begun.{before, begun, noted, place_is, room_left, opened_after, segment_after, segments_same, unit_same}
+use Rattle.lfs_memory.proofs.Begun.{memory_after}
 use Rattle.lfs_memory.proofs.Begun.{placed_emptied}
 use Rattle.lfs_memory.proofs.FileSteps.{quiet_step}
 use Rattle.lfs_memory.proofs.Opened.{as_chunk}
@@ -92,13 +94,21 @@ module _ {d : DeviceState} (v : LogMemory) (j : ℕ) (map' : MapValue) (sets : I
         });
     hidden = hidden_still v.map map' m sets.hidden is.hidden;
     segments = is.segments;
+    unit = is.unit;
     tight = is.tight;
   }
 
   pub drop_goes : Goes d d v dropped_memory 1
   drop_goes = record {
     carries = carries_none;
-    memory = record { count = memory.count; opened = memory.opened; short = memory.short; usages = memory.usages; few = memory.few };
+    memory = record {
+      count = memory.count;
+      opened = memory.opened;
+      short = memory.short;
+      usages = memory.usages;
+      few = memory.few;
+      unit = memory.unit;
+    };
     segments = refl;
     room = omega arith;
     no_failure = refl;
@@ -111,7 +121,7 @@ module _ {d : DeviceState} (v : LogMemory) (j : ℕ) (map' : MapValue) (sets : I
 module _ (v : LogMemory) {v' : LogMemory} (name : BlockNameValue) {age place : ℕ} (memory : IsMemory v)
     (p : Places v v' name true age place) {j : ℕ}
     (map' : MapValue) (sets : IsBlockAt v.map map' j place)
-    {d d' : DeviceState} {bytes : List ℕ} (crash : CrashWrites place bytes d d') (carries : Carries d d') (time : Elapses d d')
+    {d d' : DeviceState} {bytes : List ℕ} (crash : CrashWritesUnit place bytes d d') (carries : Carries d d') (time : Elapses d d')
     (lawful : IsLawful d)
     (is_put : d'.keeps_model → d'.content ≡ put d.content place bytes) (named : entry_of name ≡ Map j) (wanted : block_in v.map j ≡ 1)
     (spells : (m : LogMap) (t : Tables) → IsMapOf v.map m t → AreSettled m t j → SpellsMap m t j bytes) (empty : (x : Entry)
@@ -127,13 +137,14 @@ module _ (v : LogMemory) {v' : LogMemory} (name : BlockNameValue) {age place : �
       let running = begun memory p is in
       let next = map_stepping d d' (blocks_of v.dirty) t (tables_by map' v'.usage) k m0 m v'.chunk.segment es j bytes
       running (room_left memory p) wanted (spells m t (map_of v.map p.middle m is.hidden) (settled_inodes d t k m running empty j))
-      (rw (← same_place) (record { content = is_put keeps; crash = crash })) (noted memory p is map' refl
+      (rw (← same_place) (record { content = is_put keeps; crash = crash; unit = carries.unit })) (noted memory p is map' refl
       (map_table p.middle v'.usage j sets p.noted.blocks.address)) in
       record {
         running = as_chunk (sym (segment_after memory p))
             (sym (opened_after memory p ∙ ap (λ (e : Entry). Some (es ++ e ∷ [])) named)) next;
         hidden = hidden_still v.map map' m sets.hidden is.hidden;
         segments = segments_same memory p ∙ is.segments;
+        unit = unit_same memory p ∙ is.unit;
         tight = is.tight;
       }
 
@@ -146,7 +157,8 @@ module _ (v : LogMemory) {v' : LogMemory} (name : BlockNameValue) {age place : �
     no_failure = no_failure;
     emptied = placed_emptied memory p;
     log = log;
-    quiet = quiet_step memory p {bytes = bytes} crash carries time lawful (λ keeps. left_new (is_put keeps));
+    quiet = quiet_step memory p {bytes = bytes} crash carries time lawful
+        (λ keeps. to_unit d.unit place bytes d.content d'.content (left_new (is_put keeps)));
   }
 
 -- a map has no more than 32 blocks

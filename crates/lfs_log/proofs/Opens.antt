@@ -3,11 +3,12 @@ use Rattle.std.proofs.Common.{◌≡◌, ◌<◌, ◌≤◌, ⊎_elim, ◌⊎◌
 use Rattle.std.proofs.Common.{true, None, refl, sym, ◌∙◌, ap, subst, arith}
 use Rattle.std.proofs.lemmas.Bool.{cases_lt}
 use Rattle.std.proofs.lemmas.List.{get_or_past}
-use Rattle.lfs_model.specs.Checkpoint.{CheckpointValue, FitsCheckpoint, layout_version}
+use Rattle.lfs_model.specs.Checkpoint.{CheckpointValue, FitsCheckpoint, layout_version, unit_sectors}
 use Rattle.lfs_model.specs.Content.{Content, block, newest}
 use Rattle.lfs_model.specs.Committing.{IsMountedTables}
 use Rattle.std.specs.Prelude.{Result, Ok, Err}
-use Rattle.lfs_model.specs.Device.{DeviceState, IsLawful, Only}
+use Rattle.lfs_model.specs.Device.{AreSectors, DeviceState, IsLawful, Only}
+use Rattle.lfs_model.specs.UnitLaws.{unit_by}
 use Rattle.lfs_model.specs.Entry.{Entry, Data, Leaf, Double, Inode, Map, Usage, word}
 use Rattle.lfs_model.specs.Memory.{parent}
 use Rattle.lfs_model.specs.Reach.{address, view, map_block, inode_address}
@@ -128,6 +129,7 @@ module _ {c : Content} {k : CheckpointValue} (fits : FitsCheckpoint k) {m : LogM
 
 -- ---- the log
 module _ {D : Type 0} (state : D → DeviceState) (h : Held D) (lawful : IsLawful (state h.device))
+    (sectors : AreSectors (state h.device).unit)
     (durable : (state h.device).keeps_model → Only (state h.device).content (state h.device)) {t : Tables}
     (loaded : IsLoaded t (state h.device).size) (has : (state h.device).keeps_model → HasTables (state h.device).content t)
     (is : IsOpened h.memory (state h.device).size) (usage : h.memory.usage ≡ t.usage) (map : h.memory.map ≡ t.map) where
@@ -159,6 +161,7 @@ module _ {D : Type 0} (state : D → DeviceState) (h : Held D) (lawful : IsLawfu
           (rw is.dirty (starting d (tables_of h.memory) k m 1024 most (are_sized d.content lawful.now) settled (tables st) most));
       hidden = λ n low. (mounting d.content k m (omega (arith, most)) (are_sized d.content lawful.now) st).2 n ∙ sym (maps.hidden n);
       segments = usages.size;
+      unit = ap (λ (u : UsageTable). u.unit) usage ∙ sym says.unit;
       tight = λ x b there. absurd (let none = empty x in cc);
     }
       where
@@ -170,6 +173,7 @@ module _ {D : Type 0} (state : D → DeviceState) (h : Held D) (lawful : IsLawfu
 
         settled : IsSettled d k m
         settled = record {
+          units = λ i j same. ap (unit_by (unit_sectors k)) (sectors i j same);
           newest = (has keeps).held.newest;
           stands = st;
           each = λ c left. rw (durable keeps c left) (keeps_itself d.content k (has keeps).held.newest);
@@ -196,6 +200,7 @@ module _ {D : Type 0} (state : D → DeviceState) (h : Held D) (lawful : IsLawfu
         rw one (log_at _ (rw (← one) is.stands)),
         ap (λ (x : CheckpointValue). x.number) one ∙ (says keeps).number,
         is.stands.holds.version ∙ ap layout_version one ∙ (says keeps).version,
+        rw (one, ← (says keeps).version) (fits keeps).unit,
       )
 
   -- these are its totals

@@ -165,6 +165,7 @@ module _ {D : Type 0} {state : D → DeviceState} where
                 segments = sym n.2.segments;
                 number = n.1;
                 version = is.holds.version;
+                unit = n.3;
                 running = running;
                 nothing_new = λ all. refl;
                 rest = λ all. record { nothing = nothing; untaken = done.untaken; many = done.many };

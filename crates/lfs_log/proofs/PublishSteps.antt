@@ -7,7 +7,7 @@ use Rattle.lfs_model.specs.Entry.{Inode, Map, Usage}
 use Rattle.lfs_model.specs.Checkpoint.{CheckpointValue, checkpoint_sector}
 use Rattle.lfs_model.specs.Content.{Content}
 use Rattle.lfs_model.specs.Crash.{StandsForOn}
-use Rattle.lfs_model.specs.Device.{AllLeft, AreSectors, Carries, ComesFrom, DeviceState, IsLawful, LeavesOnly, MayWrite, MayWriteUnit, Only}
+use Rattle.lfs_model.specs.Device.{AllLeft, Carries, ComesFrom, DeviceState, IsLawful, LeavesOnly, MayWriteUnit, Only}
 use Rattle.lfs_model.specs.Device.{put}
 use Rattle.lfs_model.specs.Stands.{LogMap, count_up}
 use Rattle.lfs_model.specs.TreeOf.{dropped}
@@ -19,7 +19,6 @@ use Rattle.lfs_model.specs.Committing.{IsOut, ManyClean, LeadsTo, IsReleased}
 use Rattle.lfs_model.proofs.Decoding.{checkpoint_some}
 use Rattle.lfs_model.proofs.Leaving.{staying}
 use Rattle.lfs_model.proofs.Moments.{carries_then, started, goes_on, joined, weaker}
-use Rattle.lfs_model.proofs.UnitWrites.{to_sector}
 use Rattle.lfs_model.proofs.Publishing.{planning, resting}
 use Rattle.lfs_model.proofs.Settled.{settled_stands, settled_still, slot_torn, acknowledged}
 use Rattle.lfs_memory.specs.segments.Table.{SegmentNumbers, PlaceInSegment, UsageTable, no_segment, no_place, used_of, live_of, held_of}
@@ -83,6 +82,7 @@ module _ (v : LogMemory) (u : UsageTable) (go : Releases v.usage u) where
     short = good.short;
     usages = λ j one. places_same (λ b. b.stale) j ∙ good.usages j (sym (places_same (λ b. b.address) j) ∙ one);
     few = let few = good.few in let size = go.size in omega (arith, few, size);
+    unit = omega (arith, good.unit, go.unit);
   }
 
 -- ---- addresses past the last block of a table
@@ -123,30 +123,20 @@ array_is xs n long inside past j = ⊎_elim
     (λ (ge : n ≤ j). get_or_past xs j 0 (omega arith) ∙ sym (past j ge))
     (cases_lt j n)
 
--- ---- a write to a slot where units are sectors
-module _ (old new : DeviceState) (slot : ℕ) (bytes : List ℕ) (sectors : AreSectors old.unit) where
-  alone : (c : Content) → ComesFrom old (MayWriteUnit old.unit slot bytes) c → ComesFrom old (MayWrite slot bytes) c
-  alone c from = (from.0, from.1, to_sector old.unit slot (λ k e. sectors k slot e) bytes from.0 c from.2)
-
-  pub written_alone : LeavesOnly old new (ComesFrom old (MayWriteUnit old.unit slot bytes))
-      → LeavesOnly old new (ComesFrom old (MayWrite slot bytes))
-  written_alone leaves = weaker _ _ alone leaves
-
-  pub left_alone : AllLeft new (ComesFrom old (MayWriteUnit old.unit slot bytes)) → AllLeft new (ComesFrom old (MayWrite slot bytes))
-  left_alone all c left = alone c (all c left)
-
 -- ---- the sync
 module _ (d d1 : DeviceState) (v : LogMemory) (version number : ℕ) (lawful : IsLawful d) (syncs : Syncs d d1) where
   synced : (k : CheckpointValue) (m0 m : LogMap) → IsLog d v k m0 m → IsLog d1 v k m0 m
   synced k m0 m log = record {
-    running = staying d d1 _ (tables_of v) k m0 m (segment_in v.chunk) (chunk_in v.chunk) log.running syncs.untouched;
+    running = staying d d1 _ (tables_of v) k m0 m (segment_in v.chunk) (chunk_in v.chunk) log.running syncs.untouched syncs.carries.unit;
     hidden = log.hidden;
     segments = log.segments;
+    unit = log.unit;
     tight = log.tight;
   }
 
   sync_left : (k : CheckpointValue) (m0 : LogMap) {m : LogMap} → IsLog d v k m0 m → AllLeft d1 (StandsForOn k.segments m0 (dropped m))
-  sync_left k m0 log c left = inl (settled_stands d1 k m0 (settled_still d d1 k m0 log.running.settled syncs.untouched) c left)
+  sync_left k m0 log c left =
+      inl (settled_stands d1 k m0 (settled_still d d1 k m0 log.running.settled syncs.untouched syncs.carries.unit) c left)
 
   sync_moment : (k : CheckpointValue) (m0 m : LogMap) → IsLog d v k m0 m → LeavesOnly d d1 (StandsForOn k.segments m0 (dropped m))
   sync_moment k m0 m log =
@@ -164,8 +154,8 @@ module _ (d d1 : DeviceState) (v : LogMemory) (version number : ℕ) (lawful : I
   -- ---- the next checkpoint
   module _ (d2 : DeviceState) (next : CheckpointValue) (good : IsMemory v) (out : IsAllOut v) (is : IsNext v version number next)
       (only : d1.keeps_model → Only d1.content d1) (unfailed : d1.failures ≡ d.failures)
-      (moment : LeavesOnly d1 d2 (ComesFrom d1 (MayWrite (next.number % 2) (checkpoint_sector next))))
-      (left : AllLeft d2 (ComesFrom d1 (MayWrite (next.number % 2) (checkpoint_sector next)))) (more : Carries d1 d2) where
+      (moment : LeavesOnly d1 d2 (ComesFrom d1 (MayWriteUnit d1.unit (next.number % 2) (checkpoint_sector next))))
+      (left : AllLeft d2 (ComesFrom d1 (MayWriteUnit d1.unit (next.number % 2) (checkpoint_sector next)))) (more : Carries d1 d2) where
     no_chunk : length v.chunk.names ≡ 0
     no_chunk = ap length out.chunk
 
@@ -202,6 +192,7 @@ module _ (d d1 : DeviceState) (v : LogMemory) (version number : ℕ) (lawful : I
         number = is.number ∙ ap (λ (n : ℕ). n + 1) (sym held.same);
         segments = is.segments ∙ held.log.segments;
         same = is.same_version ∙ sym held.same_version;
+        unit = is.unit (omega (arith, held.log.unit, held.unit)) ∙ held.log.unit;
         map = array_is next.map 32 is.fits.map_length is.map
             (λ j ge. let at = running.tables.at (Map j) refl in
             sym at ∙ map_past m running.memory j running.laid (λ one. out.maps j (sym at ∙ one)) ge);
@@ -213,10 +204,11 @@ module _ (d d1 : DeviceState) (v : LogMemory) (version number : ℕ) (lawful : I
       planned = planning d1 (blocks_of v.dirty) (tables_of v) k next m0 m 1024 (next.number % 2)
           (checkpoint_sector next) running held.map all_out many leads (checkpoint_some _ next is.fits refl) refl
 
-      torn : d2.keeps_model → (c : Content) → ComesFrom d1 (MayWrite (next.number % 2) (checkpoint_sector next)) c
+      torn : d2.keeps_model → (c : Content) → ComesFrom d1 (MayWriteUnit d1.unit (next.number % 2) (checkpoint_sector next)) c
           → StandsForOn k.segments m0 (dropped m) c
       torn keeps c from =
-          slot_torn d1 (record d1 { may_leave = ComesFrom d1 (MayWrite (next.number % 2) (checkpoint_sector next)) }) k next m0 (dropped m)
+          slot_torn d1 (record d1 { may_leave = ComesFrom d1 (MayWriteUnit d1.unit (next.number % 2) (checkpoint_sector next)) })
+          k next m0 (dropped m)
           (next.number % 2) (checkpoint_sector next) running.settled planned
           leads.segments (only (more.kept_before keeps)) (λ c f. f) c from
 
@@ -239,7 +231,7 @@ module _ (d d1 : DeviceState) (v : LogMemory) (version number : ℕ) (lawful : I
           → IsLog d2 (record v { usage = u }) next (dropped m) m
       rested k m0 m keeps held =
           let settled = acknowledged d1 d2 k next m0 (dropped m) (next.number % 2) (checkpoint_sector next) (running k m0 m held).settled
-          (planned k m0 m held) (content keeps) (durable keeps) in
+          (planned k m0 m held) (leads k m0 m held).unit (content keeps) (durable keeps) more.unit in
           let r = resting d1 d2 (blocks_of v.dirty) (tables_of v) (tables_of (record v { usage = u })) k next m0 m 1024 (next.number % 2)
           (checkpoint_sector next) (running k m0 m held) (all_out k m0 m held) (many k m0 m held) (leads k m0 m held)
           (omega arith) (content keeps) settled (is_released v u go) in
@@ -247,6 +239,7 @@ module _ (d d1 : DeviceState) (v : LogMemory) (version number : ℕ) (lawful : I
             running = as_chunk (sym (closed_segment v.chunk no_chunk)) (sym (closed_chunk v.chunk no_chunk)) r;
             hidden = held.log.hidden;
             segments = go.size ∙ sym is.segments;
+            unit = go.unit ∙ sym (is.unit (omega (arith, held.log.unit, held.unit)));
             tight = held.log.tight;
           }
 
@@ -257,6 +250,6 @@ module _ (d d1 : DeviceState) (v : LogMemory) (version number : ℕ) (lawful : I
         segments = go.size;
         released = go;
         no_failure = same_failures ∙ unfailed;
-        log = λ k m0 m keeps held. (next, is.number, rested k m0 m keeps held);
+        log = λ k m0 m keeps held. (next, is.number, rested k m0 m keeps held, rw (← is.same_version) is.fits.unit);
         moment = λ k m0 m keeps held. either k m0 m held keeps;
       }

@@ -1,8 +1,8 @@
 -- The summary of a chunk is written.
-use Rattle.std.proofs.Common.{◌≡◌, ◌<◌, ◌≤◌, ◌+◌, ◌*◌, ℕ, [], length, Some, refl, sym, ap, arith}
+use Rattle.std.proofs.Common.{◌≡◌, ◌<◌, ◌≤◌, ◌+◌, ◌*◌, ◌%◌, ◌^◌, ℕ, [], length, Some, refl, sym, ap, subst, ◌∙◌, arith}
 use Rattle.lfs_model.specs.Checkpoint.{CheckpointValue}
 use Rattle.lfs_model.specs.Crash.{IsFreeSector}
-use Rattle.lfs_model.specs.Device.{DeviceState, MayWrite, CrashWrites, Carries, Elapses, IsLawful, put, left_new}
+use Rattle.lfs_model.specs.Device.{DeviceState, MayWriteUnit, CrashWritesUnit, Carries, Elapses, IsLawful, put, left_new}
 use Rattle.lfs_model.specs.Entry.{entries_in, entry_of}
 use Rattle.std.proofs.lemmas.List.{length-map}
 use Rattle.lfs_model.specs.Stands.{LogMap}
@@ -10,15 +10,18 @@ use Rattle.lfs_model.specs.Summary.{summary_sector}
 use Rattle.lfs_model.specs.Settled.{IsSettled}
 use Rattle.lfs_model.proofs.Leaving.{closing}
 use Rattle.lfs_memory.specs.segments.Chunk.{Chunk, entries_of, room_in}
+use Rattle.lfs_memory.specs.segments.Table.{used_of}
 use Rattle.lfs_memory.specs.inodes.Blocks.{blocks_of}
 use Rattle.lfs_memory.specs.declared.memory.LogMemory.{LogMemory}
-use Rattle.lfs_memory.specs.Memory.{IsMemory, IsMemoryUpTo, IsLog, Goes, Stops, Quiet, tables_of}
+use Rattle.lfs_memory.specs.Memory.{IsMemory, IsMemoryUpTo, IsLog, EndsUnit, Goes, Stops, Quiet, tables_of}
 use Rattle.lfs_memory.proofs.Opened.{closed_segment, closed_chunk, as_chunk, is_open, stays_settled, stays_quiet, taken_free}
 use Rattle.lfs_memory.proofs.Rooms.{room_none}
+use Rattle.lfs_model.proofs.UnitSizes.{segment_whole}
+use Rattle.lfs_model.proofs.UnitWrites.{to_unit}
 
 module _ {d d' : DeviceState} {v : LogMemory} (memory : IsMemoryUpTo 63 v) (some : 0 < length v.chunk.names) (lawful : IsLawful d)
     (spelt : entries_in (summary_sector v.chunk.names) ≡ Some (entries_of v.chunk))
-    (crash : CrashWrites (2 + 64 * v.chunk.segment + v.chunk.start) (summary_sector v.chunk.names) d d') (carries : Carries d d')
+    (crash : CrashWritesUnit (2 + 64 * v.chunk.segment + v.chunk.start) (summary_sector v.chunk.names) d d') (carries : Carries d d')
     (time : Elapses d d') where
   abbrev at : ℕ
   at = 2 + 64 * v.chunk.segment + v.chunk.start
@@ -31,16 +34,18 @@ module _ {d d' : DeviceState} {v : LogMemory} (memory : IsMemoryUpTo 63 v) (some
       let inside : v.chunk.segment < k.segments = let i = o.inside in let e = is.segments in omega (arith, i, e) in
       taken_free w _ _ inside o.free (omega (arith, short))
 
-  module _ (may : d'.keeps_model → MayWrite at (summary_sector v.chunk.names) d.content d'.content) where
+  module _ (may : d'.keeps_model → MayWriteUnit d.unit at (summary_sector v.chunk.names) d.content d'.content) where
     pub settled_sealed : (k : CheckpointValue) (m0 m : LogMap) → d'.keeps_model → IsLog d v k m0 m → IsSettled d' k m0
     settled_sealed k m0 m keeps is =
-        stays_settled m0 at (summary_sector v.chunk.names) is.running.settled (free k m0 m is) (may keeps) crash
+        stays_settled m0 at (summary_sector v.chunk.names) is.running.settled (free k m0 m is) (may keeps) crash carries.unit
 
     pub quiet_sealed : Quiet d d' v
     quiet_sealed k m0 m keeps is =
-        stays_quiet m0 at (summary_sector v.chunk.names) is.running.settled (free k m0 m is) (may keeps) crash lawful carries time
+        stays_quiet m0 at (summary_sector v.chunk.names) is.running.settled (free k m0 m is) (may keeps) crash carries.unit
+        lawful carries time
 
-  pub seal_stops : (d'.keeps_model → MayWrite at (summary_sector v.chunk.names) d.content d'.content) → d.failed_orders < d'.failed_orders
+  pub seal_stops : (d'.keeps_model → MayWriteUnit d.unit at (summary_sector v.chunk.names) d.content d'.content) →
+      d.failed_orders < d'.failed_orders
       → Stops d d' v
   seal_stops may failed = record {
     carries = carries;
@@ -49,7 +54,7 @@ module _ {d d' : DeviceState} {v : LogMemory} (memory : IsMemoryUpTo 63 v) (some
     quiet = quiet_sealed may;
   }
 
-  module _ (c : Chunk) (ended : c.names ≡ []) (no_failure : d'.failures ≡ d.failures)
+  module _ (ends : EndsUnit v) (c : Chunk) (ended : c.names ≡ []) (no_failure : d'.failures ≡ d.failures)
       (is_put : d'.keeps_model → d'.content ≡ put d.content at (summary_sector v.chunk.names)) where
     abbrev v' : LogMemory
     v' = record { map = v.map; usage = v.usage; dirty = v.dirty; chunk = c }
@@ -64,11 +69,14 @@ module _ {d d' : DeviceState} {v : LogMemory} (memory : IsMemoryUpTo 63 v) (some
         let used = (memory.opened some).used in
         let w = closing d d' (blocks_of v.dirty) (tables_of v) k m0 m v.chunk.segment v.chunk.start (entries_of v.chunk)
         (summary_sector v.chunk.names) 1024
-        (is_open is some) (omega (arith, long, used)) spelt (record { content = is_put keeps; crash = crash }) few in
+        (is_open is some) (omega (arith, long, used))
+        (subst (λ (p : ℕ). used_of v.usage v.chunk.segment % 2 ^ p ≡ 0) is.unit ends) spelt
+        (record { content = is_put keeps; crash = crash; unit = carries.unit }) few in
         record {
           running = as_chunk (sym (closed_segment c none)) (sym (closed_chunk c none)) w;
           hidden = is.hidden;
           segments = is.segments;
+          unit = is.unit;
           tight = is.tight;
         }
 
@@ -81,14 +89,21 @@ module _ {d d' : DeviceState} {v : LogMemory} (memory : IsMemoryUpTo 63 v) (some
         short = λ begun. absurd (let z = none in omega (arith, z, begun));
         usages = memory.usages;
         few = memory.few;
+        unit = memory.unit;
       };
       segments = refl;
       room = let z = room_none c none in omega (arith, z);
       no_failure = no_failure;
       emptied = λ s is. is;
       log = log;
-      quiet = quiet_sealed (λ keeps. left_new (is_put keeps));
+      quiet = quiet_sealed (λ keeps. to_unit d.unit at (summary_sector v.chunk.names) d.content d'.content (left_new (is_put keeps)));
     }
+
+-- a chunk that is full ends with its segment, which is whole units
+pub full_ends : {v : LogMemory} → IsMemoryUpTo 63 v → 0 < length v.chunk.names → v.chunk.start + length v.chunk.names ≡ 63 → EndsUnit v
+full_ends {v} memory some full =
+    let used : used_of v.usage v.chunk.segment ≡ 64 = omega (arith, (memory.opened some).used, full) in
+    ap (λ (n : ℕ). n % 2 ^ v.usage.unit) used ∙ segment_whole v.usage.unit memory.unit
 
 -- a chunk that isn't full
 pub not_full : {v : LogMemory} → IsMemoryUpTo 63 v → (v.chunk.start + length v.chunk.names ≡ 63 → ⊥) → IsMemory v
@@ -98,4 +113,5 @@ not_full memory room = record {
   short = λ some. let s = memory.short some in let ne = room in omega (arith, s, ne);
   usages = memory.usages;
   few = memory.few;
+  unit = memory.unit;
 }

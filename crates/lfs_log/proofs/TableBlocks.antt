@@ -12,7 +12,8 @@ use Rattle.lfs_model.specs.Stands.{LogMap}
 use Rattle.lfs_model.proofs.Counting.{taken_counts}
 use Rattle.lfs_model.proofs.Leaving.{left_memory, left_taken, left_cached, still_open}
 use Rattle.lfs_model.proofs.Outgoing.{usage_lifting}
-use Rattle.lfs_model.proofs.Running.{pick, pick_yes, pick_no, taken_memory, is_taken, lifted_tables, lifted_fresh, part_same, kept_same}
+use Rattle.lfs_model.proofs.Running.{pick, pick_yes, pick_no, taken_memory, is_taken, lifted_tables, lifted_fresh, part_same, whole_same}
+use Rattle.lfs_model.proofs.Running.{kept_same}
 use Rattle.lfs_model.proofs.Tables.{usage_table}
 use Rattle.lfs_memory.specs.segments.Chunk.{Chunk}
 use Rattle.lfs_memory.specs.segments.Table.{SegmentNumbers, UsageTable, no_segment, used_of, live_of, held_of, age_of, kept_of, address_of}
@@ -78,6 +79,9 @@ module _ (v v' : LogMemory) (j : ℕ) (go : UsageLeavesIn v v' j) where
   size : length v'.usage.segments ≡ length v.usage.segments
   size = ap length go.usage.puts.segments ∙ go.usage.lifts.size
 
+  unit_still : v'.usage.unit ≡ v.usage.unit
+  unit_still = go.usage.puts.unit ∙ go.usage.lifts.unit
+
   stale_still : (i : ℕ) → stale_of v.usage i ≡ true → stale_of v'.usage i ≡ true
   stale_still i on = ⊎_elim
       (λ (here : i ≡ j). ap (stale_of v'.usage) here ∙ go.usage.puts.stale.own)
@@ -99,6 +103,8 @@ module _ (v v' : LogMemory) (j : ℕ) (go : UsageLeavesIn v v' j) where
           free = let a = ap (kept_of v'.usage) s in let b = numbers (λ x. x.kept) v.chunk.segment in let k = go.usage.lifts.kept
               v.chunk.segment in let f = o.free in let c = ap (λ (c : Chunk). c.start) go.chunk in omega (arith, a, b, k, f, c);
           last = go.usage.puts.last ∙ go.usage.lifts.last ∙ o.last ∙ ap (λ (n : ℕ). Some n) (sym s);
+          stale = λ begun. ap (λ (n : ℕ). stale_of v'.usage (n / 64)) s
+              ∙ stale_still (v.chunk.segment / 64) (o.stale (rw (← go.chunk) begun));
         };
     short = rw go.chunk memory.short;
     usages = λ i one. ⊎_elim
@@ -106,6 +112,7 @@ module _ (v v' : LogMemory) (j : ℕ) (go : UsageLeavesIn v v' j) where
         (λ (ne : i ≡ j → ⊥). stale_still i (memory.usages i (sym (address_other i ne) ∙ one)))
         (cases_eq i j);
     few = let f = memory.few in let c = ap (λ (t : TableValue). t.capacity.limit) go.dirty in let l = size in omega (arith, f, c, l);
+    unit = omega (arith, memory.unit, unit_still);
   }
 
   -- the tables in which block j isn't as the device has it, and stands where it stood
@@ -193,6 +200,7 @@ module _ (v v' : LogMemory) (j : ℕ) (go : UsageLeavesIn v v' j) where
                 let no = lifted_fresh m marked (tables_of v') (Usage j) 1 go_now i off in
                 no.1 (w.memory.bytes (Usage i)) (marked_spells i (w.fresh i (never_marked i no.0) low));
             part = part_same (tables_of v) (tables_of v') go_now.used go_now.kept w.part;
+            whole = whole_same k (tables_of v) (tables_of v') (segment_in v.chunk) go_now.used w.whole;
             kept = kept_same d.content k (tables_of v) (tables_of v') go_now.kept w.kept;
             opened = still_open d (tables_of v') k m w (Usage j) (usage_table j) 1 (omega arith) (chunk_in v.chunk) w.opened go_now.kept;
           },
@@ -200,7 +208,7 @@ module _ (v v' : LogMemory) (j : ℕ) (go : UsageLeavesIn v v' j) where
         )
 
     usage_traced : (is' : IsLoose d v' k m0 m) × HasTraces is.running.memory is'.running.memory
-    usage_traced = loose_traced v' is go.chunk (ap (λ (m : MapValue). m.hidden) go.map) size (rw go.dirty gone)
+    usage_traced = loose_traced v' is go.chunk (ap (λ (m : MapValue). m.hidden) go.map) size unit_still (rw go.dirty gone)
 
   usage_gone : (d : DeviceState) → IsMemory v → Relocates d d v v'
   usage_gone d memory = record {

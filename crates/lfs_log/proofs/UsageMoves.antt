@@ -24,7 +24,8 @@ use Rattle.lfs_memory.specs.segments.Table.{stale_of, clean_in}
 use Rattle.lfs_memory.specs.segments.Chunk.{Chunk, IsOpenChunk, entries_of}
 use Rattle.lfs_memory.specs.segments.Steps.{Lifts, TakesSegment, GoesOn, Begins}
 use Rattle.lfs_memory.specs.segments.Emptied.{IsEmptied}
-use Rattle.lfs_memory.proofs.of_segments.Beginnings.{begins_inside, begins_size, begins_room, begins_kept, begins_address, begins_stale}
+use Rattle.lfs_memory.proofs.of_segments.Beginnings.{begins_inside, begins_size, begins_unit, begins_room, begins_kept, begins_address}
+use Rattle.lfs_memory.proofs.of_segments.Beginnings.{begins_stale}
 use Rattle.lfs_memory.proofs.of_segments.StaysEmptied.{stays_emptied}
 use Rattle.lfs_memory.specs.inodes.Blocks.{TableValue, blocks_of}
 use Rattle.lfs_memory.specs.inodes.MapValue.{MapValue, address_in, block_in}
@@ -34,7 +35,8 @@ use Rattle.lfs_memory.specs.Memory.{Goes, Stops}
 use Rattle.lfs_memory.proofs.Opened.{open_segment, open_chunk, closed_segment, closed_chunk, as_chunk}
 use Rattle.lfs_memory.proofs.Rooms.{room_none, room_some}
 use Rattle.lfs_memory.proofs.Stales.{stays_stale}
-use Rattle.lfs_log.specs.Settling.{IsNowhere, IsThere, Resettles, IsResettled, usage_name}
+use Rattle.lfs_memory.specs.segments.Chunk.{usage_name}
+use Rattle.lfs_log.specs.Settling.{IsNowhere, IsThere, Resettles, IsResettled}
 
 -- ---- facts of a result
 pub all_ok : {A E : Type 0} (r : Result A E) (P : Type 0) → P → OnOk r P
@@ -190,6 +192,10 @@ module _ (v v' : LogMemory) (j number : ℕ) (good : IsMemory v) (old : stale_of
   mid_size : length middle.segments ≡ length v.usage.segments
   mid_size = begun_same (λ u. length u.segments) (λ begins. begins_size _ _ _ _ begins) ∙ lifted_size
 
+  new_unit : v'.usage.unit ≡ v.usage.unit
+  new_unit = r.puts.unit ∙ r.places.noted.unit ∙ begun_same (λ u. u.unit) (λ begins. begins_unit _ _ _ _ begins)
+      ∙ lifted_same (λ u. u.unit) (λ go. go.unit)
+
   pub new_size : length v'.usage.segments ≡ length v.usage.segments
   new_size = ap length r.puts.segments ∙ r.places.noted.size ∙ mid_size
 
@@ -240,6 +246,10 @@ module _ (v v' : LogMemory) (j number : ℕ) (good : IsMemory v) (old : stale_of
         used = ap (λ (x : List SegmentNumbers). (get_or x segment no_segment).used) r.puts.segments ∙ o.used;
         free = rw r.puts.segments o.free;
         last = r.puts.last ∙ o.last;
+        stale = λ begun. ⊎_elim
+            (λ (here : segment / 64 ≡ j). ap (stale_of v'.usage) here ∙ r.puts.stale.own)
+            (λ (ne : segment / 64 ≡ j → ⊥). r.puts.stale.others (segment / 64) ne ∙ o.stale begun)
+            (cases_eq (segment / 64) j);
       })
 
   new_dirty : v'.dirty ≡ v.dirty
@@ -265,6 +275,7 @@ module _ (v v' : LogMemory) (j number : ℕ) (good : IsMemory v) (old : stale_of
         (cases_eq i j);
     few = let f = good.few in let c = ap (λ (t : TableValue). t.capacity.limit) new_dirty in let size = new_size in
         omega (arith, f, c, size);
+    unit = omega (arith, good.unit, new_unit);
   }
 
   pub resettled_room : room_of v ≤ room_of v' + 1
@@ -431,6 +442,7 @@ module _ (v v' : LogMemory) (j number : ℕ) (good : IsMemory v) (old : stale_of
         running = running_now;
         hidden = rw new_map log.hidden;
         segments = new_size ∙ log.segments;
+        unit = new_unit ∙ log.unit;
         tight = rw new_dirty log.tight;
       }
 

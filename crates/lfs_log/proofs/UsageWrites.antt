@@ -1,15 +1,16 @@
 -- A usage block is written where it stands: what that leaves of the log.
-use Rattle.std.proofs.Common.{◌≡◌, ◌<◌, ◌≤◌, ⊎_elim, ◌+◌, true, false, ℕ, List, length, get_or, refl, sym, ◌∙◌, ap}
+use Rattle.std.proofs.Common.{◌≡◌, ◌<◌, ◌≤◌, ⊎_elim, ◌+◌, true, false, ℕ, List, [], length, get_or, refl, sym, ◌∙◌, ap}
 use Rattle.std.proofs.Common.{subst, arith}
 use Rattle.std.proofs.lemmas.Bool.{cases_eq}
 use Rattle.lfs_model.specs.Entry.{Entry, Data, Leaf, Double, Inode, Map, Usage}
 use Rattle.lfs_model.specs.Checkpoint.{CheckpointValue}
 use Rattle.lfs_model.specs.Crash.{IsFreeSector}
-use Rattle.lfs_model.specs.Device.{DeviceState, IsLawful, MayWrite, CrashWrites, Carries, Elapses, put, left_new}
+use Rattle.lfs_model.specs.Device.{DeviceState, IsLawful, MayWriteUnit, CrashWritesUnit, Carries, Elapses, put, left_new}
 use Rattle.lfs_model.specs.Stands.{LogMap}
 use Rattle.lfs_model.specs.Counting.{segment_of}
 use Rattle.lfs_model.specs.Running.{SpellsUsage, IsFresh}
 use Rattle.lfs_model.proofs.Leaving.{usage_filling}
+use Rattle.lfs_model.proofs.UnitWrites.{to_unit}
 use Rattle.lfs_memory.specs.segments.Table.{SegmentNumbers, UsageTable, no_segment, address_of, stale_of, clean_in}
 use Rattle.lfs_memory.specs.segments.Chunk.{IsUnkeptBy}
 use Rattle.lfs_memory.specs.segments.Steps.{PutsPlace, SpellsBlock}
@@ -38,7 +39,7 @@ table_same map u u' same (Map i) = refl
 table_same map u u' same (Usage i) = same i
 
 module _ (v : LogMemory) (j : ℕ) (u : UsageTable) (good : IsMemory v) (is : IsAnew v.usage j)
-    (puts : PutsPlace v.usage u j (address_of v.usage j) false) where
+    (closed : v.chunk.names ≡ []) (puts : PutsPlace v.usage u j (address_of v.usage j) false) where
   abbrev after : LogMemory
   after = record v { usage = u }
 
@@ -66,14 +67,7 @@ module _ (v : LogMemory) (j : ℕ) (u : UsageTable) (good : IsMemory v) (is : Is
   memory_now : IsMemory (record v { usage = u })
   memory_now = record {
     count = rw puts.segments good.count;
-    opened = λ some.
-        let o = good.opened some in
-        record {
-          inside = rw puts.segments o.inside;
-          used = same_numbers (λ n. n.used) _ ∙ o.used;
-          free = let k = same_numbers (λ n. n.kept) v.chunk.segment in let f = o.free in omega arith;
-          last = puts.last ∙ o.last;
-        };
+    opened = λ some. let none = ap length closed in absurd (omega (arith, some, none));
     short = good.short;
     usages = λ i one. ⊎_elim
         (λ (here : i ≡ j). let own = is.0 in let there = put_address i ∙ ap (address_of v.usage) here in
@@ -81,11 +75,12 @@ module _ (v : LogMemory) (j : ℕ) (u : UsageTable) (good : IsMemory v) (is : Is
         (λ (ne : i ≡ j → ⊥). puts.stale.others i ne ∙ good.usages i (sym (put_address i) ∙ one))
         (cases_eq i j);
     few = rw puts.segments good.few;
+    unit = omega (arith, good.unit, puts.unit);
   }
 
   module _ (d d' : DeviceState) (bytes : List ℕ) (spells : SpellsBlock v.usage j bytes) (lawful : IsLawful d)
       (written : d'.keeps_model → d'.content ≡ put d.content (address_of v.usage j) bytes)
-      (crash : CrashWrites (address_of v.usage j) bytes d d') (same : d'.failures ≡ d.failures)
+      (crash : CrashWritesUnit (address_of v.usage j) bytes d d') (same : d'.failures ≡ d.failures)
       (carries : Carries d d') (time : Elapses d d') where
     spells_now : SpellsUsage (tables_of v) j bytes
     spells_now = record { long = spells.long; used = spells.used; live = spells.live; age = spells.age }
@@ -94,9 +89,10 @@ module _ (v : LogMemory) (j : ℕ) (u : UsageTable) (good : IsMemory v) (is : Is
     log_now k m0 m keeps log = record {
       running = usage_filling d d' (blocks_of v.dirty) (tables_of v) (tables_of (record v { usage = u })) k m0 m (segment_in v.chunk)
           (chunk_in v.chunk) j bytes log.running is.0 is.2 spells_now
-          (record { content = written keeps; crash = crash }) fresh_now;
+          (record { content = written keeps; crash = crash; unit = carries.unit }) fresh_now;
       hidden = log.hidden;
       segments = ap length puts.segments ∙ log.segments;
+      unit = puts.unit ∙ log.unit;
       tight = log.tight;
     }
 
@@ -110,37 +106,40 @@ module _ (v : LogMemory) (j : ℕ) (u : UsageTable) (good : IsMemory v) (is : Is
       emptied = λ s was. (stays_emptied u was).3 j (address_of v.usage j) false puts;
       log = log_now;
       quiet = λ k m0 m keeps log. stays_quiet m0 (address_of v.usage j) bytes log.running.settled
-          (place_free d v k m (address_of v.usage j) log is.0 is.1 is.2) (left_new (written keeps)) crash lawful carries time;
+          (place_free d v k m (address_of v.usage j) log is.0 is.1 is.2)
+          (to_unit d.unit (address_of v.usage j) bytes d.content d'.content (left_new (written keeps))) crash carries.unit
+          lawful carries time;
     }
 
 pub write_stops : (d d' : DeviceState) (v : LogMemory) (at : ℕ) (bytes : List ℕ) → IsLawful d → 2 ≤ at
     → segment_of at < length v.usage.segments → IsUnkeptBy v.usage at
-    → (d'.keeps_model → MayWrite at bytes d.content d'.content) → CrashWrites at bytes d d'
+    → (d'.keeps_model → MayWriteUnit d.unit at bytes d.content d'.content) → CrashWritesUnit at bytes d d'
     → d.failed_orders < d'.failed_orders → Carries d d'
     → Elapses d d' → Stops d d' v
 write_stops d d' v at bytes lawful above inside on may crash failed carries time = record {
   carries = carries;
   cause = λ k m0 m keeps log. failed;
   settled = λ k m0 m keeps log.
-      stays_settled {d' = d'} m0 at bytes log.running.settled (place_free d v k m at log above inside on) (may keeps) crash;
+      stays_settled {d' = d'} m0 at bytes log.running.settled (place_free d v k m at log above inside on) (may keeps) crash carries.unit;
   quiet = λ k m0 m keeps log. stays_quiet m0 at bytes log.running.settled (place_free d v k m at log above inside on)
-      (may keeps) crash lawful carries time;
+      (may keeps) crash carries.unit lawful carries time;
 }
 
 -- the same with the address by another name
-pub fill_goes_at : (v : LogMemory) {j at : ℕ} {u : UsageTable} → IsMemory v → IsAnew v.usage j → address_of v.usage j ≡ at
+pub fill_goes_at : (v : LogMemory) {j at : ℕ} {u : UsageTable} → IsMemory v → IsAnew v.usage j → v.chunk.names ≡ []
+    → address_of v.usage j ≡ at
     → PutsPlace v.usage u j at false
     → (d d' : DeviceState) (bytes : List ℕ) → SpellsBlock v.usage j bytes → IsLawful d
-    → (d'.keeps_model → d'.content ≡ put d.content at bytes) → CrashWrites at bytes d d' → d'.failures ≡ d.failures → Carries d d'
+    → (d'.keeps_model → d'.content ≡ put d.content at bytes) → CrashWritesUnit at bytes d d' → d'.failures ≡ d.failures → Carries d d'
     → Elapses d d' → Goes d d' v (record v { usage = u }) 0
-fill_goes_at v {j} {at} {u} good is e =
+fill_goes_at v {j} {at} {u} good is closed e =
     rw (← e)
     (λ puts d d' bytes spells lawful written crash same carries time.
-    fill_goes v j u good is puts d d' bytes spells lawful written crash same carries time)
+    fill_goes v j u good is closed puts d d' bytes spells lawful written crash same carries time)
 
 pub write_stops_at : {d d' : DeviceState} (v : LogMemory) (j : ℕ) {at : ℕ} {bytes : List ℕ} → IsLawful d → IsAnew v.usage j
     → address_of v.usage j ≡ at
-    → (d'.keeps_model → MayWrite at bytes d.content d'.content) → CrashWrites at bytes d d'
+    → (d'.keeps_model → MayWriteUnit d.unit at bytes d.content d'.content) → CrashWritesUnit at bytes d d'
     → d.failed_orders < d'.failed_orders → Carries d d'
     → Elapses d d' → Stops d d' v
 write_stops_at {d} {d'} v j {at} {bytes} lawful is e may crash failed carries time =

@@ -2,9 +2,9 @@
 use Rattle.std.specs.Prelude.{Result, Err}
 use Rattle.std.proofs.lemmas.Bool.{and_parts}
 use Rattle.std.proofs.Common.{◌≡◌, ◌<◌, ◌≤◌, ◌+◌, ◌*◌, ◌&&◌, ◌||◌, cond, ℕ, Bool}
-use Rattle.std.proofs.Common.{true, false, length, refl, sym, ◌∙◌, ap}
+use Rattle.std.proofs.Common.{true, false, length, refl, sym, ◌∙◌, ap, subst}
 use Rattle.std.proofs.Common.{arith}
-use Rattle.lfs_model.specs.Checkpoint.{CheckpointValue}
+use Rattle.lfs_model.specs.Checkpoint.{CheckpointValue, most_unit_power}
 use Rattle.lfs_model.specs.declared.limits.TheConstants.{FILE_NUMBERS}
 use Rattle.lfs_model.specs.Device.{DeviceState, IsLawful}
 use Rattle.lfs_model.specs.Encodes.{IsLogMap}
@@ -30,7 +30,9 @@ use Rattle.lfs_memory.specs.Memory.{IsLog, IsLoose}
 use Rattle.lfs_memory.specs.Lifting.{Prepares}
 use Rattle.lfs_memory.specs.Changing.{Tightens}
 use Rattle.lfs_memory.specs.Removing.{RemovesFile}
-use Rattle.lfs_memory.specs.Batch.{raises, room_for, version_after}
+use Rattle.lfs_memory.specs.Batch.{FitsLoss, raises, room_for, version_after}
+use Rattle.lfs_memory.specs.declared.batch.Loss.{Loss}
+use Rattle.lfs_memory.specs.declared.batch.Loss.TheVariants as loss
 use Rattle.lfs_memory.specs.Staging.{StandsWithBatch, TakesBatch, RefusesBatch, IsBatchExcused}
 use Rattle.lfs_memory.proofs.Applied.{has_inode}
 use Rattle.lfs_memory.proofs.BlockSteps.{tightened_log}
@@ -60,11 +62,24 @@ still_untaken : (before : UsageTable) {between after : UsageTable} → after ≡
     → ((segment : ℕ) → kept_of between segment ≡ kept_of before segment) → AreUntaken before → AreUntaken after
 still_untaken before same used kept untaken = rw same (λ segment. kept segment ∙ untaken segment ∙ sym (used segment))
 
+-- a version that is raised is the first, which has sectors as its units
+unit_raised : {power version : ℕ} (raised : Bool) → power ≤ most_unit_power version → (raised ≡ true → version ≡ 1)
+    → power ≤ most_unit_power (cond raised 2 version)
+unit_raised {power} true few first = subst (λ (n : ℕ). power ≤ most_unit_power n) (first refl) few
+unit_raised false few first = few
+
+raises_first : (m : LogMap) (l : Loss) → FitsLoss m l → raises l ≡ true → m.version ≡ 1
+raises_first m loss.Nothing fits on = absurd (cc)
+raises_first m (loss.Blocks c) fits on = absurd (cc)
+raises_first m (loss.Link l) fits on = absurd (cc)
+raises_first m (loss.File r) fits on = absurd (cc)
+raises_first m loss.FirstVersion fits on = fits
+
 module _ {D : Type 0} {state : D → DeviceState} where
   -- what is to be saved, where the log holds a log map and memory stands for it
   pub acknowledged : (h : Held D) {v : LogMemory} {k : CheckpointValue} {m0 m : LogMap} → Holds state (seen h) k m0 m
       → IsLog (state h.device) v k m0 m → IsLogMap (dropped m) → IsAcknowledged (state h.device) v h.version h.number k m0 m
-  acknowledged h is log map = record { log = log; map = map; same = is.number; same_version = is.version }
+  acknowledged h is log map = record { log = log; map = map; same = is.number; same_version = is.version; unit = is.unit }
 
   pub saves : {h h' : Held D} → length h.memory.dirty.blocks ≤ 456 → CommitsAll (state h.device) (state h'.device) h.memory h'.memory
       h.version h.number → h'.number ≡ h.number + 1 → h'.version ≡ h.version → h'.upgraded ≡ false → h'.saved ≡ true → h'.halted ≡ false
@@ -102,6 +117,7 @@ module _ {D : Type 0} {state : D → DeviceState} where
               segments = sym n.2.segments;
               number = n.1 ∙ sym number;
               version = is.version ∙ sym version;
+              unit = rw version n.3;
               running = running;
               nothing_new = λ all. refl;
               rest = λ all. record { nothing = nothing; untaken = c.untaken; many = c.many };
@@ -134,6 +150,7 @@ module _ {D : Type 0} {state : D → DeviceState} where
         segments = sym o.0.segments;
         number = o.1;
         version = o.2;
+        unit = o.3;
         running = running;
         nothing_new = λ all. all_linked m (are_sized (state d).content lawful.now) is.stands;
         rest = λ all. record { nothing = nothing; untaken = untaken keeps; many = many keeps };
@@ -157,16 +174,18 @@ module _ {D : Type 0} {state : D → DeviceState} where
 
   -- ---- memory changes, and then blocks of pointers that lead nowhere leave it
   held_tight : {h h' : Held D} {v : LogMemory} {k : CheckpointValue} {m0 m w : LogMap} → Holds state (seen h) k m0 m
-      → h'.number ≡ h.number → (raised : Bool) → h'.version ≡ cond raised 2 h.version → w.version ≡ cond raised 2 m.version
+      → h'.number ≡ h.number → (raised : Bool) → (raised ≡ true → m.version ≡ 1) → h'.version ≡ cond raised 2 h.version
+      → w.version ≡ cond raised 2 m.version
       → h'.halted ≡ h.halted → Tightens v h'.memory → IsLoose (state h'.device) v k m0 w → (h'.saved ≡ true → m0 ≡ dropped w)
       → (h'.saved ≡ true → IsAtRest (seen h')) → Holds state (seen h') k m0 w
-  held_tight {k} {w} is number raised version same halted tight loose nothing_new rest =
+  held_tight {h} {k = k} {w = w} is number raised first version same halted tight loose nothing_new rest =
       let log = tightened_log k w tight loose in
       record {
         log = log;
         segments = sym log.segments;
         number = is.number ∙ sym number;
         version = same ∙ ap (λ (n : ℕ). cond raised 2 n) is.version ∙ sym version;
+        unit = rw version (unit_raised raised is.unit (λ on. sym is.version ∙ first on));
         running = halted ∙ is.running;
         nothing_new = nothing_new;
         rest = rest;
@@ -202,7 +221,8 @@ module _ {D : Type 0} {state : D → DeviceState} where
       is_staged version upgraded unsaved s = record {
         alters = stood c version upgraded s.stands;
         unsaved = unsaved;
-        holds = λ k m0 m keeps is fits. held_tight is number _ version (staged_version c m) halted tight
+        holds = λ k m0 m keeps is fits. held_tight is number _ (raises_first m c.loss fits.fits_loss) version (staged_version c m) halted
+            tight
             (s.log k m0 m keeps (loose_in is) fits) (λ all. absurd (cc)) (λ all. absurd (cc));
       }
 
@@ -212,7 +232,8 @@ module _ {D : Type 0} {state : D → DeviceState} where
       is_refused version upgraded unsaved s = record {
         alters = stood c version upgraded s.stands;
         unsaved = λ on. unsaved;
-        holds = λ k m0 m keeps is fits. held_tight is number false version refl halted tight (s.log k m0 m keeps (loose_in is) fits)
+        holds = λ k m0 m keeps is fits. held_tight is number false (λ on. absurd (cc)) version refl halted tight
+            (s.log k m0 m keeps (loose_in is) fits)
             (λ all. absurd (cc)) (λ all. absurd (cc));
       }
 
@@ -232,7 +253,7 @@ module _ {D : Type 0} {state : D → DeviceState} where
           untaken = untaken;
           holds = λ k m0 m keeps is.
               let both = λ (all : h'.saved ≡ true). and_parts h.saved (is_hidden_in h.memory.map n) (sym saved ∙ all) in
-              held_tight is number false version refl halted tight (s.log k m0 m keeps (loose_in is))
+              held_tight is number false (λ on. absurd (cc)) version refl halted tight (s.log k m0 m keeps (loose_in is))
               (λ all. is.nothing_new (both all).0 ∙ sym (same_dropped m n (is.log.hidden n low ∙ (both all).1)))
               (λ all. rest_altered alters untaken (is.rest (both all).0));
         }
@@ -246,7 +267,8 @@ module _ {D : Type 0} {state : D → DeviceState} where
           alters = alters;
           saved = saved;
           untaken = untaken;
-          holds = λ k m0 m keeps is. held_tight is number false version refl halted tight (s.log k m0 m keeps (loose_in is))
+          holds = λ k m0 m keeps is. held_tight is number false (λ on. absurd (cc)) version refl halted tight
+              (s.log k m0 m keeps (loose_in is))
               (λ all. is.nothing_new (sym saved ∙ all))
               (λ all. rest_altered alters untaken (is.rest (sym saved ∙ all)));
         }

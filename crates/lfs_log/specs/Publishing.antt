@@ -1,6 +1,6 @@
 -- What the end of a commit does: the checkpoint that leads to all that is out.
 use Rattle.std.specs.Prelude.{◌≡◌, ◌<◌, ◌≤◌, ◌+◌, ◌*◌, ℕ, false, [], length, get_or}
-use Rattle.lfs_model.specs.Checkpoint.{CheckpointValue, FitsCheckpoint, layout_version}
+use Rattle.lfs_model.specs.Checkpoint.{CheckpointValue, FitsCheckpoint, layout_version, most_unit_power}
 use Rattle.lfs_model.specs.Crash.{StandsForOn}
 use Rattle.lfs_model.specs.declared.limits.TheConstants.{MAP_BLOCKS, USAGE_BLOCKS}
 use Rattle.lfs_model.specs.Device.{DeviceState, Carries, Elapses, IsUntouched, LeavesOnly, AllLeft}
@@ -36,6 +36,7 @@ pub record IsNext (v : LogMemory) (version old : ℕ) (next : CheckpointValue) :
   pub number : next.number ≡ old + 1
   pub segments : next.segments ≡ length v.usage.segments
   pub same_version : layout_version next ≡ version
+  pub unit : v.usage.unit ≤ most_unit_power version → next.unit_power ≡ v.usage.unit
   pub map : (j : ℕ) → j < MAP_BLOCKS → get_or next.map j 0 ≡ block_in v.map j
   pub usage : (j : ℕ) → j < USAGE_BLOCKS → get_or next.usage j 0 ≡ address_of v.usage j
 
@@ -45,6 +46,7 @@ pub record IsAcknowledged (d : DeviceState) (v : LogMemory) (version number : �
   pub map : IsLogMap (dropped m)
   pub same : k.number ≡ number
   pub same_version : m.version ≡ version
+  pub unit : k.unit_power ≤ most_unit_power version
 
 -- a stop at any moment leaves what was acknowledged, or all that is out, on as many segments
 abbrev pub LeavesEither : DeviceState → DeviceState → LogMemory → ℕ → ℕ → Type 0
@@ -60,6 +62,7 @@ pub record Publishes (d d' : DeviceState) (v v' : LogMemory) (version number : �
   pub no_failure : d'.failures ≡ d.failures
   pub log : (k : CheckpointValue) (m0 m : LogMap) → d'.keeps_model → IsAcknowledged d v version number k m0 m
       → (next : CheckpointValue) × (next.number ≡ number + 1) × IsLog d' v' next (dropped m) m
+      × (next.unit_power ≤ most_unit_power version)
   pub moment : LeavesEither d d' v version number
 
 -- A failure of the device ended it: a stop from now on leaves the one or the other.

@@ -1,6 +1,6 @@
 -- What a commit does.
 use Rattle.std.specs.Prelude.{◌≡◌, ◌<◌, ◌≤◌, ◌+◌, ◌-◌, ◌*◌, ◌/◌, ℕ, [], length}
-use Rattle.lfs_model.specs.Checkpoint.{CheckpointValue}
+use Rattle.lfs_model.specs.Checkpoint.{CheckpointValue, most_unit_power}
 use Rattle.lfs_model.specs.Crash.{StandsForOn}
 use Rattle.lfs_model.specs.declared.limits.TheConstants.{CHUNK_BLOCKS, MOST_UNSAVED, TABLE_BLOCKS}
 use Rattle.lfs_model.specs.Device.{DeviceState, Carries, AllLeft}
@@ -51,6 +51,7 @@ pub record CommitsAll (d d' : DeviceState) (v v' : LogMemory) (version number : 
   pub no_failure : d'.failures ≡ d.failures
   pub log : (k : CheckpointValue) (m0 m : LogMap) → d'.keeps_model → IsAcknowledged d v version number k m0 m
       → (next : CheckpointValue) × (next.number ≡ number + 1) × IsLog d' v' next (dropped m) m
+      × (next.unit_power ≤ most_unit_power version)
   pub moment : LeavesEither d d' v version number
   pub told : length d'.told ≤ length d.told + orders_for (length v.dirty.blocks)
 

@@ -1,12 +1,10 @@
 -- What the steps do by which the usage blocks that changed get new places.
 use Rattle.std.specs.Prelude.{◌≡◌, ◌<◌, ◌≤◌, ◌+◌, ◌-◌, ◌/◌, ℕ, true, false, length}
-use Rattle.lfs_model.specs.declared.BlockKind.TheVariants as kind
 use Rattle.lfs_model.specs.declared.limits.TheConstants.{BLOCK_SEGMENTS, CHECKPOINT_SLOTS}
 use Rattle.lfs_model.specs.Counting.{segment_of}
-use Rattle.lfs_model.specs.Summary.{BlockNameValue}
 use Rattle.lfs_model.specs.Running.{IsSet}
 use Rattle.lfs_memory.specs.segments.Table.{UsageTable, live_of, kept_of, address_of, stale_of}
-use Rattle.lfs_memory.specs.segments.Chunk.{IsUnkeptBy}
+use Rattle.lfs_memory.specs.segments.Chunk.{IsUnkeptBy, usage_name}
 use Rattle.lfs_memory.specs.segments.Steps.{Lifts, PutsPlace}
 use Rattle.lfs_memory.specs.declared.memory.LogMemory.{LogMemory}
 use Rattle.lfs_memory.specs.Memory.{Places}
@@ -27,9 +25,6 @@ pub record Leaves (old new : UsageTable) (j : ℕ) : Type 0 where
   pub left : address_of old j ≡ 1 → new ≡ old
   pub above : (address_of old j ≡ 1 → ⊥) → CHECKPOINT_SLOTS ≤ address_of old j
   pub lifts : (address_of old j ≡ 1 → ⊥) → Lifts old new (segment_of (address_of old j)) true
-
-abbrev pub usage_name : ℕ → BlockNameValue
-usage_name j = record { file = 0; kind = kind.Usage; index = j }
 
 -- Usage block j leaves its address, and gets the next place.
 pub record Resettles (v v' : LogMemory) (j number : ℕ) : Type 0 where

@@ -6,3 +6,4 @@ use Rattle.lfs_log.specs.declared.layout_version.LayoutVersion.TheVariants as ve
 abbrev pub number_of : LayoutVersion → ℕ
 number_of version.First = 1
 number_of version.Second = 2
+number_of version.Third = 3

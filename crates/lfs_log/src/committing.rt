@@ -3,11 +3,10 @@
 ghost use Rattle.std.specs.Prelude.{◌≡◌, ◌<◌, ◌≤◌, ◌+◌, ◌^◌, ◌-◌, [], length, OnOk, OnErr};
 ghost use Rattle.lfs_memory.specs.segments.Table.{clean_in};
 ghost use Rattle.lfs_log.specs.Settling.{AreAnew};
-ghost use Rattle.lfs_memory.specs.Memory.{IsMemory, AreMapsOut, HoldsVolume, Goes, Stops, room_of};
+ghost use Rattle.lfs_memory.specs.Memory.{IsMemory, AreMapsOut, EndsUnit, HoldsVolume, Goes, OnlyPads, PadsChunk, Stops, room_of};
 ghost use Rattle.lfs_log.specs.Publishing.{IsAllOut};
 ghost use Rattle.lfs_log.specs.Versions.{number_of};
 ghost use Rattle.lfs_log.specs.Saving.{CommitsAll, CommitFails, IsSpared, orders_for, segments_for};
-ghost use Rattle.lfs_log.specs.Keeping.{OnlyChunk};
 ghost use Rattle.lfs_log.specs.Placing.{EndsSaving};
 ghost use Rattle.lfs_log.specs.Telling.{orders_due};
 
@@ -43,14 +42,26 @@ fn place_all<D: SectorUnits>(
     Ok(())
 }
 
-/// Ends the chunk that is being written, if there is one.
+/// Pads the chunk that is being written until it ends on a unit.
+fn pad_rest(memory: &mut LogMemory)
+    requires begun { 0 < length memory.old.chunk.names }
+    requires memory { IsMemory memory.old }
+    ensures pads { PadsChunk memory.old memory.new }
+    ensures ends { EndsUnit memory.new }
+{
+    for _ in 0..memory.lacking() {
+        memory.pad();
+    }
+}
+
+/// Ends the chunk that is being written, if there is one, on a unit.
 pub fn seal_rest<D: SectorUnits>(device: &mut D, memory: &mut LogMemory) -> Result<(), DeviceFault>
     requires memory { IsMemory memory.old }
     requires size { HoldsVolume (D.state device.old) memory.old }
     ensures done { OnOk result (Goes (D.state device.old) (D.state device.new) memory.old memory.new
         OPEN_CHUNK_BLOCKS) }
     ensures stopped { OnErr result (Stops (D.state device.old) (D.state device.new) memory.old) }
-    ensures only { OnlyChunk memory.old memory.new }
+    ensures only { OnlyPads memory.old memory.new }
     ensures ended { OnOk result (memory.new.chunk.names ≡ []) }
     ensures told { length (D.state device.new).told + clean_in memory.new.usage.segments
         ≤ orders_due (D.state device.old) memory.old }
@@ -58,6 +69,7 @@ pub fn seal_rest<D: SectorUnits>(device: &mut D, memory: &mut LogMemory) -> Resu
     if memory.chunk.is_empty() {
         return Ok(());
     }
+    pad_rest(memory);
     seal(device, memory)
 }
 

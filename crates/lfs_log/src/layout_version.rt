@@ -13,6 +13,8 @@ pub enum LayoutVersion {
     First,
     /// They have the first or the second.
     Second,
+    /// They have the second, and a checkpoint has a checksum.
+    Third,
 }
 
 impl LayoutVersion {
@@ -21,10 +23,10 @@ impl LayoutVersion {
         requires { IsVersion number }
         ensures { number_of result ≡ number }
     {
-        if number == 1 {
-            LayoutVersion::First
-        } else {
-            LayoutVersion::Second
+        match number {
+            1 => LayoutVersion::First,
+            2 => LayoutVersion::Second,
+            _ => LayoutVersion::Third,
         }
     }
 
@@ -36,6 +38,7 @@ impl LayoutVersion {
         match self {
             LayoutVersion::First => 1,
             LayoutVersion::Second => 2,
+            LayoutVersion::Third => 3,
         }
     }
 }

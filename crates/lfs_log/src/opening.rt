@@ -49,7 +49,7 @@ fn pass_memory(alloc: Global, segments: u32) -> Result<LogMemory, AllocError>
         ≡ CHUNK_BLOCKS * (segments / 8)) }
 {
     let map = InodeMap::new(alloc)?;
-    let usage = Usage::new(alloc, segments)?;
+    let usage = Usage::new(alloc, segments, 0)?;
     let dirty = DirtyTable::new(alloc, most_cleaned(segments), MOST_UNSAVED)?;
     Ok(LogMemory {
         map,

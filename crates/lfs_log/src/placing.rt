@@ -5,7 +5,7 @@ ghost use Rattle.lfs_model.specs.Running.{IsLowest};
 ghost use Rattle.lfs_memory.specs.inodes.Blocks.{blocks_of};
 ghost use Rattle.lfs_memory.specs.inodes.Data.{data_count, is_data_code};
 ghost use Rattle.lfs_memory.specs.inodes.Key.{entry_of};
-ghost use Rattle.lfs_memory.specs.Memory.{IsMemory, IsMemoryUpTo, HoldsVolume, Goes, Stops, room_of};
+ghost use Rattle.lfs_memory.specs.Memory.{EndsUnit, IsMemory, IsMemoryUpTo, HoldsVolume, Goes, Stops, room_of};
 ghost use Rattle.lfs_memory.specs.segments.Chunk.{room_in};
 ghost use Rattle.lfs_memory.specs.segments.Early.{early_in};
 ghost use Rattle.lfs_log.specs.Early.{GoesEarly, IsBegunFresh, IsFresh};
@@ -18,9 +18,10 @@ use lfs_memory::inodes::BlockKey;
 use lfs_memory::segments::write;
 use lfs_model::limits::CHUNK_BLOCKS;
 
-/// Writes the summary of the chunk, which ends it.
+/// Writes the summary of the chunk, which ends on a unit.
 pub fn seal<D: SectorUnits>(device: &mut D, memory: &mut LogMemory) -> Result<(), DeviceFault>
     requires begun { 0 < length memory.old.chunk.names }
+    requires ends { EndsUnit memory.old }
     requires memory { IsMemoryUpTo CHUNK_BLOCKS memory.old }
     requires size { HoldsVolume (D.state device.old) memory.old }
     ensures done { OnOk result (Goes (D.state device.old) (D.state device.new) memory.old memory.new

@@ -1,5 +1,6 @@
 //! The end of a commit: the checkpoint that leads to all that was written.
 ghost use Rattle.std.specs.Prelude.{◌≡◌, ◌<◌, ◌≤◌, ◌+◌, ◌^◌, ◌-◌, ℕ, get_or, length, OnOk, OnErr};
+ghost use Rattle.lfs_model.specs.Checkpoint.{most_unit_power};
 ghost use Rattle.lfs_model.specs.Device.{Only};
 ghost use Rattle.lfs_memory.specs.segments.Table.{address_of};
 ghost use Rattle.lfs_memory.specs.Memory.{IsMemory, HoldsVolume};
@@ -9,7 +10,7 @@ ghost use Rattle.lfs_log.specs.Publishing.{IsAllOut, IsNext, LeavesEither, Publi
 
 use crate::layout_version::LayoutVersion;
 use lfs_device::{DeviceFault, SectorUnits};
-use lfs_layout::Checkpoint;
+use lfs_layout::{Checkpoint, most_unit_power};
 use lfs_memory::LogMemory;
 use lfs_memory::segments::Usage;
 use lfs_model::limits::USAGE_BLOCKS;
@@ -28,6 +29,15 @@ fn usage_blocks(usage: &Usage) -> [u32; BLOCKS]
     blocks
 }
 
+/// The unit that a checkpoint of this version tells: the volume's own, if its version has such.
+fn told_unit(usage: &Usage, version: LayoutVersion) -> u8
+    ensures fits { result ≤ most_unit_power (number_of version) }
+    ensures own { usage.now.unit ≤ most_unit_power (number_of version)
+        → result ≡ usage.now.unit }
+{
+    usage.unit_power().min(most_unit_power(version.number()))
+}
+
 /// The checkpoint after the one of this number, in this version.
 fn next_checkpoint(memory: &LogMemory, version: LayoutVersion, number: u64) -> Checkpoint
     requires memory { IsMemory memory.now }
@@ -38,6 +48,7 @@ fn next_checkpoint(memory: &LogMemory, version: LayoutVersion, number: u64) -> C
         number + 1,
         memory.usage.segments(),
         version.number(),
+        told_unit(&memory.usage, version),
         memory.map.block_addresses(),
         usage_blocks(&memory.usage),
     )

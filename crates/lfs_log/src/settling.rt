@@ -1,6 +1,6 @@
 //! How the usage blocks that changed get new places, and are written there once all counts are
 //! final.
-ghost use Rattle.std.specs.Prelude.{◌≡◌, ◌≢◌, ◌<◌, ◌≤◌, ◌+◌, ◌/◌, ℕ, true, false, length, IfSome, IfNone, OnOk, OnErr};
+ghost use Rattle.std.specs.Prelude.{◌≡◌, ◌≢◌, ◌<◌, ◌≤◌, ◌+◌, ◌/◌, [], ℕ, true, false, length, IfSome, IfNone, OnOk, OnErr};
 ghost use Rattle.lfs_memory.specs.segments.Chunk.{due_in};
 ghost use Rattle.lfs_memory.specs.segments.Table.{address_of, stale_of, used_of, clean_in};
 ghost use Rattle.lfs_memory.specs.Memory.{IsMemory, HoldsVolume, Goes, Stops, room_of};
@@ -169,6 +169,7 @@ fn fill_block<D: SectorUnits>(
     index: u32,
 ) -> Result<(), DeviceFault>
     requires anew { AreAnew memory.old.usage }
+    requires closed { memory.old.chunk.names ≡ [] }
     requires index { index < blocks_in memory.old.usage }
     requires memory { IsMemory memory.old }
     requires size { HoldsVolume (D.state device.old) memory.old }
@@ -196,6 +197,7 @@ fn fill_block<D: SectorUnits>(
 /// The device's fault.
 pub fn fill_usage<D: SectorUnits>(device: &mut D, memory: &mut LogMemory) -> Result<(), DeviceFault>
     requires anew { AreAnew memory.old.usage }
+    requires closed { memory.old.chunk.names ≡ [] }
     requires memory { IsMemory memory.old }
     requires size { HoldsVolume (D.state device.old) memory.old }
     ensures done { OnOk result (Goes (D.state device.old) (D.state device.new) memory.old memory.new

@@ -17,7 +17,7 @@ use Rattle.lfs_segments.specs.Table.{UsageTable, used_of, stale_of}
 use Rattle.lfs_segments.specs.Chunk.{entries_of}
 use Rattle.lfs_segments.specs.Steps.{TakesSegment, GoesOn}
 use Rattle.lfs_segments.specs.Emptied.{IsEmptied}
-use Rattle.lfs_segments.proofs.Beginnings.{begins_size, begins_room, begins_address, begins_stale}
+use Rattle.lfs_segments.proofs.Beginnings.{begins_size, begins_unit, begins_room, begins_address, begins_stale}
 use Rattle.lfs_segments.proofs.StaysEmptied.{stays_emptied}
 use Rattle.lfs_inodes.specs.Blocks.{Capacity, TableValue, blocks_of}
 use Rattle.lfs_inodes.specs.MapValue.{MapValue}
@@ -104,6 +104,12 @@ module _ {v v' : LogMemory} {name : BlockNameValue} {lives : Bool} {age place : 
     | inr some ↦ p.noted.size ∙ ap (λ (u : UsageTable). length u.segments) (p.went_on some).0
   ]
 
+  pub unit_same : v'.usage.unit ≡ v.usage.unit
+  unit_same = elim (zero_or_more (length v.chunk.names)) [
+    | inl none ↦ p.noted.unit ∙ begins_unit v.usage p.middle v'.chunk.segment age (p.begun none)
+    | inr some ↦ p.noted.unit ∙ ap (λ (u : UsageTable). u.unit) (p.went_on some).0
+  ]
+
   pub addresses_same : (j : ℕ) → (tables_by v.map v'.usage).at (Usage j) ≡ (tables_by v.map v.usage).at (Usage j)
   addresses_same j = elim (zero_or_more (length v.chunk.names)) [
     | inl none ↦ p.noted.blocks.address j
@@ -139,6 +145,7 @@ module _ {v v' : LogMemory} {name : BlockNameValue} {lives : Bool} {age place : 
     short = λ some. omega (arith, room_left);
     usages = λ j one. stale_still j (memory.usages j (sym (addresses_same j) ∙ one));
     few = omega (arith, segments_same, ap (λ (c : Capacity). c.limit) same);
+    unit = omega (arith, memory.unit, unit_same);
   }
 
   -- it has sectors that the acknowledged checkpoint doesn't need

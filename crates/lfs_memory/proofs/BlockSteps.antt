@@ -1,5 +1,5 @@
 -- Blocks of files change in memory: what that leaves of the log.
-use Rattle.std.proofs.Common.{◌≡◌, ◌<◌, ◌≤◌, not, ℕ, List, [], length, Option, Some, refl, sym, ◌∙◌, ap, subst, arith}
+use Rattle.std.proofs.Common.{◌≡◌, ◌<◌, ◌≤◌, not, ℕ, Bool, List, [], length, Option, Some, refl, sym, ◌∙◌, ap, subst, arith}
 use Rattle.std.proofs.Common.{inl, inr}
 use Rattle.std.proofs.lemmas.Bool.{cases_eq}
 use Rattle.lfs_model.specs.Checkpoint.{CheckpointValue}
@@ -14,15 +14,20 @@ use Rattle.lfs_model.proofs.Changed.{block_adding, block_removing, block_rewriti
 use Rattle.lfs_model.proofs.Entries.{data_below, pointers_below}
 use Rattle.lfs_model.proofs.Reading.{reading}
 use Rattle.lfs_model.proofs.Replacing.{address_at, block_replacing, block_leaving}
+use Rattle.lfs_segments.specs.Table.{UsageTable}
 use Rattle.lfs_inodes.specs.Blocks.{TableValue, blocks_of}
 use Rattle.lfs_inodes.specs.MapValue.{MapValue, is_hidden_in}
 use Rattle.lfs_memory.specs.declared.memory.LogMemory.{LogMemory}
 use Rattle.lfs_memory.specs.Memory.{IsLog, IsLoose, tables_of, segment_in, chunk_in}
 use Rattle.lfs_memory.specs.Changing.{IsPointedIn, Stays, Stores, Drops, MakesBlock, ChangesBlock, IsBlockMiscounted, Grows, Prunes}
-use Rattle.lfs_memory.specs.Changing.{Tightens, stored, with_block}
+use Rattle.lfs_memory.specs.Changing.{Departs, Tightens, stored, with_block}
 use Rattle.lfs_memory.proofs.FileSteps.{shows}
 use Rattle.lfs_memory.proofs.LogMaps.{is_with_block, with_same_block, stored_none, stored_some, word_zeros, length_zeros, blank_or}
 use Rattle.lfs_memory.proofs.Looses.{as_memory, tables_same, lifts_tables, pointed_at, below_or, tight_again, never_miscounted, stays_more}
+
+departs_unit : {old new : UsageTable} {a : ℕ} {lives : Bool} → Departs old new a lives → new.unit ≡ old.unit
+departs_unit {old} {new} {a} go =
+    below_or a (new.unit ≡ old.unit) (λ low. ap (λ (u : UsageTable). u.unit) (go.none low)) (λ high. (go.lifts high).unit)
 
 data_low : (n i l q : ℕ) → Data n i ≡ Leaf l q → q ≤ 128
 data_low n i l q is = cc
@@ -50,11 +55,13 @@ module _ (d : DeviceState) (v v' : LogMemory) (k : CheckpointValue) (m0 m : LogM
   still map usage chunk run = as_memory v v' chunk (tables_same v v' map usage) run
 
   loosely : {w : LogMap} → ((l : ℕ) → w.header l ≡ m.header l) → v'.map ≡ v.map → length v'.usage.segments ≡ length v.usage.segments
-      → Running d (blocks_of v'.dirty) (tables_of v') k m0 w (segment_in v'.chunk) (chunk_in v'.chunk) → IsLoose d v' k m0 w
-  loosely headers map segments run = record {
+      → v'.usage.unit ≡ v.usage.unit → Running d (blocks_of v'.dirty) (tables_of v') k m0 w (segment_in v'.chunk) (chunk_in v'.chunk)
+      → IsLoose d v' k m0 w
+  loosely headers map segments unit run = record {
     running = run;
     hidden = λ l lt. ap is_unlinked (headers l) ∙ is.hidden l lt ∙ ap (λ (x : MapValue). is_hidden_in x l) (sym map);
     segments = cc;
+    unit = unit ∙ is.unit;
   }
 
   module _ (bytes : List ℕ) (long : length bytes ≡ 512) (go : Stores v v' n (Data n i) a bytes) where
@@ -82,7 +89,7 @@ module _ (d : DeviceState) (v v' : LogMemory) (k : CheckpointValue) (m0 m : LogM
         (go.comes (λ one. omega arith)) (lifts_tables m 1 go.map (go.departs.lifts high) lives_as (data_below n i)))
 
     pub stored_log : IsLoose d v' k m0 (with_block m n i bytes)
-    stored_log = loosely (λ l. refl) go.map go.stays.segments
+    stored_log = loosely (λ l. refl) go.map go.stays.segments (departs_unit go.departs)
         (below_or a (Running d _ _ k m0 (with_block m n i bytes) _ _) stored_low stored_high)
 
   module _ (go : Drops v v' n (Data n i) a) where
@@ -111,7 +118,7 @@ module _ (d : DeviceState) (v v' : LogMemory) (k : CheckpointValue) (m0 m : LogM
         (go.leaves (omega arith)) (lifts_tables m 1 go.map (go.departs.lifts high) lives_as (data_below n i)))
 
     pub dropped_log : IsLoose d v' k m0 without
-    dropped_log = loosely (λ l. refl) go.map go.stays.segments
+    dropped_log = loosely (λ l. refl) go.map go.stays.segments (departs_unit go.departs)
         (below_or a (Running d _ _ k m0 without _ _) dropped_low dropped_high)
 
   put_log : (bytes : List ℕ) → length bytes ≡ 512 → MakesBlock v v' n i a bytes → IsLoose d v' k m0 (with_block m n i (stored bytes))
@@ -150,6 +157,7 @@ grown_log d v v' k m0 m is x pointers pointed go = record {
       (pointed_at _ _ 0 (pointers_below x pointers) go.low pointed) (length_zeros 512) (λ w lt. word_zeros 512 w) go.comes);
   hidden = rw go.map is.hidden;
   segments = cc;
+  unit = ap (λ (u : UsageTable). u.unit) go.usage ∙ is.unit;
 }
 
 -- those that lead nowhere leave
@@ -169,5 +177,6 @@ tightened_log {d} {v} {v'} k {m0} m go is =
       running = as_memory v v' go.stays.chunk (tables_same v v' go.map go.usage) (pruned d k m0 m v.dirty is.running go.prunes);
       hidden = rw go.map is.hidden;
       segments = cc;
+      unit = ap (λ (u : UsageTable). u.unit) go.usage ∙ is.unit;
     })
     go.tight

@@ -119,6 +119,7 @@ module _ (d : DeviceState) (v v' : LogMemory) (k : CheckpointValue) (m0 m : LogM
           (detaches n first formed_in go.leaves go.clears) detached);
       hidden = λ i small. is.hidden i small ∙ ap (λ (map : MapValue). is_hidden_in map i) (sym go.map);
       segments = cc;
+      unit = go.usage.unit ∙ is.unit;
     }
       where
         inode_stays : is_past n first (Inode n) ≡ true → ⊥
@@ -139,7 +140,7 @@ module _ {a b c : DeviceState} {v mid v' : LogMemory} {n first : ℕ} {counts : 
   pub file_cut : Cuts a c v v' n first
   file_cut = record {
     looks = looks_then lawful one.looks two;
-    memory = kept_memory mid v' one.memory go.usage.size go.chunk go.usage.used go.usage.kept go.usage.last go.usage.address
+    memory = kept_memory mid v' one.memory go.usage.size go.chunk go.usage.used go.usage.kept go.usage.last go.usage.unit go.usage.address
         (never_fresh mid.usage v'.usage go.usage.stale) go.capacity;
     segments = cc;
     clean = cc;

@@ -4,7 +4,7 @@ use Rattle.std.proofs.Common.{subst, arith}
 use Rattle.std.specs.Prelude.{get_or}
 use Rattle.lfs_model.specs.Committing.{IsWritten, place_of}
 use Rattle.lfs_model.specs.Checkpoint.{CheckpointValue}
-use Rattle.lfs_model.specs.Device.{DeviceState, MayWrite, CrashWrites, Carries, Elapses, IsLawful, put, left_new}
+use Rattle.lfs_model.specs.Device.{DeviceState, MayWriteUnit, CrashWritesUnit, Carries, Elapses, IsLawful, put, left_new}
 use Rattle.lfs_model.specs.Entry.{Entry, Data, Leaf, Double, Inode, Map, Usage, entry_of, entry_by}
 use Rattle.lfs_model.specs.Stands.{LogMap}
 use Rattle.lfs_model.specs.Summary.{BlockNameValue}
@@ -20,10 +20,12 @@ use Rattle.lfs_segments.specs.Chunk.{Chunk, entries_of}
 use Rattle.lfs_segments.specs.Table.{UsageTable}
 use Rattle.lfs_memory.specs.declared.memory.LogMemory.{LogMemory}
 use Rattle.lfs_memory.specs.Memory.{IsMemory, IsLog, IsPointedAt, Places, GoesUpTo, Quiet, Stops, tables_by}
-use Rattle.lfs_memory.proofs.Begun.{before, begun, noted, place_is, room_left, opened_after, segment_after, segments_same, memory_after}
+use Rattle.lfs_memory.proofs.Begun.{before, begun, noted, place_is, room_left, opened_after, segment_after, segments_same, unit_same}
+use Rattle.lfs_memory.proofs.Begun.{memory_after}
 use Rattle.lfs_memory.proofs.Begun.{free_place, placed_emptied}
 use Rattle.lfs_memory.proofs.Opened.{as_chunk, stays_settled, stays_quiet}
 use Rattle.lfs_memory.proofs.Rooms.{takes_place}
+use Rattle.lfs_model.proofs.UnitWrites.{to_unit}
 
 -- ---- keys name blocks of files
 pub file_by : (r f i : ℕ) → file_of (entry_by (kind_by r) f i) ≡ Some f
@@ -38,15 +40,16 @@ shows m x n hidden is same = ap not (sym same) ∙ sym (ap (λ (o : Option ℕ).
 
 module _ {v v' : LogMemory} {name : BlockNameValue} {lives : Bool} {age place : ℕ} (memory : IsMemory v)
     (p : Places v v' name lives age place)
-    {d d' : DeviceState} {bytes : List ℕ} (crash : CrashWrites place bytes d d') (carries : Carries d d') (time : Elapses d d')
+    {d d' : DeviceState} {bytes : List ℕ} (crash : CrashWritesUnit place bytes d d') (carries : Carries d d') (time : Elapses d d')
     (lawful : IsLawful d)
-    (may : d'.keeps_model → MayWrite place bytes d.content d'.content) where
+    (may : d'.keeps_model → MayWriteUnit d.unit place bytes d.content d'.content) where
   pub settled_step : (k : CheckpointValue) (m0 m : LogMap) → d'.keeps_model → IsLog d v k m0 m → IsSettled d' k m0
   settled_step k m0 m keeps is =
-      stays_settled m0 place bytes is.running.settled (free_place memory p is) (may keeps) crash
+      stays_settled m0 place bytes is.running.settled (free_place memory p is) (may keeps) crash carries.unit
 
   pub quiet_step : Quiet d d' v
-  quiet_step k m0 m keeps is = stays_quiet m0 place bytes is.running.settled (free_place memory p is) (may keeps) crash lawful carries time
+  quiet_step k m0 m keeps is =
+      stays_quiet m0 place bytes is.running.settled (free_place memory p is) (may keeps) crash carries.unit lawful carries time
 
   pub place_stops : d.failed_orders < d'.failed_orders → Stops d d' v
   place_stops failed = record {
@@ -78,7 +81,7 @@ module _ {v v' : LogMemory} {name : BlockNameValue} {lives : Bool} {age place : 
       others (Map j) up ne = ap (λ (l : List ℕ). get_or l j 0) points.blocks
       others (Usage j) up ne = p.noted.blocks.address j
 
-  module _ {d d' : DeviceState} (bytes : List ℕ) (dirty' : TableValue) (crash : CrashWrites place bytes d d') (carries : Carries d d')
+  module _ {d d' : DeviceState} (bytes : List ℕ) (dirty' : TableValue) (crash : CrashWritesUnit place bytes d d') (carries : Carries d d')
       (time : Elapses d d') (lawful : IsLawful d) where
     abbrev pub after : LogMemory
     after = record { map = map'; usage = v'.usage; dirty = dirty'; chunk = v'.chunk }
@@ -95,13 +98,14 @@ module _ {v v' : LogMemory} {name : BlockNameValue} {lives : Bool} {age place : 
           v'.chunk.segment) = rw same_place at moves in
           let next = stepping d d' (blocks_of v.dirty) _ (before memory p)
           (tables_by map' v'.usage) k m0 m v'.chunk.segment es x bytes running (room_left memory p) low there (is.tight x bytes there)
-          (subst (λ (n : ℕ). IsWritten d d' n bytes) same_place (record { content = is_put keeps; crash = crash }))
+          (subst (λ (n : ℕ). IsWritten d d' n bytes) same_place (record { content = is_put keeps; crash = crash; unit = carries.unit }))
           moved (noted memory p is map' (hides ∙ shows m x f (is_hidden_in v.map f) of_file (is.hidden f few)) addressed) in
           record {
             running = as_chunk (sym (segment_after memory p))
                 (sym (opened_after memory p ∙ ap (λ (e : Entry). Some (es ++ e ∷ [])) named)) next;
             hidden = λ n lt. is.hidden n lt ∙ ap (λ (l : List Bool). get_or l n false) (sym points.hidden);
             segments = segments_same memory p ∙ is.segments;
+            unit = unit_same memory p ∙ is.unit;
             tight = stepping_tight d _ _ (before memory p) k m0 m
                 v'.chunk.segment es x bytes running (room_left memory p) there moved is.tight;
           }
@@ -115,7 +119,8 @@ module _ {v v' : LogMemory} {name : BlockNameValue} {lives : Bool} {age place : 
         no_failure = no_failure;
         emptied = placed_emptied memory p;
         log = log;
-        quiet = quiet_step memory p {bytes = bytes} crash carries time lawful (λ keeps. left_new (is_put keeps));
+        quiet = quiet_step memory p {bytes = bytes} crash carries time lawful
+            (λ keeps. to_unit d.unit place bytes d.content d'.content (left_new (is_put keeps)));
       }
 
 -- the same memory by other words

@@ -15,7 +15,7 @@ use Rattle.lfs_model.proofs.Counting.{unplaced_counts}
 use Rattle.lfs_model.proofs.Entries.{same_entry}
 use Rattle.lfs_model.proofs.Leaving.{left_memory, left_taken, left_cached, still_open}
 use Rattle.lfs_model.proofs.Outgoing.{map_lifting}
-use Rattle.lfs_model.proofs.Running.{taken_memory, addressed, lifted_tables, lifted_fresh, usage_kept, part_same, kept_same}
+use Rattle.lfs_model.proofs.Running.{taken_memory, addressed, lifted_tables, lifted_fresh, usage_kept, part_same, whole_same, kept_same}
 use Rattle.lfs_model.proofs.Settled.{settled_still}
 use Rattle.lfs_model.proofs.Staging.{fetching_traces}
 use Rattle.lfs_model.proofs.Tables.{map_table}
@@ -55,16 +55,18 @@ still_traced d {d'} {v} k {m0} m looks is =
         memory = w.memory;
         laid = rw same.content w.laid;
         segments = w.segments;
-        settled = settled_still d d' k m0 w.settled same;
+        settled = settled_still d d' k m0 w.settled same looks.carries.unit;
         cached = w.cached;
         tables = w.tables;
         fresh = w.fresh;
         part = w.part;
+        whole = w.whole;
         kept = λ i low. rw same.content (w.kept i low);
         opened = rw same.content w.opened;
       };
       hidden = is.hidden;
       segments = is.segments;
+      unit = is.unit;
     } in
     (after, traces_none w.memory)
 
@@ -93,6 +95,7 @@ module _ (d : DeviceState) {dirty : Dirty} {t : Tables} (t' : Tables) (k : Check
           fresh = λ i off low. let no = lifted_fresh m t t' (Map j) 1 go i off in
               no.1 (w.memory.bytes (Usage i)) (w.fresh i no.0 low);
           part = part_same t t' go.used go.kept w.part;
+          whole = whole_same k t t' seg go.used w.whole;
           kept = kept_same d.content k t t' go.kept w.kept;
           opened = still_open d t' k m w (Map j) (map_table j) 1 (omega arith) chunk w.opened go.kept;
         },
@@ -121,6 +124,7 @@ module _ (d : DeviceState) {dirty : Dirty} {t : Tables} (t' : Tables) (k : Check
           fresh = λ i off low. usage_kept t t' i (w.memory.bytes (Usage i))
               (λ q lt. (go.used (64 * i + q), go.live (64 * i + q), go.age (64 * i + q))) (w.fresh i (sym (go.stale i) ∙ off) low);
           part = part_same t t' go.used go.kept w.part;
+          whole = whole_same k t t' seg go.used w.whole;
           kept = kept_same d.content k t t' go.kept w.kept;
           opened = still_open d t' k m w (Map j) (map_table j) 1 (omega arith) chunk w.opened go.kept;
         },
@@ -133,12 +137,17 @@ module _ {d : DeviceState} {v : LogMemory} (v' : LogMemory) {k : CheckpointValue
   TracedIn dirty c = (w' : Running d dirty (tables_of v') k m0 m (segment_in c) (chunk_in c)) × HasTraces is.running.memory w'.memory
 
   pub loose_traced : v'.chunk ≡ v.chunk → v'.map.hidden ≡ v.map.hidden → length v'.usage.segments ≡ length v.usage.segments
-      → TracedIn (blocks_of v'.dirty) v.chunk
+      → v'.usage.unit ≡ v.usage.unit → TracedIn (blocks_of v'.dirty) v.chunk
       → (is' : IsLoose d v' k m0 m) × HasTraces is.running.memory is'.running.memory
-  loose_traced chunk hidden size go =
+  loose_traced chunk hidden size unit go =
       let there = subst (λ (c : Chunk). TracedIn (blocks_of v'.dirty) c) (sym chunk) go in
       let after : IsLoose d v' k m0 m =
-      record { running = there.0; hidden = same_hidden v.map v'.map m hidden is.hidden; segments = size ∙ is.segments } in
+      record {
+        running = there.0;
+        hidden = same_hidden v.map v'.map m hidden is.hidden;
+        segments = size ∙ is.segments;
+        unit = unit ∙ is.unit;
+      } in
       (after, there.1)
 
 module _ (d : DeviceState) (v v' : LogMemory) (k : CheckpointValue) (m0 m : LogMap) (is : IsLoose d v k m0 m) (j : ℕ)
@@ -146,13 +155,14 @@ module _ (d : DeviceState) (v v' : LogMemory) (k : CheckpointValue) (m0 m : LogM
   fetched_now : 2 ≤ block_in v.map j → (is' : IsLoose d v' k m0 m) × HasTraces is.running.memory is'.running.memory
   fetched_now above =
       let l = go.lifted above in
-      loose_traced v' is go.chunk go.hidden l.size (subst (λ (dirty : Dirty). TracedIn v' is dirty v.chunk) (sym (ap blocks_of go.dirty))
+      loose_traced v' is go.chunk go.hidden l.size l.unit
+      (subst (λ (dirty : Dirty). TracedIn v' is dirty v.chunk) (sym (ap blocks_of go.dirty))
       (map_fetched d (tables_of v') k m0 m j is.running above (assumption (map_addressed d v k m0 m is j v' go l.blocks.address))))
 
   added_now : block_in v.map j ≡ 0 → (is' : IsLoose d v' k m0 m) × HasTraces is.running.memory is'.running.memory
   added_now none =
       let e = go.added none in
-      loose_traced v' is go.chunk go.hidden (rw e)
+      loose_traced v' is go.chunk go.hidden (rw e) (rw e)
       (rw (ap blocks_of go.dirty)
       (map_added d _ k m0 m j is.running none (record {
         at = map_addressed d v k m0 m is j v' go (λ i. rw e);
@@ -224,7 +234,7 @@ bring_gathers {d} {d'} {v} {v'} x {f} {address} {lives} {bytes} looks file low a
       let now = first.0 in
       let there : block d'.content address ≡ bytes = ap (λ (c : Content). block c address) looks.untouched.content
       ∙ sym (read keeps ∙ on_device d.content (blocks_of v.dirty) x address (omega arith)) in
-      let second = loose_traced v' now go.chunk go.hidden go.usage.size
+      let second = loose_traced v' now go.chunk go.hidden go.usage.size go.usage.unit
       (fetching_traces d' (blocks_of v.dirty) _ _ _ k m0 m _
       _ x address bytes now.running (f, file) at above there (is_named now file low at above is_lives go there mapped)
       go.dirty (is_lifted now file low at above is_lives go)) in

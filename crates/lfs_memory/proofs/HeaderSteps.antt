@@ -12,6 +12,7 @@ use Rattle.lfs_model.specs.Memory.{is_unlinked, is_nameless}
 use Rattle.lfs_model.specs.Running.{IsReaddressed}
 use Rattle.lfs_model.specs.Stands.{LogMap}
 use Rattle.lfs_model.proofs.Headers.{header_changing, file_creating}
+use Rattle.lfs_segments.specs.Table.{UsageTable}
 use Rattle.lfs_inodes.specs.Blocks.{blocks_of}
 use Rattle.lfs_inodes.specs.MapValue.{MapValue, address_in, block_in, is_hidden_in}
 use Rattle.lfs_memory.specs.declared.memory.LogMemory.{LogMemory}
@@ -64,6 +65,7 @@ header_changed d v v' k m0 m is {n} few {kind} {form} {links} {size} fits same m
       hidden = hidden_with v.map v'.map m n h is.hidden (same ∙ ap (λ (a : MapValue). is_hidden_in a n) (sym go.map))
           (λ l ne. rw go.map);
       segments = go.stays.segments ∙ is.segments;
+      unit = ap (λ (u : UsageTable). u.unit) go.usage ∙ is.unit;
     }
 
 -- ---- a new file
@@ -107,4 +109,5 @@ file_created d v v' k m0 m is {n} some few none {kind} {form} {links} {size} fit
           go.changes (readdressed v v' n kind form links size go));
       hidden = hidden_with v.map v'.map m n h is.hidden (sym go.hidden.own) go.hidden.others;
       segments = cc;
+      unit = ap (λ (u : UsageTable). u.unit) go.usage ∙ is.unit;
     }

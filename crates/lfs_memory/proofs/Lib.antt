@@ -1,6 +1,7 @@
 pub mod Stales
 pub mod Rooms
 pub mod Opened
+pub mod Padded
 pub mod Going
 pub mod Begun
 pub mod FileSteps

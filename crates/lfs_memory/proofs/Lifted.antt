@@ -71,10 +71,10 @@ top_is_inode (Usage j) file top = absurd (usage_table j file)
 -- ---- memory
 pub kept_memory : (v v' : LogMemory) → IsMemory v → length v'.usage.segments ≡ length v.usage.segments → v'.chunk ≡ v.chunk
     → ((s : ℕ) → used_of v'.usage s ≡ used_of v.usage s)
-    → ((s : ℕ) → kept_of v'.usage s ≡ kept_of v.usage s) → v'.usage.last ≡ v.usage.last
+    → ((s : ℕ) → kept_of v'.usage s ≡ kept_of v.usage s) → v'.usage.last ≡ v.usage.last → v'.usage.unit ≡ v.usage.unit
     → ((j : ℕ) → address_of v'.usage j ≡ address_of v.usage j) → ((j : ℕ) → stale_of v.usage j ≡ true → stale_of v'.usage j ≡ true)
     → v'.dirty.capacity ≡ v.dirty.capacity → IsMemory v'
-kept_memory v v' memory size chunk used kept last address stale capacity = record {
+kept_memory v v' memory size chunk used kept last unit address stale capacity = record {
   count = record {
     least = omega arith;
     most = omega arith;
@@ -88,10 +88,12 @@ kept_memory v v' memory size chunk used kept last address stale capacity = recor
         used = ap (used_of v'.usage) s ∙ used v.chunk.segment ∙ o.used ∙ sym (rw chunk);
         free = let c = ap (λ (c : Chunk). c.start) chunk in omega (arith, kept v.chunk.segment, ap (kept_of v'.usage) s);
         last = last ∙ o.last ∙ ap (λ (n : ℕ). Some n) (sym s);
+        stale = λ begun. ap (λ (n : ℕ). stale_of v'.usage (n / 64)) s ∙ stale (v.chunk.segment / 64) (o.stale (rw chunk at begun));
       };
   short = rw chunk memory.short;
   usages = λ j one. stale j (memory.usages j (sym (address j) ∙ one));
   few = omega (arith, ap (λ (c : Capacity). c.limit) capacity);
+  unit = omega (arith, memory.unit, unit);
 }
 
 with_chunk : (d : DeviceState) {dirty : Dirty} {t : Tables} (k : CheckpointValue) (m0 m : LogMap) {c c' : Chunk} → c' ≡ c
@@ -190,6 +192,7 @@ module _ {d : DeviceState} {v : LogMemory} {k : CheckpointValue} {m0 m : LogMap}
             is.running of_file at above there is_named go.dirty is_lifted);
         hidden = same_hidden v.map v'.map m go.hidden is.hidden;
         segments = cc;
+        unit = go.usage.unit ∙ is.unit;
       }
 
 -- ---- a block of the inode map
@@ -241,23 +244,24 @@ module _ (d : DeviceState) (v : LogMemory) (k : CheckpointValue) (m0 m : LogMap)
     two_or_less (suc zero) = inr (omega arith)
     two_or_less (suc (suc n)) = inl (omega arith)
 
-    with_map : length v'.usage.segments ≡ length v.usage.segments
+    with_map : length v'.usage.segments ≡ length v.usage.segments → v'.usage.unit ≡ v.usage.unit
         → Running d (blocks_of v.dirty) (tables_of v') k m0 m (segment_in v.chunk) (chunk_in v.chunk) → IsLoose d v' k m0 m
-    with_map size w = record {
+    with_map size unit w = record {
       running = with_dirty w;
       hidden = same_hidden v.map v'.map m go.hidden is.hidden;
       segments = cc;
+      unit = unit ∙ is.unit;
     }
 
     fetched : 2 ≤ block_in v.map j → IsLoose d v' k m0 m
     fetched above =
         let l = go.lifted above in
-        with_map l.size (map_fetching d _ _ _ k m0 m _ _ j is.running above
+        with_map l.size l.unit (map_fetching d _ _ _ k m0 m _ _ j is.running above
         (assumption (map_addressed l.blocks.address)))
 
     added : block_in v.map j ≡ 0 → IsLoose d v' k m0 m
     added none =
-        with_map (rw (go.added none))
+        with_map (rw (go.added none)) (rw (go.added none))
         (map_adding d _ _ _ k m0 m _ _ j is.running none (record {
           at = map_addressed (λ i. rw (go.added none));
           used = λ i. rw (go.added none);
@@ -341,7 +345,7 @@ on_device content dirty x a ne = cond-false _ _ _ (not_one a ne)
 pub brings_memory : (v v' : LogMemory) (x : Entry) {address : ℕ} {lives : Bool} {bytes : List ℕ} → IsMemory v
     → Brings v v' x address lives bytes → IsMemory v'
 brings_memory v v' x memory go =
-    kept_memory v v' memory go.usage.size go.chunk go.usage.used go.usage.kept go.usage.last go.usage.blocks.address
+    kept_memory v v' memory go.usage.size go.chunk go.usage.used go.usage.kept go.usage.last go.usage.unit go.usage.blocks.address
     (λ j. stays_stale j go.usage.blocks) go.capacity
 
 pub bring_prepares : {d d' : DeviceState} {v v' : LogMemory} (x : Entry) {f address : ℕ} {lives : Bool} {bytes : List ℕ}
@@ -399,13 +403,13 @@ map_prepares : {d : DeviceState} {v v' : LogMemory} {j : ℕ} → IsMemory v →
 map_prepares {d} {v} {v'} {j} memory go = elim (two_or_less (block_in v.map j)) [
   | inl above ↦
       let l = go.lifted above in
-      made (kept_memory v v' memory l.size go.chunk l.used l.kept l.last l.blocks.address
+      made (kept_memory v v' memory l.size go.chunk l.used l.kept l.last l.unit l.blocks.address
       (λ i. stays_stale i l.blocks) capacity) l.size l.clean l.used l.kept
   | inr small ↦ elim (cases_eq (block_in v.map j) 0) [
     | inl none ↦
         let e = go.added none in
         let size : length v'.usage.segments ≡ length v.usage.segments = rw e in
-        made (kept_memory v v' memory size go.chunk (λ s. rw e) (λ s. rw e) (rw e) (λ i. rw e) (λ i on. rw e on) capacity)
+        made (kept_memory v v' memory size go.chunk (λ s. rw e) (λ s. rw e) (rw e) (rw e) (λ i. rw e) (λ i on. rw e on) capacity)
         size (rw e) (λ s. rw e) (λ s. rw e)
     | inr some ↦ rw (go.same (omega arith)) (prepares_looks memory (looks_none d))
   ]

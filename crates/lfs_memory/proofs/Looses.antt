@@ -32,14 +32,15 @@ tight_again is tight = assumption
 pub stays_memory : (v v' : LogMemory) → IsMemory v → v'.chunk ≡ v.chunk → length v'.usage.segments ≡ length v.usage.segments
     → (IsOpenChunk v.chunk v.usage → IsOpenChunk v.chunk v'.usage) → ((j : ℕ) → (tables_of v').at (Usage j) ≡ (tables_of v).at (Usage j))
     → ((j : ℕ) → stale_of v.usage j ≡ true → stale_of v'.usage j ≡ true)
-    → v'.dirty.capacity ≡ v.dirty.capacity → IsMemory v'
-stays_memory v v' memory chunk segments opened same stale capacity = record {
+    → v'.usage.unit ≡ v.usage.unit → v'.dirty.capacity ≡ v.dirty.capacity → IsMemory v'
+stays_memory v v' memory chunk segments opened same stale unit capacity = record {
   count = rw segments memory.count;
   opened = λ some. subst (λ (c : Chunk). IsOpenChunk c v'.usage) (sym chunk)
       (opened (memory.opened (rw chunk at some)));
   short = rw chunk memory.short;
   usages = λ j one. stale j (memory.usages j (sym (same j) ∙ one));
   few = omega (arith, ap (λ (c : Capacity). c.limit) capacity);
+  unit = omega (arith, memory.unit, unit);
 }
 
 pub stays_same : (v v' : LogMemory) → v'.chunk ≡ v.chunk → v'.usage ≡ v.usage → v'.dirty.capacity ≡ v.dirty.capacity → IsMemory v
@@ -47,7 +48,7 @@ pub stays_same : (v v' : LogMemory) → v'.chunk ≡ v.chunk → v'.usage ≡ v.
 stays_same v v' chunk usage capacity memory =
     stays_memory v v' memory chunk (ap (λ (u : UsageTable). length u.segments) usage)
     (subst (λ (u : UsageTable). IsOpenChunk v.chunk u) (sym usage)) (λ j. ap (λ (u : UsageTable). table_at v.map u (Usage j)) usage)
-    (λ j on. ap (λ (u : UsageTable). stale_of u j) usage ∙ on) capacity
+    (λ j on. ap (λ (u : UsageTable). stale_of u j) usage ∙ on) (ap (λ (u : UsageTable). u.unit) usage) capacity
 
 pub below_or : (a : ℕ) (P : Type 0) → (a < 2 → P) → (2 ≤ a → P) → P
 below_or zero P low high = low (omega arith)
@@ -76,7 +77,8 @@ stays_more s = record {
   blocks = omega arith;
 }
 
-tops_same : {map map' : MapValue} (old new : UsageTable) → map' ≡ map → ((j : ℕ) → table_at map new (Usage j) ≡ table_at map old (Usage j))
+pub tops_same : {map map' : MapValue} (old new : UsageTable) → map' ≡ map
+    → ((j : ℕ) → table_at map new (Usage j) ≡ table_at map old (Usage j))
     → (y : Entry) → table_at map' new y ≡ table_at map old y
 tops_same old new is same (Data n i) = refl
 tops_same old new is same (Leaf n q) = refl

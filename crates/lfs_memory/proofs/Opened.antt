@@ -3,7 +3,7 @@ use Rattle.std.proofs.Common.{◌≡◌, ◌<◌, ◌≤◌, ◌+◌, ◌*◌, �
 use Rattle.lfs_model.specs.Checkpoint.{CheckpointValue}
 use Rattle.lfs_model.specs.Content.{Content}
 use Rattle.lfs_model.specs.Crash.{IsFreeSector, StandsOn}
-use Rattle.lfs_model.specs.Device.{DeviceState, MayWrite, CrashWrites, Carries, Elapses, IsLawful, LeavesOnly}
+use Rattle.lfs_model.specs.Device.{DeviceState, MayWriteUnit, CrashWritesUnit, Carries, Elapses, IsLawful, LeavesOnly}
 use Rattle.lfs_model.specs.Entry.{Entry}
 use Rattle.lfs_model.specs.Stands.{LogMap}
 use Rattle.lfs_model.specs.Running.{Dirty, Tables, Running}
@@ -44,9 +44,9 @@ module _ {d : DeviceState} {v : LogMemory} {k : CheckpointValue} {m0 m : LogMap}
 -- a write to a free sector, done or failed
 module _ {d d' : DeviceState} {k : CheckpointValue} (m0 : LogMap) (at : ℕ) (bytes : List ℕ) (settled : IsSettled d k m0)
     (free : IsFreeSector d.content k at)
-    (may : MayWrite at bytes d.content d'.content) (crash : CrashWrites at bytes d d') where
+    (may : MayWriteUnit d.unit at bytes d.content d'.content) (crash : CrashWritesUnit at bytes d d') (unit : d'.unit ≡ d.unit) where
   pub stays_settled : IsSettled d' k m0
-  stays_settled = (settled_write d d' k m0 at bytes settled free may crash).0
+  stays_settled = (settled_write d d' k m0 at bytes settled free may crash unit).0
 
   pub stays_quiet : IsLawful d → Carries d d' → Elapses d d' → LeavesOnly d d' (λ c. StandsOn k.segments c m0)
   stays_quiet lawful carries time =

@@ -38,9 +38,10 @@ use Rattle.lfs_memory.specs.Present.{as_header}
 pub still_log : {d d' : DeviceState} {v : LogMemory} {k : CheckpointValue} {m0 m : LogMap} → Looks d d' → IsLoose d v k m0 m
     → IsLoose d' v k m0 m
 still_log {d} {d'} {v} {k} {m0} {m} looks is = record {
-  running = staying d d' (blocks_of v.dirty) _ k m0 m _ _ is.running looks.untouched;
+  running = staying d d' (blocks_of v.dirty) _ k m0 m _ _ is.running looks.untouched looks.carries.unit;
   hidden = is.hidden;
   segments = is.segments;
+  unit = is.unit;
 }
 
 -- a stop meanwhile leaves what is acknowledged
@@ -50,7 +51,7 @@ pub looks_quiet : {d : DeviceState} (d' : DeviceState) {v : LogMemory} (k : Chec
 looks_quiet {d} d' k m0 m lawful looks is =
     let P : Content → Type 0 = λ c. StandsOn k.segments c m0 in
     goes_on P (started P lawful (settled_stands d k m0 is.running.settled)) looks.carries looks.time
-    (settled_stands d' k m0 (settled_still d d' k m0 is.running.settled looks.untouched))
+    (settled_stands d' k m0 (settled_still d d' k m0 is.running.settled looks.untouched looks.carries.unit))
 
 -- ---- what is there
 module _ (d : DeviceState) (v : LogMemory) (k : CheckpointValue) (m0 m : LogMap) (is : IsLoose d v k m0 m) where

@@ -87,6 +87,7 @@ module _ (d : DeviceState) (v v' : LogMemory) (k : CheckpointValue) (m0 m : LogM
           is.running (λ has named. mapped (sym (is.hidden n low) ∙ named)) counted (is_without m n) go.dirty detached);
       hidden = still_hidden;
       segments = cc;
+      unit = go.usage.unit ∙ is.unit;
     }
 
 pub covered_all : (usage : UsageTable) (lives : Bool) (counts : List ℕ) (i : ℕ) → length counts ≤ i
@@ -120,7 +121,8 @@ module _ {a b : DeviceState} {v mid : LogMemory} {j : ℕ} (lawful : IsLawful a)
         → RemovesFile a b v v' n
     file_removed {v'} go mapped = record {
       looks = looks;
-      memory = kept_memory mid v' first.memory go.usage.size go.chunk go.usage.used go.usage.kept go.usage.last go.usage.address
+      memory = kept_memory mid v' first.memory go.usage.size go.chunk go.usage.used go.usage.kept go.usage.last go.usage.unit
+          go.usage.address
           (never_fresh mid.usage v'.usage go.usage.stale) go.capacity;
       segments = go.usage.size ∙ first.segments;
       clean = go.usage.clean ∙ first.clean;

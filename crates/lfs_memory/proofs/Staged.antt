@@ -52,6 +52,7 @@ version_lost d v memory = record {
     running = raised_runs d _ _ k m0 m _ _ true is.running;
     hidden = is.hidden;
     segments = is.segments;
+    unit = is.unit;
   };
 }
 

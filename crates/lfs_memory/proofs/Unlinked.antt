@@ -61,6 +61,7 @@ module _ (d : DeviceState) (v v' : LogMemory) (k : CheckpointValue) (m0 m : LogM
             (is.hidden n low ∙ shown) (nameless_with m n h) counted go.changes held_from);
         hidden = hidden_with v.map v'.map m n h is.hidden (sym go.hidden.own) go.hidden.others;
         segments = go.usage.size ∙ is.segments;
+        unit = go.usage.unit ∙ is.unit;
       }
 
 -- ---- the whole call: the inode comes into memory, its blocks are counted, and then what the tables and the inode say changes
@@ -79,7 +80,7 @@ module _ {a b c : DeviceState} {v mid : LogMemory} (n : ℕ) (counts : List ℕ)
       → Hides a c v v' n kind form size
   file_hidden {v'} {kind} {form} {size} go = record {
     looks = looks_then lawful first.looks looks;
-    memory = kept_memory mid v' first.memory go.usage.size go.chunk go.usage.used go.usage.kept go.usage.last go.usage.address
+    memory = kept_memory mid v' first.memory go.usage.size go.chunk go.usage.used go.usage.kept go.usage.last go.usage.unit go.usage.address
         (never_fresh mid.usage v'.usage go.usage.stale) go.capacity;
     segments = cc;
     clean = cc;

@@ -38,13 +38,13 @@ is_lost (Link l) x = false
 is_lost (File r) x = is_of r.number x
 is_lost FirstVersion x = false
 
--- a file that loses its last link is there and has a name
+-- a file that loses its last link is there and has a name, and a version that is raised is the first
 abbrev pub FitsLoss : LogMap → Loss → Type 0
 FitsLoss m Nothing = Unit {0}
 FitsLoss m (Blocks c) = Unit {0}
 FitsLoss m (Link l) = FitsHeader l.kind l.form 0 l.size × HasInode m l.number × (is_nameless m l.number ≡ false)
 FitsLoss m (File r) = Unit {0}
-FitsLoss m FirstVersion = Unit {0}
+FitsLoss m FirstVersion = m.version ≡ 1
 
 -- whether the version of the layout is raised, and the version then
 abbrev pub raises : Loss → Bool

@@ -1,7 +1,8 @@
 -- What the log holds in memory, and what that and the device stand for.
-use Rattle.std.specs.Prelude.{◌≡◌, ◌<◌, ◌≤◌, ◌+◌, ◌*◌, ◌/◌, ◌==◌, cond, ℕ, Bool, true, List, [], ◌∷◌, ◌++◌, length, Option, Some, None}
-use Rattle.lfs_model.specs.declared.limits.TheConstants.{CHECKPOINT_SLOTS, CHUNK_BLOCKS, FILE_NUMBERS, MOST_SEGMENTS, SEGMENT_SECTORS}
-use Rattle.lfs_model.specs.declared.limits.TheConstants.{OPEN_CHUNK_BLOCKS, TABLE_BLOCKS}
+use Rattle.std.specs.Prelude.{◌≡◌, ◌<◌, ◌≤◌, ◌+◌, ◌*◌, ◌/◌, ◌%◌, ◌^◌, ◌==◌, cond, ℕ, Bool, true, List, [], ◌∷◌, ◌++◌, length, Option}
+use Rattle.std.specs.Prelude.{Some, None}
+use Rattle.lfs_model.specs.declared.limits.TheConstants.{BLOCK_SEGMENTS, CHECKPOINT_SLOTS, CHUNK_BLOCKS, FILE_NUMBERS, MOST_SEGMENTS}
+use Rattle.lfs_model.specs.declared.limits.TheConstants.{MOST_UNIT_POWER, OPEN_CHUNK_BLOCKS, SEGMENT_SECTORS, TABLE_BLOCKS}
 use Rattle.lfs_model.specs.Entry.{Entry, Data, Leaf, Double, Inode, Map, Usage}
 use Rattle.lfs_model.specs.Checkpoint.{CheckpointValue, IsSegmentCount}
 use Rattle.lfs_model.specs.Crash.{StandsOn}
@@ -12,9 +13,10 @@ use Rattle.lfs_model.specs.Memory.{is_nameless}
 use Rattle.lfs_model.specs.Running.{IsTight, Tables, Running, IsSet}
 use Rattle.lfs_model.specs.Settled.{IsSettled}
 use Rattle.lfs_segments.specs.Table.{UsageTable, used_of, live_of, held_of, age_of, kept_of, address_of, stale_of, clean_in}
-use Rattle.lfs_segments.specs.Chunk.{Chunk, IsOpenChunk, entries_of, room_in}
+use Rattle.lfs_segments.specs.Chunk.{Chunk, IsOpenChunk, StaysInPlace, entries_of, room_in, usage_name}
+use Rattle.lfs_segments.specs.Early.{early_in}
 use Rattle.lfs_segments.specs.Emptied.{IsEmptied}
-use Rattle.lfs_segments.specs.Steps.{Begins, Notes}
+use Rattle.lfs_segments.specs.Steps.{Begins, Notes, Pads}
 use Rattle.lfs_inodes.specs.Blocks.{blocks_of}
 use Rattle.lfs_inodes.specs.MapValue.{MapValue, address_in, is_hidden_in, block_in}
 use Rattle.lfs_memory.specs.declared.memory.LogMemory.{LogMemory}
@@ -63,6 +65,7 @@ pub record IsMemoryUpTo (most : ℕ) (v : LogMemory) : Type 0 where
   pub usages : (j : ℕ) → address_of v.usage j ≡ 1 → stale_of v.usage j ≡ true
   -- no more blocks of files than a cleaning pass may write into the segments that it may take
   pub few : v.dirty.capacity.limit + TABLE_BLOCKS ≤ CHUNK_BLOCKS * (length v.usage.segments / 8)
+  pub unit : v.usage.unit ≤ MOST_UNIT_POWER
 
 -- between two blocks: a chunk that is full is written at once
 abbrev pub IsMemory : LogMemory → Type 0
@@ -82,12 +85,14 @@ pub record IsLoose (d : DeviceState) (v : LogMemory) (k : CheckpointValue) (m0 m
   pub running : Running d (blocks_of v.dirty) (tables_of v) k m0 m (segment_in v.chunk) (chunk_in v.chunk)
   pub hidden : AreHidden v.map m
   pub segments : length v.usage.segments ≡ k.segments
+  pub unit : v.usage.unit ≡ k.unit_power
 
 -- and none does, which a commit asks for
 pub record IsLog (d : DeviceState) (v : LogMemory) (k : CheckpointValue) (m0 m : LogMap) : Type 0 where
   pub running : Running d (blocks_of v.dirty) (tables_of v) k m0 m (segment_in v.chunk) (chunk_in v.chunk)
   pub hidden : AreHidden v.map m
   pub segments : length v.usage.segments ≡ k.segments
+  pub unit : v.usage.unit ≡ k.unit_power
   pub tight : IsTight (blocks_of v.dirty)
 
 -- ---- what parts of a commit do
@@ -129,6 +134,38 @@ pub record Places (v v' : LogMemory) (name : BlockNameValue) (lives : Bool) (age
   pub names : v'.chunk.names ≡ v.chunk.names ++ name ∷ []
   pub address : place ≡ CHECKPOINT_SLOTS + SEGMENT_SECTORS * v'.chunk.segment + used_of middle v'.chunk.segment
   pub opened : IsOpenChunk v'.chunk v'.usage
+
+-- The part in use of the segment where the chunk stands is whole units.
+abbrev pub EndsUnit : LogMemory → Type 0
+EndsUnit v = used_of v.usage v.chunk.segment % 2 ^ v.usage.unit ≡ 0
+
+-- The chunk has a name more, for no block, and its segment a sector more in use. No usage block is stale newly.
+pub record PadsOnce (v v' : LogMemory) : Type 0 where
+  pub map : v'.map ≡ v.map
+  pub dirty : v'.dirty ≡ v.dirty
+  pub some : 0 < length v.chunk.names
+  pub room : used_of v.usage v.chunk.segment < SEGMENT_SECTORS
+  pub names : v'.chunk.names ≡ v.chunk.names ++ usage_name (v.chunk.segment / BLOCK_SEGMENTS) ∷ []
+  pub place : StaysInPlace v.chunk v'.chunk
+  pub pads : Pads v.usage v'.usage v.chunk.segment
+  pub stale : (j : ℕ) → stale_of v'.usage j ≡ stale_of v.usage j
+  pub opened : IsOpenChunk v'.chunk v'.usage
+
+-- or so many
+pub data PadsChunk (v : LogMemory) : LogMemory → Type 0 where
+  nothing : PadsChunk v v
+  more : (w v' : LogMemory) → PadsChunk v w → PadsOnce w v' → PadsChunk v v'
+
+-- All but the names of the chunk and what is in use of its segment is as it was.
+pub record OnlyPads (v v' : LogMemory) : Type 0 where
+  pub map : v'.map ≡ v.map
+  pub dirty : v'.dirty ≡ v.dirty
+  pub blocks : (j : ℕ) → (stale_of v'.usage j ≡ stale_of v.usage j) × (address_of v'.usage j ≡ address_of v.usage j)
+  pub kept : (s : ℕ) → kept_of v'.usage s ≡ kept_of v.usage s
+  pub size : length v'.usage.segments ≡ length v.usage.segments
+  pub clean : clean_in v'.usage.segments ≡ clean_in v.usage.segments
+  pub early : early_in v'.usage.segments ≡ early_in v.usage.segments
+  pub unit : v'.usage.unit ≡ v.usage.unit
 
 -- The inode map points to x at this place, if x is an inode, and to the others as before.
 pub record IsPointedAt (map map' : MapValue) (x : Entry) (place : ℕ) : Type 0 where

@@ -43,6 +43,7 @@ pub record TakesCounts (old new : UsageTable) (lives : Bool) (counts : ℕ → �
   pub age : (s : ℕ) → age_of new s ≡ age_of old s
   pub kept : (s : ℕ) → kept_of new s ≡ kept_of old s
   pub last : new.last ≡ old.last
+  pub unit : new.unit ≡ old.unit
   pub address : (j : ℕ) → address_of new j ≡ address_of old j
   pub changed : (s : ℕ) → 0 < counts s → stale_of new (s / BLOCK_SEGMENTS) ≡ true
   pub stale : (j : ℕ) → stale_of new j ≡ false → stale_of old j ≡ false

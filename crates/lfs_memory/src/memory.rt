@@ -1,13 +1,14 @@
 //! What the log holds in memory.
-ghost use Rattle.std.specs.Prelude.{◌≡◌, ◌<◌, ◌≤◌, ◌+◌, length, Bool};
+ghost use Rattle.std.specs.Prelude.{◌≡◌, ◌<◌, ◌≤◌, ◌+◌, ◌%◌, ◌^◌, length, Bool};
 ghost use Rattle.lfs_model.specs.Summary.{IsPlaced};
 ghost use Rattle.lfs_inodes.specs.Key.{entry_of};
-ghost use Rattle.lfs_memory.specs.Memory.{IsMemory, IsPointedAt, Places, room_of};
-ghost use Rattle.lfs_segments.specs.Table.{clean_in};
+ghost use Rattle.lfs_memory.specs.Memory.{IsMemory, IsMemoryUpTo, IsPointedAt, PadsOnce, Places, room_of};
+ghost use Rattle.lfs_segments.specs.Table.{clean_in, used_of};
 ghost use Rattle.lfs_segments.specs.Chunk.{due_in};
 
 use lfs_inodes::{BlockKey, DirtyTable, InodeMap, header_of};
 use lfs_layout::BlockName;
+use lfs_model::limits::{CHUNK_BLOCKS, SEGMENT_SECTORS};
 use lfs_model::{BlockKind, Kind};
 use lfs_segments::{ChunkWriter, Usage};
 
@@ -36,6 +37,29 @@ impl LogMemory {
             self.chunk.begin(&mut self.usage, age).unwrap();
         }
         self.chunk.place(&mut self.usage, name, lives)
+    }
+
+    /// How many names more the chunk wants, to end on a unit.
+    pub fn lacking(&self) -> u16
+        requires memory { IsMemoryUpTo CHUNK_BLOCKS self.now }
+        requires some { 0 < length self.now.chunk.names }
+        ensures ends { (used_of self.now.usage self.now.chunk.segment + result)
+            % 2 ^ self.now.usage.unit ≡ 0 }
+        ensures room { used_of self.now.usage self.now.chunk.segment + result ≤ SEGMENT_SECTORS }
+    {
+        let unit = self.usage.unit_sectors();
+        let rest = self.usage.state(self.chunk.segment()).used % unit;
+        if rest == 0 { 0 } else { unit - rest }
+    }
+
+    /// Names a block more in the chunk, to whose sector no address leads.
+    pub fn pad(&mut self)
+        requires memory { IsMemoryUpTo CHUNK_BLOCKS self.old }
+        requires some { 0 < length self.old.chunk.names }
+        requires room { used_of self.old.usage self.old.chunk.segment < SEGMENT_SECTORS }
+        ensures { PadsOnce self.old self.new }
+    {
+        self.chunk.pad(&mut self.usage);
     }
 
     /// Whether look-ups go through a block, so that it is likely to be read soon: an inode, a block of

@@ -69,6 +69,7 @@ module _ (d : DeviceState) (dirty dirty' : Dirty) (t : Tables) (k : CheckpointVa
     };
     fresh = λ j off low. subst (SpellsUsage t j) (sym (usage j)) (w.fresh j off low);
     part = w.part;
+    whole = w.whole;
     kept = w.kept;
     opened = open_same d.content w.memory M' t t seg chunk segments (ap (λ (r : ℕ → Row). r seg) rows) (λ s. refl) w.opened;
   }

@@ -13,7 +13,7 @@ use Rattle.lfs_model.specs.Running.{Dirty, Tables, IsTables, IsCached, SpellsUsa
 use Rattle.lfs_model.specs.Stands.{LogMap}
 use Rattle.lfs_model.proofs.Detaching.{of_file_or_not, detaching}
 use Rattle.lfs_model.proofs.DetachedCounts.{detached_live}
-use Rattle.lfs_model.proofs.Running.{usage_kept, part_same, kept_same, open_same}
+use Rattle.lfs_model.proofs.Running.{usage_kept, part_same, whole_same, kept_same, open_same}
 use Rattle.lfs_model.proofs.Tables.{usage_table}
 
 -- ---- usage blocks stay right where counts change only in those that are stale
@@ -179,6 +179,7 @@ module _ (d : DeviceState) (dirty dirty' : Dirty) (t t' : Tables) (k : Checkpoin
         (counts_fresh t t' counts same_live less.used less.age less.changed j off (w.memory.bytes (Usage j))
         (w.fresh j (less.stale j off) low));
     part = part_same t t' less.used less.kept w.part;
+    whole = whole_same k t t' seg less.used w.whole;
     kept = kept_same d.content k t t' less.kept w.kept;
     opened = open_same d.content w.memory next t t' seg chunk refl refl less.kept w.opened;
   }

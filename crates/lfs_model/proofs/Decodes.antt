@@ -227,6 +227,7 @@ module _ (c : Content) (k : CheckpointValue) (m : LogMap) (sized : IsSized c) (s
     rows = st.stages.rows;
     named = st.stages.named;
     fit = st.stages.usages.fit;
+    whole = st.stages.usages.whole;
     less = st.stages.usages.less;
     both = st.stages.usages.both;
     past = st.stages.usages.past;

@@ -13,7 +13,7 @@ use Rattle.lfs_model.specs.declared.BlockKind.{BlockKind}
 use Rattle.lfs_model.specs.declared.BlockKind.TheVariants.{Data, Leaf, Double, Inode, Map, Usage}
 use Rattle.lfs_model.specs.Fields.{value_in, read32}
 use Rattle.lfs_model.specs.Checkpoint.{CheckpointValue, FitsCheckpoint, IsSegmentCount, IsVersion, checkpoint_in, checkpoint_of}
-use Rattle.lfs_model.specs.Checkpoint.{checkpoint_sector, is_segment_count, is_version, may_be_checkpoint}
+use Rattle.lfs_model.specs.Checkpoint.{checkpoint_sector, is_segment_count, is_version, may_be_checkpoint, most_unit_power}
 use Rattle.lfs_model.specs.Inode.{InodeValue, FitsInode, IsForm, IsSize, inode_in, inode_of, inode_sector, is_form, is_size, may_be_inode}
 use Rattle.lfs_model.specs.Summary.{BlockNameValue, FitsSummary, IsPlaced, blocks_of, is_placed, may_be_summary, no_block, summary_in}
 use Rattle.lfs_model.specs.Summary.{summary_sector}
@@ -74,27 +74,25 @@ count_from n e =
     record { least = leb-true 64 n a.0; most = leb-true n 1024 b.0; eighths = eqb-true _ 0 b.1 }
 
 version_test : (v : ℕ) → IsVersion v → is_version v ≡ true
-version_test v is = elim is as (λ _. is_version v ≡ true)
-    [ inl one ↦ subst (λ (n : ℕ). is_version n ≡ true) (sym one) refl | inr two ↦ subst (λ (n : ℕ). is_version n ≡ true) (sym two) refl ]
+version_test v is = and_from _ _ (le-leb 1 v is.0) (le-leb v 3 is.1)
 
 pub version_from : (v : ℕ) → is_version v ≡ true → IsVersion v
-version_from v e = ⊎_elim
-    (λ (t : (v == 1) ≡ true). inl (eqb-true v 1 t))
-    (λ (f : (v == 1) ≡ false). inr (eqb-true v 2 (subst (λ (b : Bool). (b || (v == 2)) ≡ true) f e)))
-    (cases_Bool (v == 1))
+version_from v e = let a = and_parts (nat_le 1 v) (nat_le v 3) e in (leb-true 1 v a.0, leb-true v 3 a.1)
 
 checkpoint_test : (c : CheckpointValue) → FitsCheckpoint c → may_be_checkpoint c ≡ true
-checkpoint_test c p =
-    and_from _ _ (version_test c.version p.version) (and_from _ _ (le-leb 1 c.number p.number) (count_test c.segments p.segments))
+checkpoint_test c p = and_from _ _ (version_test c.version p.version) (and_from _ _ (le-leb c.unit_power (most_unit_power c.version) p.unit)
+    (and_from _ _ (le-leb 1 c.number p.number) (count_test c.segments p.segments)))
 
 checkpoint_from : (s : List ℕ) → IsBytes s → length s ≡ 512 → may_be_checkpoint (checkpoint_of s) ≡ true → FitsCheckpoint (checkpoint_of s)
 checkpoint_from s bytes long e =
     let v = and_parts _ _ e in
-    let a = and_parts _ _ v.1 in record {
+    let w = and_parts _ _ v.1 in
+    let a = and_parts _ _ w.1 in record {
       number = leb-true 1 _ a.0;
       number_fits = read64-lt 8 s bytes (omega arith);
       segments = count_from _ a.1;
       version = version_from _ v.0;
+      unit = leb-true _ _ w.0;
       map_length = length-run read32 4 32 32 s;
       map_fits = numbers_fit 32 32 s bytes (omega arith);
       usage_length = length-run read32 4 16 160 s;
@@ -142,22 +140,22 @@ unfolding is_form
 form_test File zero p = refl
 form_test File (suc f) p = absurd (p)
 form_test Directory zero p = refl
-form_test Directory (suc f) p = le-leb (suc f) 1 (omega (arith, p))
+form_test Directory (suc f) p = le-leb (suc f) 1 (omega (arith, p.0))
 form_test Link zero p = refl
 form_test Link (suc f) p = absurd (p)
 
 pub form_from : (k : Kind) (f : ℕ) → is_form k f ≡ true → IsForm 2 k f
 unfolding is_form
 form_from File f e = subst (IsForm 2 File) (sym (eqb-true f 0 e)) tt
-form_from Directory zero e = tt
-form_from Directory (suc f) e = let le = leb-true (suc f) 1 e in omega (arith, le)
+form_from Directory zero e = omega arith
+form_from Directory (suc f) e = let le = leb-true (suc f) 1 e in (omega (arith, le), omega arith)
 form_from Link f e = subst (IsForm 2 Link) (sym (eqb-true f 0 e)) tt
 
 -- each is a byte
 pub form_small : (k : Kind) (f : ℕ) → IsForm 2 k f → f ≤ 1
 form_small k zero p = omega arith
 form_small File (suc f) p = absurd (p)
-form_small Directory (suc f) p = omega (arith, p)
+form_small Directory (suc f) p = omega (arith, p.0)
 form_small Link (suc f) p = absurd (p)
 
 within_test : (n most : ℕ) → (1 ≤ n) × (n ≤ most) → (nat_le 1 n && nat_le n most) ≡ true

@@ -8,7 +8,8 @@ use Rattle.std.proofs.lemmas.Cmp.{nat_cmp_total}
 use Rattle.std.specs.FinMap.{find, is_sorted}
 use Rattle.std.specs.FinMap.Entries.{is_sorted-put, is_sorted-where_key}
 use Rattle.lfs_model.specs.Tree.{Tree, Names, Node, File, Dir, Link, State, node, with_node, without, names_of, is_dir, entry, byte_cmp}
-use Rattle.lfs_model.specs.Tree.{names, links, links_at}
+use Rattle.lfs_model.specs.Tree.{IsDirectoryForm, names, links, links_at}
+use Rattle.lfs_model.specs.Checkpoint.{IsVersion}
 use Rattle.lfs_model.specs.Need.{need, data_of, meta_of}
 use Rattle.lfs_model.specs.Sound.{Sound, NamesGive, IsReachable, root, below, IsWithinLimits, IsOfVersion, IsFile, IsKeptOpen}
 use Rattle.lfs_model.specs.Step.{with_tree}
@@ -29,7 +30,7 @@ pub data Under (t : Tree) (n : ℕ) : ℕ → Type 0 where
 pub record IsDetached (N : ℕ) (s : State) (n : ℕ) : Type 0 where
   pub in_order : T (is_sorted nat_cmp s.tree)
   pub handles_in_order : T (is_sorted nat_cmp s.handles)
-  pub version : (s.version ≡ 1) ⊎ (s.version ≡ 2)
+  pub version : IsVersion s.version
   pub forms : (q : ℕ) (x : Node) → node s.tree q ≡ Some x → IsOfVersion s.version x
   pub root : is_dir (node s.tree 1) ≡ true
   pub numbers : (q : ℕ) → node s.tree q ≢ None → (1 ≤ q) × (q ≤ 4095)
@@ -163,7 +164,7 @@ module _ (N : ℕ) (s : State) (n form : ℕ) (was : IsDetached N s n) (empty : 
 -- ---- a new one
 
 module _ (N : ℕ) (s : State) (sound : Sound N s) (n form : ℕ) (fresh : node s.tree n ≡ None) (in_range : (1 ≤ n) × (n ≤ 4095))
-    (known : form < s.version) where
+    (known : IsDirectoryForm s.version form) where
   abbrev pub made : Node
   made = Dir form []
 

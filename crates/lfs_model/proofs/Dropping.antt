@@ -11,6 +11,7 @@ use Rattle.std.specs.FinMap.{find, is_sorted}
 use Rattle.std.specs.FinMap.Entries.{is_sorted-where_key}
 use Rattle.lfs_model.specs.Tree.{Tree, Names, Node, File, Dir, Link, State, node, without, names_of, is_dir, entry, byte_cmp, names, links}
 use Rattle.lfs_model.specs.Tree.{links_at, opened}
+use Rattle.lfs_model.specs.Checkpoint.{IsVersion}
 use Rattle.lfs_model.specs.Need.{need, data_of, meta_of}
 use Rattle.lfs_model.specs.Sound.{Sound, NamesGive, IsReachable, root, below, IsWithinLimits, IsOfVersion, IsFile, IsKeptOpen}
 use Rattle.lfs_model.specs.Step.{let_go, with_tree}
@@ -23,7 +24,7 @@ use Rattle.lfs_model.proofs.Shrinking.{named_counts}
 pub record SoundBut (N : ℕ) (s : State) (n : ℕ) : Type 0 where
   pub in_order : T (is_sorted nat_cmp s.tree)
   pub handles_in_order : T (is_sorted nat_cmp s.handles)
-  pub version : (s.version ≡ 1) ⊎ (s.version ≡ 2)
+  pub version : IsVersion s.version
   pub forms : (q : ℕ) (x : Node) → node s.tree q ≡ Some x → IsOfVersion s.version x
   pub root : is_dir (node s.tree 1) ≡ true
   pub numbers : (q : ℕ) → node s.tree q ≢ None → (1 ≤ q) × (q ≤ 4095)

@@ -127,6 +127,7 @@ module _ (c : Content) (k : CheckpointValue) (A : Entry → ℕ) (m : LogMap) (f
       fresh = fresh 1;
       readable = λ j lt. en.long (Usage j) lt;
       fit = en.fit;
+      whole = en.whole;
       less = en.less;
       both = en.both;
       past = en.past;

@@ -4,7 +4,7 @@ use Rattle.std.proofs.Common.{[], ◌∷◌, length, get_or, Option, Some, None,
 use Rattle.std.proofs.lemmas.List.{nil_from_length}
 use Rattle.std.proofs.lemmas.Bool.{cases_eq, cases_Bool, lt-ltb, ltb-true, cond-true, cond-false, false_from_ne_true}
 use Rattle.lfs_model.specs.Entry.{Entry, Data, Leaf, Double, Inode, Map, Usage, Header, header, half}
-use Rattle.lfs_model.specs.Checkpoint.{CheckpointValue, layout_version}
+use Rattle.lfs_model.specs.Checkpoint.{CheckpointValue, layout_version, unit_sectors}
 use Rattle.lfs_model.specs.Content.{Content, block}
 use Rattle.lfs_model.specs.Inode.{IsForm}
 use Rattle.lfs_model.specs.Reach.{address, Row, View, row, row_by, used, place_in}
@@ -335,6 +335,7 @@ module _ (e : Content) (m : LogMap) (M : Memory) (o : ℕ) (next : CheckpointVal
     named = all_named;
     fit = λ s.
         by_live _ s (λ z. let u = used_none s z in omega arith) (λ nz. let u = used_some s nz in let l = laid.short s in omega arith);
+    whole = λ s lt. ap (λ (n : ℕ). n % unit_sectors next) (done.used s) ∙ done.whole s lt;
     less = λ s. by_live _ s (λ z. inl (used_none s z))
         (λ nz. let u = used_some s nz in let l = done.live s in let r = live_some_row s nz in inr (omega arith, omega arith));
     both = λ s z. by_live _ s (λ z. done.live s ∙ z) (λ nz. let u = used_some s nz in let r = live_some_row s nz in absurd (omega arith));

@@ -41,7 +41,7 @@ pub fresh_sound : (N : ℕ) → 64 ≤ N → Sound N fresh
 fresh_sound N h = record {
   in_order = tt;
   handles_in_order = tt;
-  version = inl refl;
+  version = (omega arith, omega arith);
   forms = each (λ n x. IsOfVersion 1 x) (omega arith);
   root = refl;
   numbers = at_one (λ n. (1 ≤ n) × (n ≤ 4095)) (omega arith, omega arith);

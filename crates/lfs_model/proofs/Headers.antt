@@ -19,7 +19,7 @@ use Rattle.lfs_model.proofs.Entries.{same_entry}
 use Rattle.lfs_model.proofs.FileChanges.{relabeling, creating}
 use Rattle.lfs_model.proofs.Files.{file_there}
 use Rattle.lfs_model.proofs.Running.{pick, pick_yes, pick_no, taken_memory, is_taken, addressed, usage_kept, part_same, kept_same}
-use Rattle.lfs_model.proofs.Running.{open_same}
+use Rattle.lfs_model.proofs.Running.{whole_same, open_same}
 
 -- which entries are shown, where one file's header is another
 shown_but : (m m' : LogMap) (n : ℕ) (h : Option Header) → IsWithHeader m n h m' → (x : Entry) → (file_of x ≡ Some n → ⊥)
@@ -111,6 +111,7 @@ module _ (d : DeviceState) (dirty dirty' : Dirty) (t t' : Tables) (k : Checkpoin
         (usage_kept t t' i (w.memory.bytes (Usage i)) (λ q lt. (r.used (64 * i + q), r.live (64 * i + q), r.age (64 * i + q)))
         (w.fresh i (sym (r.stale i) ∙ off) low));
     part = part_same t t' r.used r.kept w.part;
+    whole = whole_same k t t' seg r.used w.whole;
     kept = kept_same d.content k t t' r.kept w.kept;
     opened = open_same d.content w.memory next t t' seg chunk refl refl r.kept w.opened;
   }
@@ -264,6 +265,7 @@ module _ (d : DeviceState) (dirty dirty' : Dirty) (t : Tables) (k : CheckpointVa
     fresh = λ j off low.
         subst (SpellsUsage t j) (sym (labeled_kept (Usage j) (λ h. let bad : Usage j ≡ Inode n = h in absurd (cc)))) (w.fresh j off low);
     part = w.part;
+    whole = w.whole;
     kept = w.kept;
     opened = open_same d.content w.memory labeled t t seg chunk refl refl (λ s. refl) w.opened;
   }

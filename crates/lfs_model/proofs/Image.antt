@@ -8,9 +8,9 @@ use Rattle.std.proofs.lemmas.Bool.{cases_eq, cases_lt, cond-true, cond-false, lt
 use Rattle.std.specs.List.{range_with_len}
 use Rattle.std.specs.Option.{option_map}
 use Rattle.lfs_model.specs.Fields.{Are32, le16, le32, le64, words, zeros, part, read32, read64}
-use Rattle.lfs_model.specs.Checkpoint.{CheckpointValue, FitsCheckpoint, IsSegmentCount, IsVersion, checkpoint_in, checkpoint_sector}
-use Rattle.lfs_model.specs.Checkpoint.{usage_blocks}
-use Rattle.lfs_model.specs.Checkpoint.{checkpoint_sector_of, checkpoint_text, layout_version}
+use Rattle.lfs_model.specs.Checkpoint.{CheckpointValue, FitsCheckpoint, IsSectorVersion, IsSegmentCount, IsVersion, checkpoint_in}
+use Rattle.lfs_model.specs.Checkpoint.{checkpoint_fields, checkpoint_sector, checkpoint_sector_of, checkpoint_text, layout_version}
+use Rattle.lfs_model.specs.Checkpoint.{most_unit_power, usage_blocks}
 use Rattle.lfs_model.specs.declared.Kind.TheVariants.{Directory}
 use Rattle.lfs_model.specs.Device.{Cell, cell_at}
 use Rattle.lfs_model.specs.Inode.{FitsInode, IsForm, IsSize, inode_in, inode_sector, kind_byte}
@@ -20,10 +20,11 @@ use Rattle.lfs_model.specs.Usage.{FitsUsage, IsUse, no_use, usage_entry, usage_s
 use Rattle.lfs_model.specs.Entry.{Entry, Data, Leaf, Double, Inode, Map, Usage, Header, word, half, entries_in, entry_of}
 use Rattle.lfs_model.specs.Content.{Content, newest, newer, block, bytes_of, slot, with_parity}
 use Rattle.lfs_model.specs.Reach.{Row, View, row_by, chunks, place_in, view_by}
+use Rattle.lfs_model.specs.Tree.{new_form}
 use Rattle.lfs_model.specs.Stands.{used_in, live_in, age_in, is_live, is_clean, label_at, AreCounted, AreNamed, EnoughClean, count_up}
 use Rattle.lfs_model.specs.Encodes.{Has, HasInode, Spells, SpellsInode, IsLogMap, Encodes}
 use Rattle.lfs_model.specs.Live.{live_count}
-use Rattle.lfs_model.specs.Image.{blank, first_usage_address, first_checkpoint, first_name, first_names, new_form, root_inode}
+use Rattle.lfs_model.specs.Image.{blank, first_usage_address, first_checkpoint, first_name, first_names, first_used, root_inode}
 use Rattle.lfs_model.specs.Image.{first_pointers, first_uses, IsNew, empty_directory, empty_root, Formatted, new_image, image, NewImages}
 use Rattle.lfs_model.proofs.Decoding.{checkpoint_some, inode_some, summary_some}
 use Rattle.lfs_model.proofs.Encodes.{encoding, word_nil}
@@ -32,6 +33,9 @@ use Rattle.lfs_model.proofs.Live.{chunk_read, count_up_none, count_up_more, coun
 use Rattle.lfs_model.proofs.PointerPlaces.{length-pointers}
 use Rattle.lfs_model.proofs.UsagePlaces.{length-usage, use_of}
 use Rattle.lfs_model.proofs.UsageStage.{half_nil}
+use Rattle.lfs_model.proofs.Newest.{few_at_most}
+use Rattle.lfs_model.proofs.UnitSizes.{made_whole, nothing_whole}
+use Rattle.lfs_model.proofs.Versions.{by_sector_version, by_version, known_sector, new_form_known}
 use Rattle.lfs_model.proofs.Words.{inode_words, pointers_are, UseWords, use_words}
 
 get_or_blank : (n j : ℕ) → get_or (blank n) j 0 ≡ 0
@@ -51,19 +55,15 @@ block_at c (suc at) bytes some is = ap bytes_of is
 -- ---- the parts
 
 small_form : (version : ℕ) → IsVersion version → IsForm version Directory (new_form version)
-small_form version known = ⊎_elim (λ (e : version ≡ 1). subst (λ (v : ℕ). IsForm v Directory (new_form v)) (sym e) tt)
-    (λ (e : version ≡ 2). subst (λ (v : ℕ). IsForm v Directory (new_form v)) (sym e) (lit≤ tt))
-    known
+small_form = new_form_known
 
 fits_inode : (version : ℕ) → IsVersion version → FitsInode (root_inode version)
 unfolding IsSize Are32
 fits_inode version known = record {
   number = (lit≤ tt, lit≤ tt);
   links = (lit≤ tt, lit≤ tt);
-  form = ⊎_elim (λ (e : version ≡ 1). subst (λ (v : ℕ). IsForm 2 Directory (new_form v)) (sym e) tt)
-      (λ (e : version ≡ 2). subst (λ (v : ℕ). IsForm 2 Directory (new_form v)) (sym e) (lit≤ tt)) known;
-  size = ⊎_elim (λ (e : version ≡ 1). subst (λ (v : ℕ). IsSize (new_form v) Directory 0) (sym e) (refl, lit≤ tt))
-      (λ (e : version ≡ 2). subst (λ (v : ℕ). IsSize (new_form v) Directory 0) (sym e) (refl, lit≤ tt)) known;
+  form = by_version (λ v. IsForm 2 Directory (new_form v)) (lit≤ tt) (refl, lit≤ tt) (refl, lit≤ tt) version known;
+  size = by_version (λ v. IsSize (new_form v) Directory 0) (refl, lit≤ tt) (refl, lit≤ tt) (refl, lit≤ tt) version known;
   direct_length = refl;
   direct_fits = λ i. let z = get_or_blank 112 i in omega arith;
   single_fits = omega arith;
@@ -124,18 +124,34 @@ counted_most p all (suc (suc n)) =
 
 -- ---- the volume
 
-module _ (version N : ℕ) (c : Content) (new : IsNew version N c) where
+module _ (version N p : ℕ) (c : Content) (new : IsNew version N p c) where
   abbrev u : ℕ
   u = usage_blocks N
 
   abbrev k : CheckpointValue
-  k = first_checkpoint version N
+  k = first_checkpoint version N p
 
   blocks_low : 1 ≤ u
   blocks_low = let low = new.count.least in omega arith
 
   blocks_high : u ≤ 16
   blocks_high = let high = new.count.most in omega arith
+
+  -- how much is in use
+  abbrev used : ℕ
+  used = first_used N p
+
+  few : p ≤ 6
+  few = omega (arith, new.unit, few_at_most (version == 3))
+
+  used_least : 3 + u ≤ used
+  used_least = (made_whole p few u blocks_high).0
+
+  used_most : used ≤ 64
+  used_most = (made_whole p few u blocks_high).1
+
+  used_whole : used % 2 ^ p ≡ 0
+  used_whole = (made_whole p few u blocks_high).2
 
   usage_length : length k.usage ≡ 16
   usage_length = length-map-range_with_len (first_usage_address N) 0 16
@@ -161,6 +177,7 @@ module _ (version N : ℕ) (c : Content) (new : IsNew version N c) where
     number_fits = omega arith;
     segments = new.count;
     version = new.known;
+    unit = new.unit;
     map_length = refl;
     map_fits = map_fits;
     usage_length = usage_length;
@@ -181,32 +198,43 @@ module _ (version N : ℕ) (c : Content) (new : IsNew version N c) where
 
   -- ---- the first chunk
   abbrev names : List BlockNameValue
-  names = first_names N
+  names = first_names N p
 
-  names_length : length names ≡ 2 + u
-  names_length = length-map-range_with_len first_name 0 (2 + u)
+  names_length : length names ≡ used - 1
+  names_length = length-map-range_with_len (first_name N) 0 (used - 1)
 
-  name_at : (i : ℕ) (d : BlockNameValue) → i < 2 + u → get_or names i d ≡ first_name i
-  name_at i d lt = get_or-map-range_with_len first_name 0 (2 + u) i i d lt (omega arith)
+  name_at : (i : ℕ) (d : BlockNameValue) → i < used - 1 → get_or names i d ≡ first_name N i
+  name_at i d lt = get_or-map-range_with_len (first_name N) 0 (used - 1) i i d lt (omega arith)
 
-  placed : (i : ℕ) → i < 2 + u → IsPlaced (first_name i).kind (first_name i).file (first_name i).index
+  -- which usage block a name is of
+  own_index : (j : ℕ) → j < u → cond (nat_lt j u) j 0 ≡ j
+  own_index j lt = cond-true (nat_lt j u) j 0 (lt-ltb j u lt)
+
+  padded_index : (j : ℕ) → u ≤ j → cond (nat_lt j u) j 0 ≡ 0
+  padded_index j le = cond-false (nat_lt j u) j 0 (le-ltb j u le)
+
+  index_low : (j : ℕ) → cond (nat_lt j u) j 0 ≤ 15
+  index_low j = ⊎_elim (λ (lt : j < u). let own = own_index j lt in let most = blocks_high in omega (arith, own, most, lt))
+      (λ (le : u ≤ j). let none = padded_index j le in omega (arith, none)) (cases_lt j u)
+
+  placed : (i : ℕ) → IsPlaced (first_name N i).kind (first_name N i).file (first_name N i).index
   unfolding IsPlaced
-  placed zero lt = ((lit≤ tt, lit≤ tt), refl)
-  placed (suc zero) lt = (refl, lit≤ tt)
-  placed (suc (suc j)) lt = (refl, let most = blocks_high in omega arith)
+  placed zero = ((lit≤ tt, lit≤ tt), refl)
+  placed (suc zero) = (refl, lit≤ tt)
+  placed (suc (suc j)) = (refl, index_low j)
 
   fits_summary : FitsSummary names
   fits_summary = record {
-    some = let l = names_length in omega arith;
-    room = let l = names_length in let most = blocks_high in omega arith;
-    each = λ i lt. let below : i < 2 + u = (let l = names_length in omega arith) in
-        subst (λ (b : BlockNameValue). IsPlaced b.kind b.file b.index) (sym (name_at i no_block below)) (placed i below);
+    some = omega (arith, names_length, used_least);
+    room = omega (arith, names_length, used_most);
+    each = λ i lt. let below : i < used - 1 = omega (arith, names_length, lt) in
+        subst (λ (b : BlockNameValue). IsPlaced b.kind b.file b.index) (sym (name_at i no_block below)) (placed i);
   }
 
   abbrev entries : List Entry
   entries = map entry_of names
 
-  entries_length : length entries ≡ 2 + u
+  entries_length : length entries ≡ used - 1
   entries_length = length-map names entry_of ∙ names_length
 
   named_in : entries_in (summary_sector names) ≡ Some entries
@@ -274,22 +302,22 @@ module _ (version N : ℕ) (c : Content) (new : IsNew version N c) where
   map_block : block c 4 ≡ pointer_sector first_pointers
   map_block = block_at c 4 (pointer_sector first_pointers) (omega arith) new.pointers
 
-  usage_block : (j : ℕ) → j < u → block c (A (Usage j)) ≡ usage_sector (first_uses N j)
-  usage_block j lt = ap (block c) (usage_some j lt) ∙ block_at c (5 + j) (usage_sector (first_uses N j)) (omega arith) (new.uses j lt)
+  usage_block : (j : ℕ) → j < u → block c (A (Usage j)) ≡ usage_sector (first_uses N p j)
+  usage_block j lt = ap (block c) (usage_some j lt) ∙ block_at c (5 + j) (usage_sector (first_uses N p j)) (omega arith) (new.uses j lt)
 
-  first_use : IsUse (record { used = 3 + u; live = 2 + u; age = 1 })
+  first_use : IsUse (record { used = first_used N p; live = 2 + u; age = 1 })
   first_use = record {
-    used = let most = blocks_high in omega arith;
-    both = (λ e. absurd (omega arith), λ e. absurd (omega arith));
-    live = omega arith;
-    fewer = λ some. omega arith;
+    used = used_most;
+    both = (λ e. absurd (omega (arith, e, used_least)), λ e. absurd (omega arith));
+    live = omega (arith, used_least, used_most);
+    fewer = λ some. omega (arith, used_least);
     age = omega arith;
   }
 
-  fits_uses : (j : ℕ) → FitsUsage 64 (first_uses N j)
+  fits_uses : (j : ℕ) → FitsUsage 64 (first_uses N p j)
   fits_uses zero = record { entries = refl; each = each; past = λ i le lt. absurd (omega arith) }
     where
-      each : (i : ℕ) → i < 64 → IsUse (get_or (first_uses N 0) i no_use)
+      each : (i : ℕ) → i < 64 → IsUse (get_or (first_uses N p 0) i no_use)
       each zero lt = first_use
       each (suc i) lt = subst IsUse (sym (unused_at 63 i)) is_unused
   fits_uses (suc j) =
@@ -298,7 +326,7 @@ module _ (version N : ℕ) (c : Content) (new : IsNew version N c) where
   long : (e : Entry) → 0 < A e → length (block c (A e)) ≡ 512
   long = at_each (λ e. length (block c (A e)) ≡ 512) (ap length inode_block ∙ length-inode (root_inode version)
       (fits_inode version new.known)) (ap length map_block ∙ length-pointers first_pointers fits_pointers)
-      (λ j lt. ap length (usage_block j lt) ∙ length-usage 64 (first_uses N j) (fits_uses j))
+      (λ j lt. ap length (usage_block j lt) ∙ length-usage 64 (first_uses N p j) (fits_uses j))
 
   pointer_at : (i : ℕ) → get_or first_pointers i 0 ≡ cond (i == 1) 3 0
   pointer_at zero = refl
@@ -324,12 +352,12 @@ module _ (version N : ℕ) (c : Content) (new : IsNew version N c) where
       }
 
   -- ---- the usage table
-  use_there : (j i : ℕ) → j < u → i < 64 → UseWords (block c (A (Usage j))) i (get_or (first_uses N j) i no_use)
+  use_there : (j i : ℕ) → j < u → i < 64 → UseWords (block c (A (Usage j))) i (get_or (first_uses N p j) i no_use)
   use_there j i below lt =
-      subst (UseWords (block c (A (Usage j))) i) (sym (use_of 64 (first_uses N j) (fits_uses j)
+      subst (UseWords (block c (A (Usage j))) i) (sym (use_of 64 (first_uses N p j) (fits_uses j)
       (usage_block j below) i lt)) (use_words (block c (A (Usage j))) i)
 
-  no_use_there : (j i : ℕ) → (j ≡ 0 → 0 < i) → get_or (first_uses N j) i no_use ≡ no_use
+  no_use_there : (j i : ℕ) → (j ≡ 0 → 0 < i) → get_or (first_uses N p j) i no_use ≡ no_use
   no_use_there zero zero some = let h = some refl in absurd (omega arith)
   no_use_there zero (suc i) some = unused_at 63 i
   no_use_there (suc j) i some = unused_at 64 i
@@ -356,7 +384,7 @@ module _ (version N : ℕ) (c : Content) (new : IsNew version N c) where
   age_past : (s : ℕ) → 0 < s → age_in v s ≡ 0
   age_past s lt = (unused s lt).age
 
-  used_first : used_in v 0 ≡ 3 + u
+  used_first : used_in v 0 ≡ used
   used_first = (use_there 0 0 (let low = blocks_low in omega arith) (omega arith)).used
 
   live_first : live_in v 0 ≡ 2 + u
@@ -373,29 +401,29 @@ module _ (version N : ℕ) (c : Content) (new : IsNew version N c) where
   first_row : v.row 0 ≡ Some chunk
   unfolding row_by
   first_row =
-      let len : 0 + 1 + length entries ≡ 3 + u = (let l = entries_length in omega arith) in
-      let room : 2 + 64 * 0 + 0 + 1 + length entries ≤ length c =
-      (let l = entries_length in let size = new.size in let low = new.count.least in let most = blocks_high in omega arith) in
+      let len : 0 + 1 + length entries ≡ used = omega (arith, entries_length, used_least) in
+      let room : 2 + 64 * 0 + 0 + 1 + length entries ≤ length c = omega (arith, entries_length, new.size, new.count.least, used_most) in
       let read = chunk_read c 0 0 (summary_sector names) entries new.summary named_in room in
       let whole : 0 + 1 + length entries ≡ 0 + 1 + length entries - 0 = omega arith in
       ap (λ (n : ℕ). chunks [] (take n (drop 2 c))) (used_first ∙ sym len ∙ whole) ∙ read
 
-  place_at : (i : ℕ) → i < 2 + u → place_in (v.row 0) (suc i) ≡ Some (entry_of (first_name i))
+  place_at : (i : ℕ) → i < used - 1 → place_in (v.row 0) (suc i) ≡ Some (entry_of (first_name N i))
   place_at i lt =
-      let below : i < length entries = (let l = entries_length in omega arith) in
-      let below_names : i < length names = (let l = names_length in omega arith) in
+      let below : i < length entries = omega (arith, entries_length, lt) in
+      let below_names : i < length names = omega (arith, names_length, lt) in
       ap (λ (o : Option Row). place_in o (suc i)) first_row
       ∙ get_or-map Some entries i (entry_of no_block) None below
       ∙ ap Some (get_or-map entry_of names i no_block (entry_of no_block) below_names)
       ∙ ap (λ (b : BlockNameValue). Some (entry_of b)) (name_at i no_block lt)
 
-  no_place : (i : ℕ) → 2 + u ≤ i → place_in (v.row 0) (suc i) ≡ None
+  no_place : (i : ℕ) → used - 1 ≤ i → place_in (v.row 0) (suc i) ≡ None
   no_place i le =
       ap (λ (o : Option Row). place_in o (suc i)) first_row
       ∙ get_or_past (map Some entries) i None (let l = length-map entries (λ (e : Entry). Some e) in let m = entries_length in omega arith)
 
   named : AreNamed v
-  named = at_each (λ e. label_at v (A e) ≡ Some e) (place_at 0 (omega arith)) (place_at 1 (omega arith)) usage_named
+  named = at_each (λ e. label_at v (A e) ≡ Some e) (place_at 0 (omega (arith, used_least))) (place_at 1 (omega (arith, used_least)))
+      usage_named
     where
       usage_named : (j : ℕ) → j < u → label_at v (A (Usage j)) ≡ Some (Usage j)
       usage_named j lt =
@@ -404,23 +432,40 @@ module _ (version N : ℕ) (c : Content) (new : IsNew version N c) where
           let segment : (A (Usage j) - 2) / 64 ≡ 0 = omega arith in
           let place : (A (Usage j) - 2) % 64 ≡ suc (suc (suc j)) = omega arith in
           ap (λ (s : ℕ). place_in (v.row s) ((A (Usage j) - 2) % 64)) segment ∙ ap (λ (at : ℕ). place_in (v.row 0) at) place
-          ∙ place_at (suc (suc j)) (omega arith)
+          ∙ place_at (suc (suc j)) (omega (arith, used_least, lt)) ∙ ap (λ (n : ℕ). Some (Usage n)) (own_index j lt)
 
   -- the place is reached as the entry that the row gives it
   abbrev live_by : ℕ → ℕ → Option Entry → Bool
   live_by s at o = elim o as (λ y. Bool) [ None ↦ false | Some e ↦ A e == 2 + 64 * s + at ]
 
-  address_is : (i : ℕ) → i < 2 + u → A (entry_of (first_name i)) ≡ 2 + 64 * 0 + suc i
+  address_is : (i : ℕ) → i < 2 + u → A (entry_of (first_name N i)) ≡ 2 + 64 * 0 + suc i
   address_is zero lt = refl
   address_is (suc zero) lt = refl
-  address_is (suc (suc j)) lt = usage_some j (omega arith) ∙ omega arith
+  address_is (suc (suc j)) lt =
+      let below : j < u = omega (arith, lt) in
+      ap (λ (n : ℕ). A (Usage n)) (own_index j below) ∙ usage_some j below ∙ omega arith
 
   live_there : (i : ℕ) → i < 2 + u → is_live v 0 (suc i) ≡ true
-  live_there i lt = ap (live_by 0 (suc i)) (place_at i lt) ∙ eq-eqb (A (entry_of (first_name i))) (2 + 64 * 0 + suc i) (address_is i lt)
+  live_there i lt = ap (live_by 0 (suc i)) (place_at i (omega (arith, lt, used_least)))
+      ∙ eq-eqb (A (entry_of (first_name N i))) (2 + 64 * 0 + suc i) (address_is i lt)
+
+  -- no address leads to the others
+  address_away : (i : ℕ) → 2 + u ≤ i → A (entry_of (first_name N i)) ≡ 5
+  address_away zero le = absurd (omega (arith, le))
+  address_away (suc zero) le = absurd (omega (arith, le, blocks_low))
+  address_away (suc (suc j)) le =
+      ap (λ (n : ℕ). A (Usage n)) (padded_index j (omega (arith, le))) ∙ usage_some 0 (omega (arith, blocks_low))
+
+  dead_there : (i : ℕ) → 2 + u ≤ i → is_live v 0 (suc i) ≡ false
+  dead_there i le = ⊎_elim
+      (λ (lt : i < used - 1). ap (live_by 0 (suc i)) (place_at i lt)
+      ∙ ne_eqb (A (entry_of (first_name N i))) (2 + 64 * 0 + suc i) (λ e. omega (arith, e, address_away i le, le, blocks_low)))
+      (λ (past : used - 1 ≤ i). ap (live_by 0 (suc i)) (no_place i past))
+      (cases_lt i (used - 1))
 
   counted_first : live_count v 0 ≡ 2 + u
   counted_first = counted_to (is_live v 0) (2 + u) (ap (λ (o : Option Row). live_by 0 0 (place_in o 0)) first_row) live_there
-      (λ i le. ap (live_by 0 (suc i)) (no_place i le)) 64 (let most = blocks_high in omega arith)
+      dead_there 64 (let most = blocks_high in omega arith)
 
   count_none : count_up (λ x. false) 64 ≡ 0
   unfolding count_up
@@ -458,11 +503,14 @@ module _ (version N : ℕ) (c : Content) (new : IsNew version N c) where
     rows = at_segment (λ s. 0 < used_in v s → (r : List (Option Entry)) × (v.row s ≡ Some r)) (λ lt. (chunk, first_row))
         (λ s lt some. let z = used_past s lt in absurd (omega arith));
     named = named;
-    fit = at_segment (λ s. used_in v s ≤ 64) (let f = used_first in let most = blocks_high in omega arith)
+    fit = at_segment (λ s. used_in v s ≤ 64) (omega (arith, used_first, used_most))
         (λ s lt. let z = used_past s lt in omega arith);
+    whole = at_segment (λ s. s < k.segments → used_in v s % 2 ^ p ≡ 0) (λ lt. ap (λ (n : ℕ). n % 2 ^ p) used_first ∙ used_whole)
+        (λ s some lt. ap (λ (n : ℕ). n % 2 ^ p) (used_past s some) ∙ nothing_whole p few);
     less = at_segment (λ s. (used_in v s ≡ 0) ⊎ ((0 < live_in v s) × (live_in v s < used_in v s)))
-        (inr (let f = used_first in let l = live_first in (omega arith, omega arith))) (λ s lt. inl (used_past s lt));
-    both = at_segment (λ s. used_in v s ≡ 0 → live_in v s ≡ 0) (λ e. let f = used_first in absurd (omega arith)) (λ s lt e. live_past s lt);
+        (inr (omega (arith, live_first), omega (arith, live_first, used_first, used_least))) (λ s lt. inl (used_past s lt));
+    both = at_segment (λ s. used_in v s ≡ 0 → live_in v s ≡ 0) (λ e. absurd (omega (arith, e, used_first, used_least)))
+        (λ s lt e. live_past s lt);
     past = λ s le. (used_past s (let low = new.count.least in omega arith), age_past s (let low = new.count.least in omega arith));
     counted = counted;
     clean = clean;
@@ -485,17 +533,18 @@ formed version known = record {
 }
 
 pub formatted : Formatted
-formatted version N c new = (
-  is_newest version N c new,
-  encoding c (first_checkpoint version N) (A version N c new) (empty_root version) (formed version new.known) (encodes version N c new),
+formatted version N p c new = (
+  is_newest version N p c new,
+  encoding c (first_checkpoint version N p) (A version N p c new) (empty_root version) (formed version new.known)
+      (encodes version N p c new),
 )
 
 -- ---- such contents
 
 -- a usage block whose segments are all unused is zeros
-pub unused_spelled : (N j : ℕ) → usage_sector (first_uses N (suc j)) ≡ blank 512
+pub unused_spelled : (N p j : ℕ) → usage_sector (first_uses N p (suc j)) ≡ blank 512
 unfolding usage_sector usage_entry le16 le32
-unused_spelled N j = refl
+unused_spelled N p j = refl
 
 -- behind five cells and so many more
 sixth_on : (a b d e f : Cell) (cells : Content) (j : ℕ) → cell_at (a ∷ b ∷ d ∷ e ∷ f ∷ cells) (5 + j) ≡ cell_at cells j
@@ -504,33 +553,34 @@ sixth_on a b d e f cells j = ap (cell_at (a ∷ b ∷ d ∷ e ∷ f ∷ cells)) 
     five : 5 + j ≡ suc (suc (suc (suc (suc j))))
     five = omega arith
 
-module _ (version N : ℕ) (known : IsVersion version) (count : IsSegmentCount N) where
+module _ (version N p : ℕ) (known : IsVersion version) (unit : p ≤ most_unit_power version) (count : IsSegmentCount N) where
   abbrev used_cells : Content
-  used_cells = map (λ j. Some (usage_sector (first_uses N j))) (range_with_len 0 (usage_blocks N))
+  used_cells = map (λ j. Some (usage_sector (first_uses N p j))) (range_with_len 0 (usage_blocks N))
 
   abbrev rest : Content
   rest = replicate (64 * N - 3 - usage_blocks N) (Some (blank 512))
 
   used_length : length used_cells ≡ usage_blocks N
-  used_length = length-map-range_with_len (λ j. Some (usage_sector (first_uses N j))) 0 (usage_blocks N)
+  used_length = length-map-range_with_len (λ j. Some (usage_sector (first_uses N p j))) 0 (usage_blocks N)
 
-  image_length : length (new_image version N) ≡ 2 + 64 * N
+  image_length : length (new_image version N p) ≡ 2 + 64 * N
   image_length =
       let l = length-append used_cells rest in
       let m = used_length in
       let r = length-replicate (64 * N - 3 - usage_blocks N) (Some (blank 512)) in
       let low = count.least in
-      let fifth : length (new_image version N) ≡ length (used_cells ++ rest) + 5 = omega arith in
+      let fifth : length (new_image version N p) ≡ length (used_cells ++ rest) + 5 = omega arith in
       omega (arith, l, m, r, fifth)
 
-  usage_cell : (j : ℕ) → j < usage_blocks N → cell_at (used_cells ++ rest) j ≡ Some (usage_sector (first_uses N j))
+  usage_cell : (j : ℕ) → j < usage_blocks N → cell_at (used_cells ++ rest) j ≡ Some (usage_sector (first_uses N p j))
   usage_cell j lt =
       get_or_append_left used_cells rest None j (let m = used_length in omega arith)
-      ∙ get_or-map-range_with_len (λ j. Some (usage_sector (first_uses N j))) 0 (usage_blocks N) j j None lt (omega arith)
+      ∙ get_or-map-range_with_len (λ j. Some (usage_sector (first_uses N p j))) 0 (usage_blocks N) j j None lt (omega arith)
 
-  new_is_new : IsNew version N (new_image version N)
+  new_is_new : IsNew version N p (new_image version N p)
   new_is_new = record {
     known = known;
+    unit = unit;
     count = count;
     size = let l = image_length in omega arith;
     empty_slot = refl;
@@ -539,25 +589,24 @@ module _ (version N : ℕ) (known : IsVersion version) (count : IsSegmentCount N
     inode = refl;
     pointers = refl;
     uses = λ j lt.
-        sixth_on (Some (blank 512)) (Some (checkpoint_sector (first_checkpoint version N))) (Some (summary_sector (first_names N)))
+        sixth_on (Some (blank 512)) (Some (checkpoint_sector (first_checkpoint version N p))) (Some (summary_sector (first_names N p)))
         (Some (inode_sector (root_inode version))) (Some (pointer_sector first_pointers)) (used_cells ++ rest) j ∙ usage_cell j lt;
   }
 
-module _ (version : ℕ) (known : IsVersion version) where
-  first_cells : (cell_at (image version) 1 ≡ Some (checkpoint_sector (first_checkpoint version 64)))
+module _ (version : ℕ) (known : IsSectorVersion version) where
+  first_cells : (cell_at (image version) 1 ≡ Some (checkpoint_sector (first_checkpoint version 64 0)))
       × (cell_at (image version) 3 ≡ Some (inode_sector (root_inode version)))
-  unfolding checkpoint_sector checkpoint_sector_of checkpoint_text le64 le32 le16 words zeros inode_sector kind_byte
-  first_cells = ⊎_elim
-      (λ (e : version ≡ 1). subst (λ (v : ℕ). (cell_at (image v) 1 ≡ Some (checkpoint_sector (first_checkpoint v 64)))
-      × (cell_at (image v) 3 ≡ Some (inode_sector (root_inode v)))) (sym e) (refl, refl))
-      (λ (e : version ≡ 2). subst (λ (v : ℕ). (cell_at (image v) 1 ≡ Some (checkpoint_sector (first_checkpoint v 64)))
-      × (cell_at (image v) 3 ≡ Some (inode_sector (root_inode v)))) (sym e) (refl, refl))
-      known
+  unfolding checkpoint_sector checkpoint_sector_of checkpoint_fields checkpoint_text le64 le32 le16 words zeros inode_sector kind_byte
+  first_cells = by_sector_version
+      (λ v. (cell_at (image v) 1 ≡ Some (checkpoint_sector (first_checkpoint v 64 0)))
+      × (cell_at (image v) 3 ≡ Some (inode_sector (root_inode v))))
+      (refl, refl) (refl, refl) version known
 
-  image_is_new : IsNew version 64 (image version)
+  image_is_new : IsNew version 64 0 (image version)
   unfolding le32 le16 words zeros summary_sector summary_entry block_kind_byte pointer_sector usage_sector usage_entry
   image_is_new = record {
-    known = known;
+    known = known_sector version known;
+    unit = omega arith;
     count = record { least = lit≤ tt; most = lit≤ tt; eighths = refl };
     size = let l = length-replicate 4092 (Some (blank 512)) in omega arith;
     empty_slot = refl;
@@ -565,7 +614,7 @@ module _ (version : ℕ) (known : IsVersion version) where
     summary = refl;
     inode = first_cells.1;
     pointers = refl;
-    uses = λ j lt. subst (λ (i : ℕ). cell_at (image version) (5 + i) ≡ Some (usage_sector (first_uses 64 i))) (first j lt) refl;
+    uses = λ j lt. subst (λ (i : ℕ). cell_at (image version) (5 + i) ≡ Some (usage_sector (first_uses 64 0 i))) (first j lt) refl;
   }
     where
       first : (j : ℕ) → j < usage_blocks 64 → 0 ≡ j
@@ -573,4 +622,4 @@ module _ (version : ℕ) (known : IsVersion version) where
       first (suc j) lt = absurd (omega arith)
 
 pub new_images : NewImages
-new_images version known = (λ N count. new_is_new version N known count, image_is_new version known)
+new_images = (new_is_new, image_is_new)

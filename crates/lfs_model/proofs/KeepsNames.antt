@@ -7,7 +7,7 @@ use Rattle.std.proofs.lemmas.Bool.Decides.{nat_tests}
 use Rattle.std.specs.FinMap.{find, put}
 use Rattle.lfs_model.specs.Bytes.{AreBytes}
 use Rattle.lfs_model.specs.Tree.{Tree, Names, Node, File, Dir, State, node, with_node, names_in, names_of, is_dir, form_of, name_len}
-use Rattle.lfs_model.specs.Tree.{name_limit, entry, byte_cmp, least, links, names, with_name, without_name}
+use Rattle.lfs_model.specs.Tree.{IsDirectoryForm, name_limit, new_form, entry, byte_cmp, least, links, names, with_name, without_name}
 use Rattle.lfs_model.specs.Refusal.{Busy, Inval, NameTooLong, NoEntry, NotDir, NotEmpty, TooManyLinks}
 use Rattle.lfs_model.specs.Walk.{End, At, Refused, Parent}
 use Rattle.lfs_model.specs.Need.{need}
@@ -29,6 +29,7 @@ use Rattle.lfs_model.proofs.Moves.{IsLight, gone_sound, leaf_moved, dir_moved}
 use Rattle.lfs_model.proofs.Overwrites as over
 use Rattle.lfs_model.proofs.Overwrites.{light_at}
 use Rattle.lfs_model.proofs.Keeps.{checked_sound, good_text, parent_dir, is_found}
+use Rattle.lfs_model.proofs.Versions.{new_form_known}
 
 or_false : (a b : Bool) → (a || b) ≡ false → (a ≡ false) × (b ≡ false)
 or_false true b e = cc
@@ -39,7 +40,7 @@ or_false false b e = (refl, e)
 module _ (N : ℕ) (s : State) (sound : Sound N s) (d : ℕ) (nm : List ℕ) (is_d : is_dir (node s.tree d) ≡ true)
     (absent : entry s.tree d nm ≡ None) (good : IsGoodName (name_limit s.tree d) nm)
     (few : length (names_in s.tree d) < 1024) (most : links s.tree d < 1000) (top : least s.tree ≤ 4095)
-    (fits : need (with_node (with_name s.tree d nm (least s.tree)) (least s.tree) (Dir (s.version - 1) [])) ≤ 47 * N) where
+    (fits : need (with_node (with_name s.tree d nm (least s.tree)) (least s.tree) (Dir (new_form s.version) [])) ≤ 47 * N) where
   n : ℕ
   n = least s.tree
 
@@ -47,11 +48,11 @@ module _ (N : ℕ) (s : State) (sound : Sound N s) (d : ℕ) (nm : List ℕ) (is
   unfolding n
   free = least_free 1 s.tree sound.in_order (starts_one s.tree sound.numbers)
 
-  known : s.version - 1 < s.version
-  known = elim sound.version as (λ _. s.version - 1 < s.version) [ inl one ↦ omega arith | inr two ↦ omega arith ]
+  known : IsDirectoryForm s.version (new_form s.version)
+  known = new_form_known s.version sound.version
 
   abbrev made : Node
-  made = Dir (s.version - 1) []
+  made = Dir (new_form s.version) []
 
   abbrev t1 : Tree
   t1 = with_node s.tree n made
@@ -71,7 +72,7 @@ module _ (N : ℕ) (s : State) (sound : Sound N s) (d : ℕ) (nm : List ℕ) (is
   in_range = (free.0, top)
 
   fresh : IsDetached N (with_tree s t1) n
-  fresh = new_detached N s sound n (s.version - 1) free.1 in_range known
+  fresh = new_detached N s sound n (new_form s.version) free.1 in_range known
 
   is_d1 : is_dir (node t1 d) ≡ true
   is_d1 = ap is_dir kept ∙ is_d
@@ -81,7 +82,7 @@ module _ (N : ℕ) (s : State) (sound : Sound N s) (d : ℕ) (nm : List ℕ) (is
 
   down : IsReachable t1 d
   down = elim (fresh.reached d is_d1) as (λ _. IsReachable t1 d)
-      [ inl r ↦ r | inr u ↦ absurd (other (under_only N (with_tree s t1) n (s.version - 1) fresh at_n u)) ]
+      [ inl r ↦ r | inr u ↦ absurd (other (under_only N (with_tree s t1) n (new_form s.version) fresh at_n u)) ]
 
   good1 : IsGoodName (name_len (form_of (node t1 d))) nm
   good1 = subst (λ o. IsGoodName (name_len (form_of o)) nm) (sym kept) good
@@ -93,7 +94,7 @@ module _ (N : ℕ) (s : State) (sound : Sound N s) (d : ℕ) (nm : List ℕ) (is
   absent1 = ap (λ o. find byte_cmp nm (names_at o)) kept ∙ absent
 
   most1 : links t1 d < 1000
-  most1 = let same = same_links N s sound n (s.version - 1) free.1 in_range known d other in omega arith
+  most1 = let same = same_links N s sound n (new_form s.version) free.1 in_range known d other in omega arith
 
   same_tree : with_node (with_name s.tree d nm n) n made ≡ with_name t1 d nm n
   same_tree = change_more s.tree sound.in_order (put byte_cmp nm n) d n made other
@@ -108,7 +109,7 @@ module _ (N : ℕ) (s : State) (sound : Sound N s) (d : ℕ) (nm : List ℕ) (is
       (dir_at (node t1 d) is_d1) down absent1 good1 few1 most1
       (subst (λ u. need u ≤ 47 * N) same_tree fits1))
 
-  new_dir_sound : Sound N (with_tree s (with_node (with_name s.tree d nm (least s.tree)) (least s.tree) (Dir (s.version - 1) [])))
+  new_dir_sound : Sound N (with_tree s (with_node (with_name s.tree d nm (least s.tree)) (least s.tree) (Dir (new_form s.version) [])))
   unfolding n
   new_dir_sound = made_dir
 
@@ -116,7 +117,7 @@ mkdir_at : (N : ℕ) (s : State) → Sound N s → (p : List ℕ) → AreBytes p
     → Sound N (reached s e (makes_dir N s p)).1
 mkdir_at N s sound p bytes (Refused r) par = sound
 mkdir_at N s sound p bytes (At d) par =
-    let t' : Tree = with_new s.tree d p (Dir (s.version - 1) []) in
+    let t' : Tree = with_new s.tree d p (Dir (new_form s.version) []) in
     checked_sound N s (new_entry s.tree d p true ++ when (nat_le 1000 (links s.tree d)) TooManyLinks ∷ no_number s.tree ∷ no_space N t'
     ∷ []) (Done, with_tree s t') sound (λ ok.
     let parent = parent_dir N s sound p d par in

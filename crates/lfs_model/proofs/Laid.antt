@@ -1,5 +1,6 @@
 -- A sector and its fields, place by place.
-use Rattle.std.proofs.Common.{◌≡◌, ◌+◌, ℕ, List, [], ◌∷◌, ◌++◌, length, take, drop, sym, ap, ◌∙◌, arith, refl, length-drop, length-append}
+use Rattle.std.proofs.Common.{◌≡◌, ◌+◌, ℕ, List, [], ◌∷◌, ◌++◌, length, take, drop, sym, ap, ap₂, ◌∙◌, arith, refl, length-drop}
+use Rattle.std.proofs.Common.{length-append, take-add}
 use Rattle.std.proofs.lemmas.List.{append-nil, append_assoc, take_at, drop_at, take-append-drop, drop-drop, nil_from_length}
 use Rattle.lfs_model.specs.Fields.{join, part}
 
@@ -41,6 +42,15 @@ laid_to s at (f ∷ fs) long laid =
     sym (take-append-drop f.0 (drop at s)) ∙ ap (λ (r : List ℕ). r ++ drop f.0 (drop at s)) laid.0
     ∙ ap (λ (r : List ℕ). f.1 ++ r) (drop-drop f.0 at s ∙ rest)
 
+-- together they are the part of the sector in which they stand
+pub laid_part : (s : List ℕ) (at : ℕ) (fs : List Field) → Laid s at fs → part at (total fs) s ≡ join (fields_of fs)
+unfolding part
+laid_part s at [] laid = refl
+laid_part s at (f ∷ fs) laid =
+    let rest : take (total fs) (drop f.0 (drop at s)) ≡ join (fields_of fs) =
+    ap (take (total fs)) (drop-drop f.0 at s) ∙ laid_part s (at + f.0) fs laid.1 in
+    take-add f.0 (total fs) (drop at s) ∙ ap₂ (λ (a b : List ℕ). a ++ b) laid.0 rest
+
 -- what a writer has after it wrote fields one by one
 abbrev pub appended : List ℕ → List (List ℕ) → List ℕ
 appended s [] = s
@@ -49,6 +59,11 @@ appended s (f ∷ fs) = appended (s ++ f) fs
 pub appended_join : (s : List ℕ) (fs : List (List ℕ)) → appended s fs ≡ s ++ join fs
 appended_join s [] = sym (append-nil s)
 appended_join s (f ∷ fs) = appended_join (s ++ f) fs ∙ append_assoc s f (join fs)
+
+-- one field more
+pub join_more : (fs : List (List ℕ)) (f : List ℕ) → join (fs ++ f ∷ []) ≡ join fs ++ f
+join_more [] f = append-nil f
+join_more (g ∷ fs) f = ap (λ (r : List ℕ). g ++ r) (join_more fs f) ∙ sym (append_assoc g (join fs) f)
 
 -- how many bytes the fields have
 pub length-fields : (fs : List Field) → Sized fs → length (join (fields_of fs)) ≡ total fs

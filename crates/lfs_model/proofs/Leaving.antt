@@ -5,7 +5,7 @@ use Rattle.std.proofs.Common.{subst, arith}
 use Rattle.std.proofs.lemmas.Bool.{cases_eq, cond-true}
 use Rattle.std.proofs.lemmas.List.{get_or_append_left}
 use Rattle.lfs_model.specs.Entry.{Entry, Inode, Map, Usage}
-use Rattle.lfs_model.specs.Checkpoint.{CheckpointValue}
+use Rattle.lfs_model.specs.Checkpoint.{CheckpointValue, unit_sectors}
 use Rattle.lfs_model.specs.Content.{Content}
 use Rattle.lfs_model.specs.Crash.{IsFreeSector}
 use Rattle.lfs_model.specs.Device.{DeviceState, put, left_new}
@@ -24,9 +24,10 @@ use Rattle.lfs_model.proofs.Counting.{unplaced_counts}
 use Rattle.lfs_model.proofs.Outgoing.{map_leaving, usage_lifting, filling}
 use Rattle.lfs_model.proofs.Segments.{opening, reopening, sealing, no_row_live}
 use Rattle.lfs_model.proofs.Tables.{map_table, usage_table, empty_row, row_kept}
+use Rattle.lfs_model.proofs.UnitWrites.{to_unit}
 use Rattle.lfs_model.proofs.Settled.{settled_write, settled_still}
 use Rattle.lfs_model.proofs.Running.{pick, pick_yes, pick_no, taken_memory, is_taken, addressed, lifted_tables, lifted_fresh, usage_kept}
-use Rattle.lfs_model.proofs.Running.{row_length, part_same, kept_same, open_same}
+use Rattle.lfs_model.proofs.Running.{row_length, part_same, whole_same, whole_begun, kept_same, open_same}
 
 -- ---- a clean segment is opened
 module _ (d : DeviceState) (dirty : Dirty) (t t' : Tables) (k : CheckpointValue) (m0 m : LogMap) (none s : ℕ)
@@ -77,6 +78,7 @@ module _ (d : DeviceState) (dirty : Dirty) (t t' : Tables) (k : CheckpointValue)
         };
         fresh = λ j off low. usage_taken j (w.memory.bytes (Usage j)) (w.fresh j (sym (go.stale j) ∙ off) low);
         part = part_now;
+        whole = whole_begun k t t' none s 1 (let p = w.opened in let n = w.segments in omega arith) go.used w.whole;
         kept = kept_same d.content k t t' go.kept w.kept;
         opened = record {
           inside = is_opening.inside;
@@ -169,6 +171,7 @@ module _ (d : DeviceState) (dirty : Dirty) (t t' : Tables) (k : CheckpointValue)
         };
         fresh = λ j off low. usage_other j off low;
         part = part_now;
+        whole = whole_begun k t t' none s (suc (t.used s)) (let p = w.opened in let n = w.segments in omega arith) go.used w.whole;
         kept = kept_same d.content k t t' go.kept w.kept;
         opened = record {
           inside = is_reopening.inside;
@@ -261,6 +264,7 @@ map_dropping d dirty t t' k m0 m seg chunk j w one none go =
       fresh = λ i off low. usage_kept t t' i (w.memory.bytes (Usage i))
           (λ q lt. (go.used (64 * i + q), go.live (64 * i + q), go.age (64 * i + q))) (w.fresh i (sym (go.stale i) ∙ off) low);
       part = part_same t t' go.used go.kept w.part;
+      whole = whole_same k t t' seg go.used w.whole;
       kept = kept_same d.content k t t' go.kept w.kept;
       opened = still_open d t' k m w (Map j) (map_table j) 0 (omega arith) chunk w.opened go.kept;
     }
@@ -284,6 +288,7 @@ usage_leaving d dirty t t' k m0 m seg chunk j w above old go =
       fresh = λ i off low. let no = lifted_fresh m t t' (Usage j) 1 go i off in
           no.1 (w.memory.bytes (Usage i)) (w.fresh i no.0 low);
       part = part_same t t' go.used go.kept w.part;
+      whole = whole_same k t t' seg go.used w.whole;
       kept = kept_same d.content k t t' go.kept w.kept;
       opened = still_open d t' k m w (Usage j) (usage_table j) 1 (omega arith) chunk w.opened go.kept;
     }
@@ -297,7 +302,8 @@ module _ (d d' : DeviceState) (dirty : Dirty) (t : Tables) (k : CheckpointValue)
   taken_free = record { segment = s; place = o; is = refl; within = within; below = below; unused = let u = w.kept s below in omega arith }
 
   taken_settled : IsSettled d' k m0 × ((s : ℕ) → used_in (view d'.content k) s ≡ used_in (view d.content k) s)
-  taken_settled = settled_write d d' k m0 (2 + 64 * s + o) bytes w.settled taken_free (left_new is.content) is.crash
+  taken_settled = settled_write d d' k m0 (2 + 64 * s + o) bytes w.settled taken_free
+      (to_unit d.unit _ bytes d.content d'.content (left_new is.content)) is.crash is.unit
 
 module _ (d d' : DeviceState) (dirty : Dirty) (t t' : Tables) (k : CheckpointValue) (m0 m : LogMap) (seg : ℕ) (chunk : Option (List Entry))
     (j : ℕ) (bytes : List ℕ)
@@ -405,6 +411,7 @@ module _ (d d' : DeviceState) (dirty : Dirty) (t t' : Tables) (k : CheckpointVal
         (numbers i (w.memory.bytes (Usage i)) (w.fresh i (sym (go.stale.others i away) ∙ off) low)))
         (cases_eq i j);
     part = part_same t t' go.used go.kept w.part;
+    whole = whole_same k t t' seg go.used w.whole;
     kept = λ s low. let a = filled_settled.1 s in let b = w.kept s low in let c = go.kept s in omega arith;
     opened = fill_open chunk w.opened;
   }
@@ -414,7 +421,7 @@ usage_filling d d' dirty t t' k m0 m seg chunk j bytes w above on spells is go =
     filled_now d d' dirty t t' k m0 m seg chunk j bytes w above on spells is go
 
 pub closing : Closing
-closing d d' dirty t k m0 m seg start es bytes none w long spelt is past =
+closing d d' dirty t k m0 m seg start es bytes none w long ends spelt is past =
     let inside : seg < w.memory.segments = w.opened.inside in
     let whole = row_length (w.memory.rows seg) w.opened.before es w.opened.row in
     let used = w.tables.used seg in
@@ -433,20 +440,25 @@ closing d d' dirty t k m0 m seg start es bytes none w long spelt is past =
       tables = w.tables;
       fresh = w.fresh;
       part = w.part;
+      whole = λ i low away. ⊎_elim
+          (λ (here : i ≡ seg). ap (λ (i : ℕ). t.used i % unit_sectors k) here ∙ ends)
+          (λ (other : i ≡ seg → ⊥). w.whole i low other)
+          (cases_eq i seg);
       kept = λ i low. let a = s.1 i in let b = w.kept i low in omega arith;
       opened = omega arith;
     }
 
 pub staying : Staying
-staying d d' dirty t k m0 m seg chunk w same = record {
+staying d d' dirty t k m0 m seg chunk w same unit = record {
   memory = w.memory;
   laid = subst (λ (c : Content). IsLaid c m w.memory seg) (sym same.content) w.laid;
   segments = w.segments;
-  settled = settled_still d d' k m0 w.settled same;
+  settled = settled_still d d' k m0 w.settled same unit;
   cached = w.cached;
   tables = w.tables;
   fresh = w.fresh;
   part = w.part;
+  whole = w.whole;
   kept = λ i low. subst (λ (c : Content). IsFreeFrom c k i (t.kept i)) (sym same.content) (w.kept i low);
   opened = subst (λ (c : Content). IsOpenAt c w.memory t seg chunk) (sym same.content) w.opened;
 }

@@ -35,6 +35,7 @@ pub mod GoodNames
 pub mod DirCosts
 pub mod Growing
 pub mod Shrinking
+pub mod Padding
 pub mod Parents
 pub mod Makes
 pub mod Handles
@@ -126,3 +127,5 @@ pub mod Exits
 pub mod Alike
 pub mod NodeSums
 pub mod RowPlaces
+pub mod Versions
+pub mod UnitSizes

@@ -17,7 +17,7 @@ use Rattle.lfs_model.proofs.Detaching.{of_file_or_not, is_of_yes, is_of_no}
 use Rattle.lfs_model.proofs.DetachedCounts.{counts_sum, shown_in, shown_outside, nowhere, one_if}
 use Rattle.lfs_model.proofs.Entries.{same_entry}
 use Rattle.lfs_model.proofs.FileChanges.{relabeling}
-use Rattle.lfs_model.proofs.Running.{pick, pick_yes, pick_no, part_same, kept_same, open_same}
+use Rattle.lfs_model.proofs.Running.{pick, pick_yes, pick_no, part_same, whole_same, kept_same, open_same}
 
 -- ---- counts, where a file that was shown is so no more and nothing moves
 module _ (m m' : LogMap) (M M' : Memory) (n : ℕ) (at : M'.at ≡ M.at) (rows : M'.rows ≡ M.rows)
@@ -171,6 +171,7 @@ module _ (d : DeviceState) (dirty dirty' : Dirty) (t t' : Tables) (k : Checkpoin
         (counts_fresh t t' counts (λ s z. let l = less.live s in omega arith) less.used less.age less.changed j off
         (w.memory.bytes (Usage j)) (w.fresh j (less.stale j off) low));
     part = part_same t t' less.used less.kept w.part;
+    whole = whole_same k t t' seg less.used w.whole;
     kept = kept_same d.content k t t' less.kept w.kept;
     opened = open_same d.content w.memory next t t' seg chunk refl refl less.kept w.opened;
   }

@@ -5,7 +5,7 @@ use Rattle.std.proofs.Common.{length-drop, eq-eqb, eqb-true}
 use Rattle.std.proofs.lemmas.Bool.{cases_eq, cases_lt, lt-ltb, le-ltb, leb-true, and_parts, cond-true, cond-false, false_from_ne_true}
 use Rattle.lfs_model.specs.Entry.{Entry, Data, Leaf, Double, Inode, Map, Usage, Header, IsInode, header, word, entries_in}
 use Rattle.lfs_model.specs.Inode.{inode_in, inode_of, inode_sector, may_be_inode}
-use Rattle.lfs_model.specs.Checkpoint.{CheckpointValue, layout_version}
+use Rattle.lfs_model.specs.Checkpoint.{CheckpointValue, layout_version, unit_sectors}
 use Rattle.lfs_model.specs.Content.{Content, block, bytes_of}
 use Rattle.lfs_model.specs.Reach.{Row, View, row, row_by, used, live, chunks, address, linked, place_in, view}
 use Rattle.lfs_model.specs.Stands.{LogMap, StandsAt, used_in, live_in, IsHeld}
@@ -277,6 +277,7 @@ module _ (c : Content) (k : CheckpointValue) (m : LogMap) (few : k.segments ≤ 
     usage = λ j. refl;
     long = λ j lt. en.long (Usage j) lt;
     used = used_counted;
+    whole = λ s lt. ap (λ (n : ℕ). n % unit_sectors k) (sym (used_counted s)) ∙ st.holds.stages.usages.whole s lt;
     live = live_counted;
     age = λ s le. (st.holds.stages.usages.past s le).1;
     clean = st.clean;

@@ -5,7 +5,7 @@ use Rattle.std.proofs.lemmas.Bool.{and_parts, leb-true, cases_eq, cases_lt, case
 use Rattle.std.proofs.lemmas.Bool.{le-ltb}
 use Rattle.std.specs.List.{AllByRecursion}
 use Rattle.lfs_model.specs.Checkpoint.{CheckpointValue, IsVersion, checkpoint_in, checkpoint_of, checkpoint_sector, is_segment_count}
-use Rattle.lfs_model.specs.Checkpoint.{is_version, layout_version, may_be_checkpoint}
+use Rattle.lfs_model.specs.Checkpoint.{is_version, layout_version, may_be_checkpoint, most_unit_power}
 use Rattle.lfs_model.specs.Fields.{part, read32, read64}
 use Rattle.lfs_model.specs.Content.{Content, NewestFits, bytes_of, slot, newer, newest, with_parity}
 use Rattle.lfs_model.specs.Device.{Cell, cell_at, IsSector, AreSectorBytes}
@@ -213,8 +213,11 @@ least_segments c k h =
     let s = newest_spelt c k h in
     let found = value_found checkpoint_of may_be_checkpoint checkpoint_sector s.0 k s.1 in
     let fits : may_be_checkpoint k ≡ true = ap may_be_checkpoint (sym found.0) ∙ found.1 in
-    let rest = and_parts (is_version (layout_version k)) (nat_le 1 k.number && is_segment_count k.segments) fits in
-    leb-true 64 k.segments (and_parts (nat_le 64 k.segments) _ (and_parts (nat_le 1 k.number) (is_segment_count k.segments) rest.1).1).0
+    let rest = and_parts (is_version (layout_version k)) (nat_le k.unit_power (most_unit_power (layout_version k))
+    && (nat_le 1 k.number && is_segment_count k.segments)) fits in
+    let more = and_parts (nat_le k.unit_power (most_unit_power (layout_version k)))
+    (nat_le 1 k.number && is_segment_count k.segments) rest.1 in
+    leb-true 64 k.segments (and_parts (nat_le 64 k.segments) _ (and_parts (nat_le 1 k.number) (is_segment_count k.segments) more.1).1).0
 
 -- and one of the versions
 pub newest_version : (c : Content) (k : CheckpointValue) → newest c ≡ Some k → IsVersion (layout_version k)
@@ -223,4 +226,25 @@ newest_version c k h =
     let s = newest_spelt c k h in
     let found = value_found checkpoint_of may_be_checkpoint checkpoint_sector s.0 k s.1 in
     let fits : may_be_checkpoint k ≡ true = ap may_be_checkpoint (sym found.0) ∙ found.1 in
-    version_from (layout_version k) (and_parts (is_version (layout_version k)) (nat_le 1 k.number && is_segment_count k.segments) fits).0
+    version_from (layout_version k) (and_parts (is_version (layout_version k)) (nat_le k.unit_power (most_unit_power (layout_version k))
+    && (nat_le 1 k.number && is_segment_count k.segments)) fits).0
+
+-- its units are those that its version may have
+pub newest_unit : (c : Content) (k : CheckpointValue) → newest c ≡ Some k → k.unit_power ≤ most_unit_power (layout_version k)
+unfolding checkpoint_in
+newest_unit c k h =
+    let s = newest_spelt c k h in
+    let found = value_found checkpoint_of may_be_checkpoint checkpoint_sector s.0 k s.1 in
+    let fits : may_be_checkpoint k ≡ true = ap may_be_checkpoint (sym found.0) ∙ found.1 in
+    let rest = and_parts (is_version (layout_version k)) (nat_le k.unit_power (most_unit_power (layout_version k))
+    && (nat_le 1 k.number && is_segment_count k.segments)) fits in
+    leb-true k.unit_power (most_unit_power (layout_version k))
+    (and_parts (nat_le k.unit_power (most_unit_power (layout_version k))) (nat_le 1 k.number && is_segment_count k.segments) rest.1).0
+
+pub few_at_most : (b : Bool) → cond {A = ℕ} b 6 0 ≤ 6
+few_at_most true = omega arith
+few_at_most false = omega arith
+
+-- and so at most 64 sectors
+pub newest_few : (c : Content) (k : CheckpointValue) → newest c ≡ Some k → k.unit_power ≤ 6
+newest_few c k h = omega (arith, newest_unit c k h, few_at_most (layout_version k == 3))

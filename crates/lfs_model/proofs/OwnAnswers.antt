@@ -4,7 +4,7 @@ use Rattle.std.specs.Prelude.{if◌then◌else◌, not, nat_lt, nat_le, MatchOpt
 use Rattle.std.specs.List.{AllByRecursion, list_any}
 use Rattle.lfs_model.specs.Bytes as bytes
 use Rattle.lfs_model.specs.Tree.{File, Dir, Link, Tree, State, node, with_node, is_dir, form_of, names_in, with_name, without_name, links}
-use Rattle.lfs_model.specs.Tree.{least_handle}
+use Rattle.lfs_model.specs.Tree.{least_handle, new_form}
 use Rattle.lfs_model.specs.PathText.{comps, slash, but_last, text_refusal}
 use Rattle.lfs_model.specs.Refusal.{Refusal, NoEntry, NotDir, IsDir, NotEmpty, Inval, NameTooLong, Busy}
 use Rattle.lfs_model.specs.Refusal.{TooManyLinks, FileTooBig, Device, Halted}
@@ -130,7 +130,7 @@ truncates_own s h n = checked_own s (bad_handle s h ∷ when (nat_lt 8511488 n) 
 makes_dir_own : (N : ℕ) (s : State) (p : List ℕ) (d : ℕ) → IsOwn (makes_dir N s p d).0
 makes_dir_own N s p d =
     let rest : List (Bool × Answer) = when (nat_le 1000 (links s.tree d)) TooManyLinks ∷ no_number s.tree
-    ∷ no_space N (with_new s.tree d p (Dir (s.version - 1) [])) ∷ [] in
+    ∷ no_space N (with_new s.tree d p (Dir (new_form s.version) [])) ∷ [] in
     checked_own s (new_entry s.tree d p true ++ rest) (Done, _) (new_entry_own s.tree d p true rest (refl, (refl, (refl, tt)))) refl
 
 makes_link_own : (N : ℕ) (s : State) (text p : List ℕ) (d : ℕ) → IsOwn (makes_link N s text p d).0

@@ -1,10 +1,10 @@
 -- The end of a commit: the checkpoint that leads to what is out, and the log that runs on from it.
-use Rattle.std.proofs.Common.{◌≡◌, ◌<◌, ◌≤◌, ◌⊎◌, inl, inr, ⊎_elim, ◌+◌, ◌*◌, ◌/◌, ◌%◌, ◌==◌, cond, eq-eqb, Bool, true, false, ℕ, zero, suc}
-use Rattle.std.proofs.Common.{List, [], length, take, Some, None, refl, sym, ◌∙◌, ap, ap₂, subst, arith, length-set, get_or-set_other}
+use Rattle.std.proofs.Common.{◌≡◌, ◌<◌, ◌≤◌, ◌⊎◌, inl, inr, ⊎_elim, ◌+◌, ◌*◌, ◌/◌, ◌%◌, ◌^◌, ◌==◌, cond, eq-eqb, Bool, true, false, ℕ, zero}
+use Rattle.std.proofs.Common.{suc, List, [], length, take, Some, None, refl, sym, ◌∙◌, ap, ap₂, subst, arith, length-set, get_or-set_other}
 use Rattle.std.proofs.lemmas.Bool.{cases_eq, cases_lt, cond-true}
 use Rattle.std.proofs.lemmas.List.{drop_all}
 use Rattle.lfs_model.specs.Entry.{Entry, Data, Leaf, Double, Inode, Map, Usage, half, word}
-use Rattle.lfs_model.specs.Checkpoint.{CheckpointValue}
+use Rattle.lfs_model.specs.Checkpoint.{CheckpointValue, unit_sectors}
 use Rattle.lfs_model.specs.Content.{Content, block}
 use Rattle.lfs_model.specs.Device.{DeviceState, put, cell_at}
 use Rattle.lfs_model.specs.Fields.{number_of, part, read16}
@@ -12,7 +12,7 @@ use Rattle.lfs_model.specs.Finishing.{shown_view, IsDone, IsReleasing}
 use Rattle.lfs_model.specs.Laid.{IsLaid}
 use Rattle.lfs_model.specs.Memory.{Memory, IsOfFile, is_shown, memory_view, live_of, held_of, used_of}
 use Rattle.lfs_model.specs.Reach.{address, Row, View, view}
-use Rattle.lfs_model.specs.Running.{Dirty, Tables, IsTables, IsCached, SpellsUsage, Running, used_saved, age_saved}
+use Rattle.lfs_model.specs.Running.{Dirty, Tables, IsTables, IsCached, SpellsUsage, AreWhole, Running, used_saved, age_saved}
 use Rattle.lfs_model.specs.Committing.{IsOut, ManyClean, LeadsTo, Planning, IsReleased, Resting}
 use Rattle.lfs_model.specs.Settled.{IsSettled, IsFreeFrom}
 use Rattle.lfs_model.specs.Stands.{LogMap, EnoughClean, used_in, live_in, age_in, is_clean, count_up}
@@ -23,6 +23,8 @@ use Rattle.lfs_model.proofs.Live.{count_up_same}
 use Rattle.lfs_model.proofs.Reach.{block_same}
 use Rattle.lfs_model.proofs.Segments.{releasing, no_row_live}
 use Rattle.lfs_model.proofs.Tables.{row_kept}
+use Rattle.lfs_model.proofs.Newest.{newest_few}
+use Rattle.lfs_model.proofs.UnitSizes.{nothing_whole, saved_whole}
 
 half_nil : (k : ℕ) → half [] k ≡ 0
 unfolding half read16 part
@@ -61,6 +63,7 @@ module _ (e : Content) (m : LogMap) (M : Memory) (o : ℕ) (dirty : Dirty) (t : 
     (closed : M.segments ≤ o) (same : M.segments ≡ k.segments)
     (cached : IsCached dirty M) (tables : IsTables t m M)
     (fresh : (j : ℕ) → t.stale j ≡ false → j < (k.segments + 63) / 64 → SpellsUsage t j (M.bytes (Usage j)))
+    (whole : AreWhole k t o) (few : k.unit_power ≤ 6)
     (out : IsOut dirty t k.segments) (many : ManyClean t k.segments) (leads : LeadsTo t m.version k next) where
   none_left : (x : Entry) → M.at x ≡ 1 → ⊥
   none_left (Data n i) one = of_file (Data n i) (n, refl) one
@@ -151,6 +154,11 @@ module _ (e : Content) (m : LogMap) (M : Memory) (o : ℕ) (dirty : Dirty) (t : 
         let low = subst (λ (n : ℕ). j < (n + 63) / 64) same b in
         (fresh j (out.fresh j low) low).long;
     used = λ s. used_said s ∙ used_tables s;
+    whole = λ s lt.
+        let low : s < k.segments = let n = leads.segments in omega arith in
+        let saved = saved_whole (t.live s == 0) (t.used s) k.unit_power few
+        (whole s low (λ h. let c = closed in let n = same in omega arith)) in
+        ap₂ (λ (n p : ℕ). n % 2 ^ p) (sym (used_tables s)) leads.unit ∙ saved;
     live = λ s. live_said s ∙ tables.live s;
     age = λ s le. age_said s ∙ saved_past t.age s (omega arith);
     clean = enough;
@@ -163,7 +171,8 @@ planning d dirty t k next m0 m none slot bytes w formed out many leads spelt pla
     number = leads.number;
     spelt = spelt;
     stands = finishing d.content m w.memory none next formed w.laid
-        (out_done d.content m w.memory none dirty t k next w.laid w.opened w.segments w.cached w.tables w.fresh out many leads);
+        (out_done d.content m w.memory none dirty t k next w.laid w.opened w.segments w.cached w.tables w.fresh w.whole
+        (newest_few d.content k w.settled.newest) out many leads);
   };
 }
 
@@ -175,7 +184,8 @@ module _ (d d' : DeviceState) (dirty : Dirty) (t t' : Tables) (k next : Checkpoi
   laid_now = subst (λ (c : Content). IsLaid c m w.memory none) (sym is) (laid_beside d.content m w.memory none slot bytes low w.laid)
 
   done_now : IsDone d'.content m w.memory none next
-  done_now = out_done d'.content m w.memory none dirty t k next laid_now w.opened w.segments w.cached w.tables w.fresh out many leads
+  done_now = out_done d'.content m w.memory none dirty t k next laid_now w.opened w.segments w.cached w.tables w.fresh w.whole
+      (newest_few d.content k w.settled.newest) out many leads
 
   by_count : ℕ → ℕ → Row → Row
   by_count zero zero r = []
@@ -253,7 +263,8 @@ module _ (d d' : DeviceState) (dirty : Dirty) (t t' : Tables) (k next : Checkpoi
   unfolding address
   kept_now s =
       let said =
-      used_said d'.content m w.memory none dirty t k next laid_now w.opened w.segments w.cached w.tables w.fresh out many leads s in
+      used_said d'.content m w.memory none dirty t k next laid_now w.opened w.segments w.cached w.tables w.fresh w.whole
+      (newest_few d.content k w.settled.newest) out many leads s in
       let same : used_in (view d'.content next) s ≡ cond (t'.live s == 0) 0 (t'.used s) = viewed s ∙ said
       ∙ saved_same t.used t'.used (λ s some. sym (go.used s (inl some))) s in
       let most = no_more (t'.live s == 0) (t'.used s) in
@@ -266,6 +277,14 @@ module _ (d d' : DeviceState) (dirty : Dirty) (t t' : Tables) (k next : Checkpoi
 
       viewed : (s : ℕ) → used_in (view d'.content next) s ≡ used_in (shown_view d'.content m w.memory next) s
       viewed s = used_is d'.content m w.memory none next laid_now done_now s
+
+  whole_now : AreWhole next t' none
+  whole_now s low away =
+      let there : s < k.segments = let n = leads.segments in omega arith in
+      by_case s (t'.used s % unit_sectors next ≡ 0)
+      (λ l h. ap₂ (λ (n p : ℕ). n % 2 ^ p) (go.gone s l h) leads.unit
+      ∙ nothing_whole k.unit_power (newest_few d.content k w.settled.newest))
+      (λ some. ap₂ (λ (n p : ℕ). n % 2 ^ p) (go.used s some) leads.unit ∙ w.whole s there away)
 
   rested : Running d' dirty t' next (dropped m) m none None
   unfolding released
@@ -284,6 +303,7 @@ module _ (d d' : DeviceState) (dirty : Dirty) (t t' : Tables) (k next : Checkpoi
     fresh = λ j off lt. usage_now j (w.memory.bytes (Usage j))
         (w.fresh j (sym (go.stale j) ∙ off) (subst (λ (n : ℕ). j < (n + 63) / 64) leads.segments lt));
     part = λ s. let e = go.kept s in omega arith;
+    whole = whole_now;
     kept = λ s lt. kept_now s;
     opened = w.opened;
   }

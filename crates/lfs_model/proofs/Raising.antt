@@ -58,6 +58,7 @@ raised_runs d dirty t k m0 m seg chunk is w = record {
   tables = record { at = w.tables.at; used = w.tables.used; live = w.tables.live; held = w.tables.held };
   fresh = w.fresh;
   part = w.part;
+  whole = w.whole;
   kept = w.kept;
   opened = w.opened;
 }
@@ -65,10 +66,12 @@ raised_runs d dirty t k m0 m seg chunk is w = record {
 -- ---- what a volume may keep
 form_kept : (is : Bool) (version : ℕ) (k : Kind) (form : ℕ) → version ≤ 2 → IsForm version k form → IsForm (cond is 2 version) k form
 form_kept false version k form low of = of
-form_kept true version k zero low of = tt
+form_kept true version kind.File zero low of = tt
 form_kept true version kind.File (suc form) low of = of
+form_kept true version kind.Link zero low of = tt
 form_kept true version kind.Link (suc form) low of = of
-form_kept true version kind.Directory (suc form) low of = omega (arith, of, low)
+form_kept true version kind.Directory zero low of = omega arith
+form_kept true version kind.Directory (suc form) low of = (of.0, omega arith)
 
 pub raised_kept : RaisedKept
 raised_kept m is low w = record {

@@ -1,6 +1,6 @@
 -- What the tables and the memory of a running log keep.
-use Rattle.std.proofs.Common.{◌≡◌, ◌<◌, ◌≤◌, ◌⊎◌, inl, inr, ⊎_elim, ◌+◌, ◌*◌, ◌/◌, ◌==◌, cond, Bool, true, false, ℕ, suc, List, [], ◌∷◌}
-use Rattle.std.proofs.Common.{◌++◌, length, map, Option, Some, None, refl, sym, ◌∙◌, ap, ap₂, subst, arith, length-append}
+use Rattle.std.proofs.Common.{◌≡◌, ◌<◌, ◌≤◌, ◌⊎◌, inl, inr, ⊎_elim, ◌+◌, ◌*◌, ◌/◌, ◌%◌, ◌==◌, cond, Bool, true, false, ℕ, suc, List}
+use Rattle.std.proofs.Common.{[], ◌∷◌, ◌++◌, length, map, Option, Some, None, refl, sym, ◌∙◌, ap, ap₂, subst, arith, length-append}
 use Rattle.std.proofs.lemmas.List.{length-map}
 use Rattle.std.proofs.lemmas.Bool.{cases_eq}
 use Rattle.lfs_model.specs.Entry.{Entry}
@@ -13,7 +13,8 @@ use Rattle.lfs_model.specs.Placing.{IsMoved, next_place}
 use Rattle.lfs_model.specs.Lifting.{IsTaken}
 use Rattle.lfs_model.specs.Counting.{segment_of}
 use Rattle.lfs_model.specs.Running.{Tables, IsTables, SpellsUsage, IsSet, CountsUp, CountsDown, IsAddressed, IsNoted, IsLifted, IsOpenAt}
-use Rattle.lfs_model.specs.Checkpoint.{CheckpointValue}
+use Rattle.lfs_model.specs.Running.{AreWhole}
+use Rattle.lfs_model.specs.Checkpoint.{CheckpointValue, unit_sectors}
 use Rattle.lfs_model.specs.Settled.{IsFreeFrom}
 use Rattle.lfs_model.proofs.Entries.{same_entry}
 use Rattle.lfs_model.proofs.Counting.{moved_counts, taken_counts}
@@ -52,6 +53,19 @@ row_end (y ∷ before) es x = ap (λ (r : Row). y ∷ r) (row_end before es x)
 pub part_same : (t t' : Tables) → ((s : ℕ) → t'.used s ≡ t.used s) → ((s : ℕ) → t'.kept s ≡ t.kept s) → ((s : ℕ) → t.kept s ≤ t.used s)
     → (s : ℕ) → t'.kept s ≤ t'.used s
 part_same t t' used kept part s = let u = used s in let k = kept s in let p = part s in omega arith
+
+pub whole_same : (k : CheckpointValue) (t t' : Tables) (seg : ℕ) → ((s : ℕ) → t'.used s ≡ t.used s) → AreWhole k t seg → AreWhole k t' seg
+whole_same k t t' seg same whole s low away = ap (λ (n : ℕ). n % unit_sectors k) (same s) ∙ whole s low away
+
+-- what is in use of the segment where the chunk stands may be another
+pub whole_beside : (k : CheckpointValue) (t t' : Tables) (seg n : ℕ) → IsSet t.used t'.used seg n → AreWhole k t seg → AreWhole k t' seg
+whole_beside k t t' seg n set whole s low away = ap (λ (n : ℕ). n % unit_sectors k) (set.others s away) ∙ whole s low away
+
+-- the chunk begins in segment s, where no segment was open before
+pub whole_begun : (k : CheckpointValue) (t t' : Tables) (none s n : ℕ) → k.segments ≤ none → IsSet t.used t'.used s n → AreWhole k t none
+    → AreWhole k t' s
+whole_begun k t t' none s n past set whole i low away =
+    ap (λ (n : ℕ). n % unit_sectors k) (set.others i away) ∙ whole i low (λ h. omega (arith, past, low, h))
 
 pub kept_same : (c : Content) (k : CheckpointValue) (t t' : Tables) → ((s : ℕ) → t'.kept s ≡ t.kept s)
     → ((s : ℕ) → s < k.segments → IsFreeFrom c k s (t.kept s))

@@ -18,7 +18,7 @@ use Rattle.lfs_model.proofs.Lifting.{lifting}
 use Rattle.lfs_model.proofs.Outgoing.{map_lifting}
 use Rattle.lfs_model.proofs.Reading.{reading}
 use Rattle.lfs_model.proofs.Running.{pick, pick_yes, pick_no, taken_memory, is_taken, addressed, lifted_tables, lifted_fresh, usage_kept}
-use Rattle.lfs_model.proofs.Running.{part_same, kept_same, open_same}
+use Rattle.lfs_model.proofs.Running.{part_same, whole_same, kept_same, open_same}
 use Rattle.lfs_model.proofs.Tables.{map_table, usage_table}
 
 module _ (d : DeviceState) (dirty dirty' : Dirty) (t t' : Tables) (k : CheckpointValue) (m0 m : LogMap) (seg : ℕ)
@@ -141,6 +141,7 @@ module _ (d : DeviceState) (dirty dirty' : Dirty) (t t' : Tables) (k : Checkpoin
     fresh = λ j off low. let no = lifted_fresh m t t' x 1 go j off in
         subst (SpellsUsage t' j) (sym (usage_same j)) (no.1 (w.memory.bytes (Usage j)) (w.fresh j no.0 low));
     part = part_same t t' go.used go.kept w.part;
+    whole = whole_same k t t' seg go.used w.whole;
     kept = kept_same d.content k t t' go.kept w.kept;
     opened = open_same d.content w.memory next t t' seg chunk refl refl go.kept w.opened;
   }
@@ -189,6 +190,7 @@ map_fetching d dirty t t' k m0 m seg chunk j w above go =
       fresh = λ i off low. let no = lifted_fresh m t t' (Map j) 1 go i off in
           no.1 (w.memory.bytes (Usage i)) (w.fresh i no.0 low);
       part = part_same t t' go.used go.kept w.part;
+      whole = whole_same k t t' seg go.used w.whole;
       kept = kept_same d.content k t t' go.kept w.kept;
       opened = still_open d t' k m w (Map j) (map_table j) 1 (omega arith) chunk w.opened go.kept;
     }
@@ -217,6 +219,7 @@ map_adding d dirty t t' k m0 m seg chunk j w none go =
       fresh = λ i off low. usage_kept t t' i (w.memory.bytes (Usage i))
           (λ q lt. (go.used (64 * i + q), go.live (64 * i + q), go.age (64 * i + q))) (w.fresh i (sym (go.stale i) ∙ off) low);
       part = part_same t t' go.used go.kept w.part;
+      whole = whole_same k t t' seg go.used w.whole;
       kept = kept_same d.content k t t' go.kept w.kept;
       opened = still_open d t' k m w (Map j) (map_table j) 1 (omega arith) chunk w.opened go.kept;
     }

@@ -244,24 +244,16 @@ limit_of m small kind.Link n h size dir link =
       are_bytes (object m n h) (object_bytes m small n h),
     )
 
-below_version : (version : ℕ) → 1 ≤ version → (form : ℕ) → IsForm version kind.Directory form → form < version
-below_version version some zero is = some
-below_version version some (suc form) is = is
-
-version_of : (m : LogMap) (version : ℕ) → 1 ≤ version → (kd : Kind) (n : ℕ) (h : Header) → IsForm version kd h.form
-    → IsOfVersion version (node_by m kd n h)
-version_of m version some kind.File n h form = tt
-version_of m version some kind.Directory n h form = below_version version some h.form form
-version_of m version some kind.Link n h form = tt
+version_of : (m : LogMap) (version : ℕ) (kd : Kind) (n : ℕ) (h : Header) → IsForm version kd h.form → IsOfVersion version (node_by m kd n h)
+version_of m version kind.File n h form = tt
+version_of m version kind.Directory n h form = form
+version_of m version kind.Link n h form = tt
 
 root_kind : (m : LogMap) (h : Header) → h.kind ≡ kind.Directory → is_dir (Some (node_by m h.kind 1 h)) ≡ true
 root_kind m h is = ap (λ (kd : Kind). is_dir (Some (node_by m kd 1 h))) is
 
 module _ (c : Content) (all : AllByRecursion IsSector c) (k : CheckpointValue) (known : IsVersion (layout_version k)) (m : LogMap)
     (st : HoldsAt c k m) (tree : IsTree k.segments m) where
-  some_version : 1 ≤ layout_version k
-  some_version = elim known as (λ _. 1 ≤ layout_version k) [ inl one ↦ omega arith | inr two ↦ omega arith ]
-
   small_blocks : (n i o : ℕ) → slice_index (m.block n i) o < 256
   small_blocks n i o =
       subst (λ (b : List ℕ). slice_index b o < 256) (sym (st.block n i)) (block_byte c all ((view c k).address (Data n i)) o)
@@ -285,7 +277,7 @@ module _ (c : Content) (all : AllByRecursion IsSector c) (k : CheckpointValue) (
 
   forms_hold : (n : ℕ) (x : Node) → node (tree_in m) n ≡ Some x → IsOfVersion (layout_version k) x
   forms_hold n x at = let i = node_is m n x at in subst (IsOfVersion (layout_version k)) (sym i.2)
-      (version_of m (layout_version k) some_version i.0.kind n i.0 (headers_are c k m st n i.0 i.1).form)
+      (version_of m (layout_version k) i.0.kind n i.0 (headers_are c k m st n i.0 i.1).form)
 
   header_there : (n : ℕ) → node (tree_in m) n ≢ None → (h : Header) × (m.header n ≡ Some h)
   header_there n there = go (node (tree_in m) n) refl

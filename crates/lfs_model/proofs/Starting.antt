@@ -4,7 +4,7 @@ use Rattle.std.proofs.Common.{None, refl, sym, ◌∙◌, ap, ap₂, arith}
 use Rattle.std.proofs.lemmas.Bool.{cases_eq, cond-true, cond-false, false_from_ne_true}
 use Rattle.std.proofs.Common.{eqb-true}
 use Rattle.lfs_model.specs.Entry.{Entry, Usage, half, word}
-use Rattle.lfs_model.specs.Checkpoint.{CheckpointValue}
+use Rattle.lfs_model.specs.Checkpoint.{CheckpointValue, unit_sectors}
 use Rattle.lfs_model.specs.Content.{block}
 use Rattle.lfs_model.specs.Decodes.{IsSized}
 use Rattle.lfs_model.specs.Device.{DeviceState}
@@ -126,6 +126,7 @@ module _ (d : DeviceState) (t : Tables) (k : CheckpointValue) (m : LogMap) (none
     };
     fresh = usage_fresh;
     part = λ s. let e = is.kept s in omega arith;
+    whole = λ s low away. ap (λ (n : ℕ). n % unit_sectors k) (is.used s) ∙ settled.stands.holds.stages.usages.whole s low;
     kept = λ s low. let e = is.kept s in let u = is.used s in omega arith;
     opened = past;
   }

@@ -21,8 +21,10 @@ use Rattle.lfs_model.proofs.Filled.{pointer_patched}
 use Rattle.lfs_model.proofs.Placing.{placing}
 use Rattle.lfs_model.proofs.Outgoing.{map_placing, settling}
 use Rattle.lfs_model.proofs.Tables.{map_table, usage_table, row_kept}
+use Rattle.lfs_model.proofs.UnitWrites.{to_unit}
 use Rattle.lfs_model.proofs.Settled.{settled_write}
 use Rattle.lfs_model.proofs.Running.{pick, pick_yes, pick_no, row_end, row_length, moved_memory, is_moved, noted_tables, noted_fresh}
+use Rattle.lfs_model.proofs.Running.{whole_beside}
 
 -- ---- what the three kinds of blocks share
 module _ (d : DeviceState) (dirty : Dirty) (t t' : Tables) (k : CheckpointValue) (m0 m : LogMap) (seg : ℕ) (es : List Entry) (x : Entry)
@@ -48,7 +50,8 @@ module _ (d : DeviceState) (dirty : Dirty) (t t' : Tables) (k : CheckpointValue)
 
   settled_now : (d' : DeviceState) (bytes : List ℕ) → IsWritten d d' (place_of t seg) bytes
       → IsSettled d' k m0 × ((s : ℕ) → used_in (view d'.content k) s ≡ used_in (view d.content k) s)
-  settled_now d' bytes is = settled_write d d' k m0 (place_of t seg) bytes w.settled free (left_new is.content) is.crash
+  settled_now d' bytes is = settled_write d d' k m0 (place_of t seg) bytes w.settled free
+      (to_unit d.unit _ bytes d.content d'.content (left_new is.content)) is.crash is.unit
 
   part_now : (s : ℕ) → t'.kept s ≤ t'.used s
   part_now s =
@@ -239,6 +242,7 @@ module _ (d d' : DeviceState) (dirty dirty' : Dirty) (t t' : Tables) (k : Checkp
         tables = tables_now d dirty t t' k m0 m seg es x w room noted next is_moved_now;
         fresh = fresh_now d dirty t t' k m0 m seg es x w room noted next (λ j off. usage_same j);
         part = part_now d dirty t t' k m0 m seg es x w room noted;
+        whole = whole_beside k t t' seg (suc (t.used seg)) noted.used w.whole;
         kept = kept_now d dirty t t' k m0 m seg es x w room noted d' s.1;
         opened = opened_now d dirty t t' k m0 m seg es x w room noted d'.content
             (sealed_now d dirty t t' k m0 m seg es x w room noted d' bytes is) next is_moved_now;
@@ -334,6 +338,7 @@ module _ (d d' : DeviceState) (dirty : Dirty) (t t' : Tables) (k : CheckpointVal
         fresh = fresh_now d dirty t t' k m0 m seg es (Map j) w room noted map_next
             (λ i off. map_kept (Usage i) (λ h. let bad : Usage i ≡ Map j = h in absurd (cc)));
         part = part_now d dirty t t' k m0 m seg es (Map j) w room noted;
+        whole = whole_beside k t t' seg (suc (t.used seg)) noted.used w.whole;
         kept = kept_now d dirty t t' k m0 m seg es (Map j) w room noted d' s.1;
         opened = opened_now d dirty t t' k m0 m seg es (Map j) w room noted d'.content
             (sealed_now d dirty t t' k m0 m seg es (Map j) w room noted d' bytes is) map_next map_moved;
@@ -388,6 +393,7 @@ module _ (d : DeviceState) (dirty : Dirty) (t t' : Tables) (k : CheckpointValue)
     tables = tables_now d dirty t t' k m0 m seg es (Usage j) w room noted usage_next usage_moved;
     fresh = fresh_now d dirty t t' k m0 m seg es (Usage j) w room noted usage_next (λ i off. usage_kept_bytes (Usage i) (not_fresh i off));
     part = part_now d dirty t t' k m0 m seg es (Usage j) w room noted;
+    whole = whole_beside k t t' seg (suc (t.used seg)) noted.used w.whole;
     kept = kept_now d dirty t t' k m0 m seg es (Usage j) w room noted d (λ s. refl);
     opened = opened_now d dirty t t' k m0 m seg es (Usage j) w room noted d.content w.opened.sealed usage_next usage_moved;
   }

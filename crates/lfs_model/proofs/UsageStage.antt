@@ -2,7 +2,7 @@
 use Rattle.std.proofs.Common.{◌≡◌, ◌<◌, ◌≤◌, ◌⊎◌, inl, ⊎_elim, ◌+◌, ◌*◌, ◌-◌, ◌/◌, ◌%◌, ℕ, List, [], length, take, ◌∙◌, ap, subst, arith}
 use Rattle.std.proofs.lemmas.Bool.{cases_lt}
 use Rattle.std.proofs.lemmas.List.{drop_all}
-use Rattle.lfs_model.specs.Checkpoint.{CheckpointValue}
+use Rattle.lfs_model.specs.Checkpoint.{CheckpointValue, unit_sectors}
 use Rattle.lfs_model.specs.Content.{Content, block}
 use Rattle.lfs_model.specs.Entry.{Usage, half, word}
 use Rattle.lfs_model.specs.Fields.{number_of, part, read16}
@@ -18,7 +18,8 @@ half_nil k = ap (λ (b : List ℕ). number_of (take 2 b)) (drop_all (2 * k) [] (
 module _ (c : Content) (k : CheckpointValue) (reached : (j : ℕ) → Reached (view c k) (Usage j) → j < (k.segments + 63) / 64)
     (all : (j : ℕ) → j < (k.segments + 63) / 64 → Reached (view c k) (Usage j)) (fresh : Fresh (view c k) 1)
     (long : (j : ℕ) → Reached (view c k) (Usage j) → length ((view c k).block (Usage j)) ≡ 512)
-    (blocks : (j : ℕ) → j < (k.segments + 63) / 64 → IsUsageBlock (k.segments - 64 * j) ((view c k).block (Usage j))) where
+    (blocks : (j : ℕ) → j < (k.segments + 63) / 64 → IsUsageBlock (k.segments - 64 * j) ((view c k).block (Usage j)))
+    (whole : (s : ℕ) → s < k.segments → used_in (view c k) s % unit_sectors k ≡ 0) where
   -- a block that isn't stored
   no_block : (j : ℕ) → (k.segments + 63) / 64 ≤ j → (view c k).block (Usage j) ≡ []
   no_block j past = ap (block c) (zero_from ((view c k).address (Usage j)) (λ some. let lt = reached j some in omega arith))
@@ -46,6 +47,7 @@ module _ (c : Content) (k : CheckpointValue) (reached : (j : ℕ) → Reached (v
     readable = long;
     fit = by_block (λ s. used_in (view c k) s ≤ 64) (λ s lt. (blocks (s / 64) lt).fit (s % 64) (omega arith))
         (λ s past. let z = unused s past in omega arith);
+    whole = whole;
     less = by_block (λ s. (used_in (view c k) s ≡ 0) ⊎ ((0 < live_in (view c k) s) × (live_in (view c k) s < used_in (view c k) s)))
         (λ s lt. (blocks (s / 64) lt).less (s % 64) (omega arith)) (λ s past. inl (unused s past));
     both = by_block (λ s. used_in (view c k) s ≡ 0 → live_in (view c k) s ≡ 0)

@@ -177,18 +177,18 @@ module _ (N : ℕ) where
 
 -- ---- the laws
 
-pub begins_new : (version N : ℕ) (d d' : DeviceState) → BeginsNew version N d d'
-begins_new version N d d' new lines answers u =
-    let same : u.stands.checkpoint ≡ first_checkpoint version N =
-    Some-injective (sym u.stands.found ∙ (formatted version N d.content new).0) in (
+pub begins_new : (version N p : ℕ) (d d' : DeviceState) → BeginsNew version N p d d'
+begins_new version N p d d' new lines answers u =
+    let same : u.stands.checkpoint ≡ first_checkpoint version N p =
+    Some-injective (sym u.stands.found ∙ (formatted version N p d.content new).0) in (
       u.same_segments ∙ ap (λ (k : CheckpointValue). k.segments) same,
       u.same_number ∙ ap (λ (k : CheckpointValue). k.number) same,
-      single_state d.content u.first.state (new_point version d).state u.stands (new_volume version N d.content new),
+      single_state d.content u.first.state (new_point version d).state u.stands (new_volume version N p d.content new),
     )
 
-pub new_is_pending : (version N : ℕ) (d : DeviceState) → NewIsPending version N d
-new_is_pending version N d new alone c left =
-    let stands : Stands d.content (new_point version d).state = new_volume version N d.content new in
+pub new_is_pending : (version N p : ℕ) (d : DeviceState) → NewIsPending version N p d
+new_is_pending version N p d new alone c left =
+    let stands : Stands d.content (new_point version d).state = new_volume version N p d.content new in
     let same : drop_nameless (new_point version d).state ≡ (new_point version d).state =
     nothing_dropped d.content (new_point version d).state stands in (
       (new_point version d).state,

@@ -12,13 +12,13 @@ use Rattle.lfs_model.specs.Crash.{IsReadyFor, Keeps}
 use Rattle.lfs_model.specs.Damage.{IsDamaged}
 use Rattle.lfs_model.specs.Device.{MayWrite, left_old, left_new, left_bad, lose, put}
 use Rattle.lfs_model.specs.Entry.{Header}
-use Rattle.lfs_model.specs.Image.{empty_directory, empty_root, first_checkpoint, new_form}
+use Rattle.lfs_model.specs.Image.{empty_directory, empty_root, first_checkpoint}
 use Rattle.lfs_model.specs.Reach.{view}
 use Rattle.lfs_model.specs.Need.{need, data_of, meta_of}
 use Rattle.lfs_model.specs.Slot.{slot_in}
 use Rattle.lfs_model.specs.Sound.{NamesGive, IsReachable, root}
 use Rattle.lfs_model.specs.Stands.{LogMap, HoldsAt, StandsLog, log_in}
-use Rattle.lfs_model.specs.Tree.{Dir, File, Link, Node, State, Tree, byte_cmp, entry, is_dir, links, names, names_of, node}
+use Rattle.lfs_model.specs.Tree.{Dir, File, Link, Node, State, Tree, byte_cmp, entry, is_dir, links, names, names_of, new_form, node}
 use Rattle.lfs_model.specs.TreeOf.{AreReached, AreSlots, IsTree, Stands, TreeOf, map_of, nodes_from, node_of, object, slots, tree_in}
 use Rattle.lfs_model.specs.TreeOf.{with_object}
 use Rattle.lfs_model.specs.Volume.{IsDamagedBy, IsTooSmall, IsWithoutCheckpoint, mounted, SingleState, StateLocality, StateSlotWrite}
@@ -28,6 +28,7 @@ use Rattle.lfs_model.proofs.Newest.{least_segments}
 use Rattle.lfs_model.proofs.Damage.{stages_by_number, not_damaged}
 use Rattle.lfs_model.proofs.Image.{formatted}
 use Rattle.lfs_model.proofs.Trees.{cmp_same, cmp_other}
+use Rattle.lfs_model.proofs.Versions.{by_version}
 
 -- ---- the nodes of a log map's tree
 find_at : (a : ℕ) (o : Option Node) (t : Tree) → find nat_cmp a t ≡ None → find nat_cmp a (with_object a o t) ≡ o
@@ -183,9 +184,7 @@ module _ (version : ℕ) (known : IsVersion version) where
 
   no_slots : slots (empty_root version) 1 (empty_directory version) ≡ []
   unfolding slots object
-  no_slots = ⊎_elim (λ (e : version ≡ 1). subst (λ (v : ℕ). slots (empty_root v) 1 (empty_directory v) ≡ []) (sym e) refl)
-      (λ (e : version ≡ 2). subst (λ (v : ℕ). slots (empty_root v) 1 (empty_directory v) ≡ []) (sym e) refl)
-      known
+  no_slots = by_version (λ v. slots (empty_root v) 1 (empty_directory v) ≡ []) refl refl refl version known
 
   abbrev alone : Tree
   alone = (1, Dir (new_form version) []) ∷ []
@@ -245,9 +244,7 @@ module _ (version : ℕ) (known : IsVersion version) where
 
   needed : need alone ≡ 727
   unfolding data_of meta_of
-  needed = ⊎_elim (λ (e : version ≡ 1). subst (λ (v : ℕ). need ((1, Dir (new_form v) []) ∷ []) ≡ 727) (sym e) refl)
-      (λ (e : version ≡ 2). subst (λ (v : ℕ). need ((1, Dir (new_form v) []) ∷ []) ≡ 727) (sym e) refl)
-      known
+  needed = by_version (λ v. need ((1, Dir (new_form v) []) ∷ []) ≡ 727) refl refl refl version known
 
   small_need : (N : ℕ) → 64 ≤ N → need alone ≤ 47 * N
   small_need N some = let e : need alone ≡ 727 = needed in omega arith
@@ -262,10 +259,10 @@ module _ (version : ℕ) (known : IsVersion version) where
   }
 
 pub new_volume : NewVolume
-new_volume version N c new =
-    let both = formatted version N c new in
+new_volume version N p c new =
+    let both = formatted version N p c new in
     let known = new.known in record {
-      checkpoint = first_checkpoint version N;
+      checkpoint = first_checkpoint version N p;
       log = empty_root version;
       found = both.0;
       stands = both.1;

@@ -1,36 +1,46 @@
 -- An upgrade keeps a state sound, and so does a directory that gets form 1.
-use Rattle.std.proofs.Common.{◌≡◌, refl, ap, subst, ℕ, zero, suc, ◌*◌, ◌≤◌, Bool, true, false, List, [], ◌∷◌}
-use Rattle.std.proofs.Common.{Some, arith, inl, inr, ◌⊎◌, length}
+use Rattle.std.proofs.Common.{◌≡◌, ◌<◌, refl, ap, subst, ℕ, zero, suc, ◌*◌, ◌≤◌, Bool, true, false, List, [], ◌∷◌}
+use Rattle.std.proofs.Common.{Some, arith, length}
 use Rattle.std.specs.Prelude.{not, ◌==◌, nat_lt}
 use Rattle.std.specs.List.{AllByRecursion}
 use Rattle.std.proofs.lemmas.Bool.Decides.{nat_tests}
 use Rattle.lfs_model.specs.Tree.{Tree, Names, Node, File, Dir, Link, State, node, with_node, names_in, form_of, is_dir}
-use Rattle.lfs_model.specs.Tree.{name_len, links}
+use Rattle.lfs_model.specs.Tree.{name_len, links, IsDirectoryForm}
+use Rattle.lfs_model.specs.Checkpoint.{IsVersion}
 use Rattle.lfs_model.specs.Refusal.{NotDir, Inval}
 use Rattle.lfs_model.specs.Walk.{End, At, Refused}
 use Rattle.lfs_model.specs.Need.{need}
 use Rattle.lfs_model.specs.Sound.{Sound, IsWithinLimits, IsGoodName, IsOfVersion}
 use Rattle.lfs_model.specs.Call.{Upgrade, Widen, Answer, Done}
-use Rattle.lfs_model.specs.Step.{Step, reached, when, no_space, upgrades, widened, widens, with_tree}
+use Rattle.lfs_model.specs.Step.{Step, reached, when, no_space, raised_version, upgrades, widened, widens, with_tree}
 use Rattle.lfs_model.proofs.Alike.{replaced_links, replaced_sound}
 use Rattle.lfs_model.proofs.Makes.{dir_at}
 use Rattle.lfs_model.proofs.Keeps.{checked_sound}
+use Rattle.lfs_model.proofs.Versions.{by_version}
 
 -- ---- upgrade
 
--- a form of either version is one of version 2
-of_version_2 : (v : ℕ) → (v ≡ 1) ⊎ (v ≡ 2) → (x : Node) → IsOfVersion v x → IsOfVersion 2 x
-of_version_2 v is (File b) of = tt
-of_version_2 v is (Link text) of = tt
-of_version_2 v (inl one) (Dir form m) of = omega (arith, one, of)
-of_version_2 v (inr two) (Dir form m) of = omega (arith, two, of)
+-- a form of a version is one of the version after an upgrade
+raised_form : (form : ℕ) → IsDirectoryForm 1 form → IsDirectoryForm 2 form
+raised_form zero of = omega arith
+raised_form (suc form) of = (of.0, omega arith)
+
+of_raised : (v : ℕ) → IsVersion v → (x : Node) → IsOfVersion v x → IsOfVersion (raised_version v) x
+of_raised v known (File b) of = tt
+of_raised v known (Link text) of = tt
+of_raised v known (Dir form m) of =
+    by_version (λ n. IsDirectoryForm n form → IsDirectoryForm (raised_version n) form) (raised_form form) (λ is. is) (λ is. is) v known of
+
+raised_known : (v : ℕ) → IsVersion v → IsVersion (raised_version v)
+raised_known =
+    by_version (λ n. IsVersion (raised_version n)) (omega arith, omega arith) (omega arith, omega arith) (omega arith, omega arith)
 
 pub upgraded_sound : (N : ℕ) (s : State) → Sound N s → Sound N (upgrades s).1
 upgraded_sound N s sound = record {
   in_order = sound.in_order;
   handles_in_order = sound.handles_in_order;
-  version = inr refl;
-  forms = λ n x is. of_version_2 s.version sound.version x (sound.forms n x is);
+  version = raised_known s.version sound.version;
+  forms = λ n x is. of_raised s.version sound.version x (sound.forms n x is);
   root = sound.root;
   numbers = sound.numbers;
   limits = sound.limits;
@@ -69,7 +79,7 @@ all_longer : (form : ℕ) (m : Names) → AllByRecursion (λ e. IsGoodName (name
 all_longer form [] all = tt
 all_longer form (e ∷ m) all = (longer form e.0 all.0, all_longer form m all.1)
 
-module _ (N : ℕ) (s : State) (n form : ℕ) (m : Names) (sound : Sound N s) (is : node s.tree n ≡ Some (Dir form m)) (two : s.version ≡ 2)
+module _ (N : ℕ) (s : State) (n form : ℕ) (m : Names) (sound : Sound N s) (is : node s.tree n ≡ Some (Dir form m)) (later : 1 < s.version)
     (fits : need (with_node s.tree n (Dir 1 m)) ≤ 47 * N) where
   pub same_links : (q : ℕ) → links (with_node s.tree n (Dir 1 m)) q ≡ links s.tree q
   same_links = replaced_links s.tree n (Dir form m) (Dir 1 m) sound.in_order is refl refl
@@ -79,11 +89,10 @@ module _ (N : ℕ) (s : State) (n form : ℕ) (m : Names) (sound : Sound N s) (i
 
   pub widened_sound : Sound N (with_tree s (with_node s.tree n (Dir 1 m)))
   widened_sound =
-      replaced_sound N s n (Dir form m) (Dir 1 m) sound is refl refl good (omega (arith, two)) (λ file. absurd (cc file.1)) fits
+      replaced_sound N s n (Dir form m) (Dir 1 m) sound is refl refl good (refl, later) (λ file. absurd (cc file.1)) fits
 
-not_1 : (v : ℕ) → (v ≡ 1) ⊎ (v ≡ 2) → (v == 1) ≡ false → v ≡ 2
-not_1 v (inl one) other = absurd (let is : (v == 1) ≡ true = ap (λ x. x == 1) one in cc)
-not_1 v (inr two) other = two
+not_first : (v : ℕ) → IsVersion v → (v == 1) ≡ false → 1 < v
+not_first = by_version (λ v. (v == 1) ≡ false → 1 < v) (λ other. absurd (cc other)) (λ other. omega arith) (λ other. omega arith)
 
 is_dir_there : (b : Bool) → not b ≡ false → b ≡ true
 is_dir_there true h = refl
@@ -99,7 +108,7 @@ widen_at N s sound (At n) =
     let room : nat_lt (47 * N) (need t') ≡ false = ok.1.1.1.0 in
     let fits : need t' ≤ 47 * N = grind (arith, nat_tests) in
     widened_sound N s n (form_of (node s.tree n)) (names_in s.tree n) sound (dir_at (node s.tree n) dir)
-    (not_1 s.version sound.version ok.1.0) fits)
+    (not_first s.version sound.version ok.1.0) fits)
 
 pub widen_keeps : (N : ℕ) (s : State) {s' : State} (p : List ℕ) (a : Answer) → Sound N s → Step N s (Widen p) a s' → Sound N s'
 widen_keeps N s p a sound st = subst (Sound N) st.state (widen_at N s sound st.first_end)

@@ -1,15 +1,19 @@
 -- The checkpoint, which is one sector.
 -- Checkpoint regions are those of the Sprite LFS paper (1992, section 4.1); the bytes are an own choice.
-use Rattle.std.specs.Prelude.{◌≡◌, ◌<◌, ◌≤◌, ◌^◌, ◌+◌, ◌-◌, ◌/◌, ◌%◌, ◌⊎◌, ◌&&◌, ◌||◌, ◌==◌, Bool, nat_le, ℕ, Option, List, [], ◌∷◌, length}
-use Rattle.std.specs.Prelude.{codes}
+use Rattle.std.specs.Prelude.{◌≡◌, ◌<◌, ◌≤◌, ◌^◌, ◌+◌, ◌-◌, ◌/◌, ◌%◌, ◌&&◌, ◌==◌, Bool, cond, nat_le, ℕ, Option, List, [], ◌∷◌, ◌++◌}
+use Rattle.std.specs.Prelude.{codes, get_or, length}
+use Rattle.lfs_checksum.specs.Division.{crc32c_of}
 use Rattle.lfs_model.specs.Fields.{le32, le64, words, zeros, join, Are32, read32, read64, numbers, value_in}
 use Rattle.lfs_model.specs.declared.limits.TheConstants.{LEAST_SEGMENTS, MOST_SEGMENTS, MAP_BLOCKS, USAGE_BLOCKS, BLOCK_SEGMENTS}
+use Rattle.lfs_model.specs.declared.limits.TheConstants.{LAST_SECTOR_VERSION, LAST_VERSION, MOST_UNIT_POWER}
 
 pub record CheckpointValue : Type 0 where
   pub number : ℕ
   pub segments : ℕ
   -- of the layout
   pub version : ℕ
+  -- the logarithm to base 2 of how many sectors a unit has
+  pub unit_power : ℕ
   pub map : List ℕ
   pub usage : List ℕ
 
@@ -19,24 +23,49 @@ checkpoint_text = codes "SLFSCKP1"
 
 -- the versions of the layout
 abbrev pub IsVersion : ℕ → Type 0
-IsVersion version = (version ≡ 1) ⊎ (version ≡ 2)
+IsVersion version = (1 ≤ version) × (version ≤ LAST_VERSION)
+
+-- those of them whose units are sectors
+abbrev pub IsSectorVersion : ℕ → Type 0
+IsSectorVersion version = (1 ≤ version) × (version ≤ LAST_SECTOR_VERSION)
 
 -- the version of a checkpoint's layout
 abbrev pub layout_version : CheckpointValue → ℕ
 layout_version c = c.version
 
--- the sector of a checkpoint in a version of the layout, field by field
-unfoldable pub checkpoint_sector_of : ℕ → CheckpointValue → List ℕ
-checkpoint_sector_of version c = join (
+-- what that is at most in a version
+abbrev pub most_unit_power : ℕ → ℕ
+most_unit_power version = cond (version == LAST_VERSION) MOST_UNIT_POWER 0
+
+-- how many sectors a unit has
+abbrev pub unit_sectors : CheckpointValue → ℕ
+unit_sectors c = 2 ^ c.unit_power
+
+-- The 8 bytes behind the version. In the last version they begin with the logarithms to base 2 of how many sectors a unit has and how many
+-- a segment, and how many bytes a block.
+abbrev pub shape_bytes : ℕ → ℕ → List ℕ
+shape_bytes version unit_power = cond (version == LAST_VERSION) (unit_power ∷ 6 ∷ 9 ∷ zeros 5) (zeros 8)
+
+-- the number in the last 4 bytes, by all before them: in the last version their checksum
+abbrev pub sum_of : ℕ → List ℕ → ℕ
+sum_of version bytes = cond (version == LAST_VERSION) (crc32c_of bytes) 0
+
+-- a checkpoint's fields in a version of the layout, but the last
+unfoldable pub checkpoint_fields : ℕ → CheckpointValue → List (List ℕ)
+checkpoint_fields version c =
     checkpoint_text ∷
     le64 c.number ∷
     le32 c.segments ∷
     le32 version ∷
-    zeros 8 ∷
+    shape_bytes version c.unit_power ∷
     words c.map ∷
     words c.usage ∷
-    zeros 288 ∷ []
-    )
+    zeros 284 ∷ []
+
+-- its sector in a version
+unfoldable pub checkpoint_sector_of : ℕ → CheckpointValue → List ℕ
+checkpoint_sector_of version c =
+    join (checkpoint_fields version c ++ le32 (sum_of version (join (checkpoint_fields version c))) ∷ [])
 
 -- the sector of a checkpoint, in its own version
 unfoldable pub checkpoint_sector : CheckpointValue → List ℕ
@@ -49,6 +78,7 @@ checkpoint_of s =
       number = read64 8 s;
       segments = read32 16 s;
       version = read32 20 s;
+      unit_power = get_or s 24 0;
       map = numbers MAP_BLOCKS 32 s;
       usage = numbers USAGE_BLOCKS 160 s;
     }
@@ -69,6 +99,7 @@ pub record FitsCheckpoint (c : CheckpointValue) : Type 0 where
   pub number_fits : c.number < 2 ^ 64
   pub segments : IsSegmentCount c.segments
   pub version : IsVersion (layout_version c)
+  pub unit : c.unit_power ≤ most_unit_power (layout_version c)
   pub map_length : length c.map ≡ MAP_BLOCKS
   pub map_fits : Are32 c.map
   pub usage_length : length c.usage ≡ USAGE_BLOCKS
@@ -79,10 +110,11 @@ abbrev pub is_segment_count : ℕ → Bool
 is_segment_count n = nat_le LEAST_SEGMENTS n && (nat_le n MOST_SEGMENTS && (n % 8 == 0))
 
 abbrev pub is_version : ℕ → Bool
-is_version version = version == 1 || version == 2
+is_version version = nat_le 1 version && nat_le version LAST_VERSION
 
 abbrev pub may_be_checkpoint : CheckpointValue → Bool
-may_be_checkpoint c = is_version (layout_version c) && (nat_le 1 c.number && is_segment_count c.segments)
+may_be_checkpoint c = is_version (layout_version c)
+    && (nat_le c.unit_power (most_unit_power (layout_version c)) && (nat_le 1 c.number && is_segment_count c.segments))
 
 -- the checkpoint that a sector spells, if it spells one
 unfoldable pub checkpoint_in : List ℕ → Option CheckpointValue

@@ -5,8 +5,8 @@
 use Rattle.std.specs.Prelude.{◌≡◌, ◌<◌, ◌≤◌, ◌⊎◌, ◌+◌, ◌*◌, ◌-◌, ◌%◌, ◌==◌, ℕ, suc, true, false, List, [], ◌∷◌, ◌++◌, length, get_or}
 use Rattle.std.specs.Prelude.{Option, Some, None}
 use Rattle.lfs_model.specs.Entry.{Entry, Inode, Map, Usage, entries_in, word}
-use Rattle.lfs_model.specs.Checkpoint.{CheckpointValue, checkpoint_in, layout_version, usage_blocks}
-use Rattle.lfs_model.specs.Device.{DeviceState, CrashWrites, IsUntouched, put}
+use Rattle.lfs_model.specs.Checkpoint.{CheckpointValue, checkpoint_in, layout_version, unit_sectors, usage_blocks}
+use Rattle.lfs_model.specs.Device.{DeviceState, CrashWritesUnit, IsUntouched, put}
 use Rattle.lfs_model.specs.Content.{Content}
 use Rattle.lfs_model.specs.Decodes.{IsSized}
 use Rattle.lfs_model.specs.Reach.{address, view, segment_start}
@@ -17,7 +17,7 @@ use Rattle.lfs_model.specs.Memory.{parent, IsPointers, HasPointer, shown}
 use Rattle.lfs_model.specs.Counting.{segment_of}
 use Rattle.lfs_model.specs.Settled.{IsSettled, IsPlanned}
 use Rattle.lfs_model.specs.Running.{Dirty, IsTight, Tables, SpellsUsage, Running, IsLowest, Moves, IsNoted, IsLifted, IsTakenFrom, GoesOnIn}
-use Rattle.lfs_model.specs.Running.{IsFresh, IsReaddressed, used_saved}
+use Rattle.lfs_model.specs.Running.{IsFresh, IsReaddressed, IsPadded, used_saved}
 use Rattle.lfs_model.specs.declared.limits.TheConstants.{SECTOR_LEN, CHECKPOINT_SLOTS, SEGMENT_SECTORS, MOST_SEGMENTS, BLOCK_POINTERS}
 use Rattle.lfs_model.specs.declared.limits.TheConstants.{BLOCK_SEGMENTS}
 
@@ -28,7 +28,8 @@ place_of t seg = segment_start seg + t.used seg
 -- the device has these bytes at a sector from now on
 pub record IsWritten (d d' : DeviceState) (at : ℕ) (bytes : List ℕ) : Type 0 where
   pub content : d'.content ≡ put d.content at bytes
-  pub crash : CrashWrites at bytes d d'
+  pub crash : CrashWritesUnit at bytes d d'
+  pub unit : d'.unit ≡ d.unit
 
 -- A clean segment is opened.
 abbrev pub Beginning : Type 1
@@ -39,6 +40,13 @@ Beginning = (d : DeviceState) (dirty : Dirty) (t t' : Tables) (k : CheckpointVal
 abbrev pub GoingOn : Type 1
 GoingOn = (d : DeviceState) (dirty : Dirty) (t t' : Tables) (k : CheckpointValue) (m0 m : LogMap) (none s : ℕ)
     → Running d dirty t k m0 m none None → s < k.segments → GoesOnIn t t' s → Running d dirty t' k m0 m s (Some [])
+
+-- The chunk names an entry more, whose block stands elsewhere or nowhere: a chunk that is to end on a unit.
+abbrev pub PaddingChunk : Type 1
+PaddingChunk = (d : DeviceState) (dirty : Dirty) (t t' : Tables) (k : CheckpointValue) (m0 m : LogMap)
+    (seg : ℕ) (es : List Entry) (x : Entry)
+    → Running d dirty t k m0 m seg (Some es) → t.used seg < SEGMENT_SECTORS → IsPadded t t' seg
+    → Running d dirty t' k m0 m seg (Some (es ++ x ∷ []))
 
 -- A block of a file goes out.
 abbrev pub Stepping : Type 1
@@ -104,12 +112,12 @@ UsageFilling = (d d' : DeviceState) (dirty : Dirty) (t t' : Tables) (k : Checkpo
     → Running d dirty t k m0 m seg chunk → 2 ≤ t.at (Usage j) → IsUnkept t (t.at (Usage j)) → SpellsUsage t j bytes
     → IsWritten d d' (t.at (Usage j)) bytes → IsFresh t t' j → Running d' dirty t' k m0 m seg chunk
 
--- The open chunk's summary is written, at its start in the segment.
+-- The open chunk's summary is written, at its start in the segment. It ends on a unit.
 abbrev pub Closing : Type 1
 Closing = (d d' : DeviceState) (dirty : Dirty) (t : Tables) (k : CheckpointValue) (m0 m : LogMap) (seg start : ℕ) (es : List Entry)
     (bytes : List ℕ) (none : ℕ)
-    → Running d dirty t k m0 m seg (Some es) → t.used seg ≡ start + suc (length es) → entries_in bytes ≡ Some es
-    → IsWritten d d' (segment_start seg + start) bytes → k.segments ≤ none
+    → Running d dirty t k m0 m seg (Some es) → t.used seg ≡ start + suc (length es) → t.used seg % unit_sectors k ≡ 0
+    → entries_in bytes ≡ Some es → IsWritten d d' (segment_start seg + start) bytes → k.segments ≤ none
     → Running d' dirty t k m0 m none None
 
 -- All is out: nothing is left in memory, and the usage table is on the device.
@@ -128,6 +136,7 @@ pub record LeadsTo (t : Tables) (version : ℕ) (k next : CheckpointValue) : Typ
   pub number : next.number ≡ k.number + 1
   pub segments : next.segments ≡ k.segments
   pub same : layout_version next ≡ version
+  pub unit : next.unit_power ≡ k.unit_power
   pub map : (j : ℕ) → get_or next.map j 0 ≡ t.at (Map j)
   pub usage : (j : ℕ) → get_or next.usage j 0 ≡ t.at (Usage j)
 
@@ -159,7 +168,7 @@ Resting = (d d' : DeviceState) (dirty : Dirty) (t t' : Tables) (k next : Checkpo
 -- A call that leaves the content, and leaves no more to a stop, changes nothing of it.
 abbrev pub Staying : Type 1
 Staying = (d d' : DeviceState) (dirty : Dirty) (t : Tables) (k : CheckpointValue) (m0 m : LogMap) (seg : ℕ) (chunk : Option (List Entry))
-    → Running d dirty t k m0 m seg chunk → IsUntouched d d' → Running d' dirty t k m0 m seg chunk
+    → Running d dirty t k m0 m seg chunk → IsUntouched d d' → d'.unit ≡ d.unit → Running d' dirty t k m0 m seg chunk
 
 -- What a mount puts into the tables: what the usage table and the inode map of the content say. A usage
 -- block in which a segment where nothing lives has an age isn't as a commit would write it, so it is stale.

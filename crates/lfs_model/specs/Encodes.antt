@@ -1,9 +1,9 @@
 -- The same from the writer's side: an assignment of addresses to the blocks that a log map stores.
 -- All of it is an own choice: a writer chooses addresses, where a reader follows pointers.
-use Rattle.std.specs.Prelude.{◌≡◌, ◌<◌, ◌≤◌, ◌⊎◌, ◌+◌, ◌*◌, ℕ, suc, List, length, get_or, Some, slice_index}
+use Rattle.std.specs.Prelude.{◌≡◌, ◌<◌, ◌≤◌, ◌⊎◌, ◌+◌, ◌*◌, ◌%◌, ℕ, suc, List, length, get_or, Some, slice_index}
 use Rattle.lfs_model.specs.declared.Kind.TheVariants.{Directory}
 use Rattle.lfs_model.specs.Entry.{Entry, Data, Leaf, Double, Inode, Map, Usage, Header, IsInode, header, word}
-use Rattle.lfs_model.specs.Checkpoint.{CheckpointValue, layout_version, usage_blocks}
+use Rattle.lfs_model.specs.Checkpoint.{CheckpointValue, layout_version, unit_sectors, usage_blocks}
 use Rattle.lfs_model.specs.Content.{Content, block}
 use Rattle.lfs_model.specs.Inode.{IsForm, direct_word, single_word, double_word}
 use Rattle.lfs_model.specs.Reach.{view_by, segment_start}
@@ -77,6 +77,7 @@ pub record Encodes (c : Content) (k : CheckpointValue) (A : Entry → ℕ) (m : 
   pub rows : IsRows (view_by c k A)
   pub named : AreNamed (view_by c k A)
   pub fit : (s : ℕ) → used_in (view_by c k A) s ≤ SEGMENT_SECTORS
+  pub whole : (s : ℕ) → s < k.segments → used_in (view_by c k A) s % unit_sectors k ≡ 0
   pub less : (s : ℕ)
       → (used_in (view_by c k A) s ≡ 0) ⊎ ((0 < live_in (view_by c k A) s) × (live_in (view_by c k A) s < used_in (view_by c k A) s))
   pub both : (s : ℕ) → used_in (view_by c k A) s ≡ 0 → live_in (view_by c k A) s ≡ 0

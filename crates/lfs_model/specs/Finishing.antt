@@ -1,8 +1,8 @@
 -- The beginning and the end of the log's memory: what a mount finds, and what a commit leaves for its checkpoint.
 -- The end of a commit, a checkpoint that leads to all that is live: the Sprite LFS paper (1992, section 4.1); clean segments: section 3.2.
-use Rattle.std.specs.Prelude.{◌≡◌, ◌<◌, ◌≤◌, ◌⊎◌, ◌+◌, ℕ, false, [], length, get_or, Option, Some, None}
+use Rattle.std.specs.Prelude.{◌≡◌, ◌<◌, ◌≤◌, ◌⊎◌, ◌+◌, ◌%◌, ℕ, false, [], length, get_or, Option, Some, None}
 use Rattle.lfs_model.specs.Entry.{Entry, Map, Usage}
-use Rattle.lfs_model.specs.Checkpoint.{CheckpointValue, layout_version}
+use Rattle.lfs_model.specs.Checkpoint.{CheckpointValue, layout_version, unit_sectors}
 use Rattle.lfs_model.specs.Content.{Content, block}
 use Rattle.lfs_model.specs.Crash.{IsFreeSector}
 use Rattle.lfs_model.specs.Decodes.{IsSized}
@@ -28,6 +28,8 @@ pub record IsDone (e : Content) (m : LogMap) (M : Memory) (opened_at : ℕ) (nex
   pub usage : (j : ℕ) → M.at (Usage j) ≡ get_or next.usage j 0
   pub long : (j : ℕ) → 0 < M.at (Usage j) → length (M.bytes (Usage j)) ≡ SECTOR_LEN
   pub used : (s : ℕ) → used_in (shown_view e m M next) s ≡ used_of m M s
+  -- whole units
+  pub whole : (s : ℕ) → s < next.segments → used_of m M s % unit_sectors next ≡ 0
   pub live : (s : ℕ) → live_in (shown_view e m M next) s ≡ live_of m M s
   pub age : (s : ℕ) → M.segments ≤ s → age_in (shown_view e m M next) s ≡ 0
   pub clean : EnoughClean (shown_view e m M next)

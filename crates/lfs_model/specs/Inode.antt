@@ -7,7 +7,7 @@ use Rattle.std.specs.Prelude.{nat_eq, if◌then◌else◌}
 use Rattle.lfs_model.specs.declared.Kind.{Kind}
 use Rattle.lfs_model.specs.declared.Kind.TheVariants.{File, Directory, Link}
 use Rattle.lfs_model.specs.Fields.{le32, words, zeros, join, Are32, read32, numbers, value_in}
-use Rattle.lfs_model.specs.Tree.{slot_len}
+use Rattle.lfs_model.specs.Tree.{IsDirectoryForm, slot_len}
 use Rattle.lfs_model.specs.declared.limits.TheConstants.{LAST_NUMBER, LARGEST_FILE, DIRECT_BLOCKS, LONGEST_PATH, MOST_ENTRIES, MOST_LINKS}
 
 unfoldable pub kind_byte : Kind → ℕ
@@ -32,11 +32,12 @@ pub record InodeValue : Type 0 where
   pub single : ℕ
   pub double : ℕ
 
--- the forms of an object in a version: the first, and for a directory each that is below the version
+-- the forms of an object in a version: a directory's, and of another the first
 abbrev pub IsForm : ℕ → Kind → ℕ → Type 0
-IsForm version kind zero = Unit {0}
+IsForm version Directory form = IsDirectoryForm version form
+IsForm version File zero = Unit {0}
 IsForm version File (suc form) = ⊥
-IsForm version Directory (suc form) = suc form < version
+IsForm version Link zero = Unit {0}
 IsForm version Link (suc form) = ⊥
 
 -- the sector of an inode, field by field

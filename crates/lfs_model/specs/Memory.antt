@@ -98,7 +98,7 @@ settled_at (suc zero) = 0
 settled_at (suc (suc a)) = suc (suc a)
 
 abbrev pub no_checkpoint : CheckpointValue
-no_checkpoint = record { number = 0; segments = 0; version = 1; map = []; usage = [] }
+no_checkpoint = record { number = 0; segments = 0; version = 1; unit_power = 0; map = []; usage = [] }
 
 -- what memory knows of the device, of such entries alone
 abbrev pub memory_view : (Entry → Bool) → Memory → View

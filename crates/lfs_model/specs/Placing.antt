@@ -125,6 +125,22 @@ Reopening = (e : Content) (m : LogMap) (M : Memory) (opened_at s : ℕ) (M' : Me
     → IsReopening M s M' → IsLaid e m M' s
     × ((is : Entry → Bool) (t : ℕ) → count_of is M' t ≡ count_of is M t)
 
+-- An entry more is named at the next sector of the open segment, to which no address leads.
+pub record IsPadding (M : Memory) (opened_at : ℕ) (x : Entry) (M' : Memory) : Type 0 where
+  pub segments : M'.segments ≡ M.segments
+  pub inside : opened_at < M.segments
+  pub at : M'.at ≡ M.at
+  pub bytes : M'.bytes ≡ M.bytes
+  pub some : 0 < length (M.rows opened_at)
+  pub room : length (M.rows opened_at) < SEGMENT_SECTORS
+  pub row : M'.rows opened_at ≡ M.rows opened_at ++ Some x ∷ []
+  pub rows : (t : ℕ) → (t ≡ opened_at → ⊥) → M'.rows t ≡ M.rows t
+
+abbrev pub Padding : Type 0
+Padding = (e : Content) (m : LogMap) (M : Memory) (opened_at : ℕ) (x : Entry) (M' : Memory) → IsLaid e m M opened_at
+    → IsPadding M opened_at x M' → IsLaid e m M' opened_at
+    × ((is : Entry → Bool) (t : ℕ) → count_of is M' t ≡ count_of is M t)
+
 -- The summary of the last chunk is written, behind the chunks before it: no segment is open.
 abbrev pub Sealing : Type 0
 Sealing = (e : Content) (m : LogMap) (M : Memory) (opened_at : ℕ) (before : Row) (bytes : List ℕ) (es : List Entry) → IsLaid e m M opened_at

@@ -1,9 +1,9 @@
 -- The log as it runs: what its tables and its table of blocks in memory have to do with the log's memory and the device.
 -- All of it is an own choice: it says of the code's tables what the laws about memory need.
-use Rattle.std.specs.Prelude.{◌≡◌, ◌<◌, ◌≤◌, ◌+◌, ◌*◌, ◌/◌, ◌==◌, cond, ℕ, suc, Bool, true, false, List, ◌∷◌, ◌++◌, map, length, Option}
-use Rattle.std.specs.Prelude.{Some, None, option_map}
+use Rattle.std.specs.Prelude.{◌≡◌, ◌<◌, ◌≤◌, ◌+◌, ◌*◌, ◌/◌, ◌%◌, ◌==◌, cond, ℕ, suc, Bool, true, false, List, ◌∷◌, ◌++◌, map, length}
+use Rattle.std.specs.Prelude.{Option, Some, None, option_map}
 use Rattle.lfs_model.specs.Entry.{Entry, Usage, half, word}
-use Rattle.lfs_model.specs.Checkpoint.{CheckpointValue, usage_blocks}
+use Rattle.lfs_model.specs.Checkpoint.{CheckpointValue, unit_sectors, usage_blocks}
 use Rattle.lfs_model.specs.Content.{Content}
 use Rattle.lfs_model.specs.Device.{DeviceState}
 use Rattle.lfs_model.specs.Reach.{Row, row_by}
@@ -74,6 +74,10 @@ abbrev pub IsOpenAt : Content → Memory → Tables → ℕ → Option (List Ent
 IsOpenAt e M t seg None = M.segments ≤ seg
 IsOpenAt e M t seg (Some es) = IsOpenFrom e M t seg es
 
+-- what is in use of each segment are whole units, but where the open chunk stands
+abbrev pub AreWhole : CheckpointValue → Tables → ℕ → Type 0
+AreWhole k t seg = (s : ℕ) → s < k.segments → (s ≡ seg → ⊥) → t.used s % unit_sectors k ≡ 0
+
 -- The log: k is the acknowledged checkpoint, of the log map m0; m is the present log map; `chunk` are the entries of the chunk
 -- that is being written to segment seg, if there is one.
 pub record Running (d : DeviceState) (dirty : Dirty) (t : Tables) (k : CheckpointValue) (m0 m : LogMap) (seg : ℕ)
@@ -87,6 +91,7 @@ pub record Running (d : DeviceState) (dirty : Dirty) (t : Tables) (k : Checkpoin
   pub fresh : (j : ℕ) → t.stale j ≡ false → j < usage_blocks k.segments → SpellsUsage t j (memory.bytes (Usage j))
   -- what was in use as the acknowledged checkpoint was written still is, and it needs no more
   pub part : (s : ℕ) → t.kept s ≤ t.used s
+  pub whole : AreWhole k t seg
   pub kept : (s : ℕ) → s < k.segments → IsFreeFrom d.content k s (t.kept s)
   pub opened : IsOpenAt d.content memory t seg chunk
 
@@ -164,6 +169,16 @@ pub record GoesOnIn (t t' : Tables) (s : ℕ) : Type 0 where
   pub live : (i : ℕ) → t'.live i ≡ t.live i
   pub held : (i : ℕ) → t'.held i ≡ t.held i
   pub age : (i : ℕ) → (i ≡ s → ⊥) → t'.age i ≡ t.age i
+  pub kept : (i : ℕ) → t'.kept i ≡ t.kept i
+  pub stale : IsSet t.stale t'.stale (s / BLOCK_SEGMENTS) true
+
+-- a sector more of segment s is in use, for no block
+pub record IsPadded (t t' : Tables) (s : ℕ) : Type 0 where
+  pub at : (y : Entry) → t'.at y ≡ t.at y
+  pub used : IsSet t.used t'.used s (suc (t.used s))
+  pub live : (i : ℕ) → t'.live i ≡ t.live i
+  pub held : (i : ℕ) → t'.held i ≡ t.held i
+  pub age : (i : ℕ) → t'.age i ≡ t.age i
   pub kept : (i : ℕ) → t'.kept i ≡ t.kept i
   pub stale : IsSet t.stale t'.stale (s / BLOCK_SEGMENTS) true
 

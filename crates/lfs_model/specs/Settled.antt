@@ -1,16 +1,19 @@
 -- A device whose acknowledged checkpoint stands for a log map, whatever a stop leaves, and the checkpoint that a commit puts in its place.
 -- Checkpoints written in turn, each once all that it leads to is on the device: the Sprite LFS paper (1992, section 4.1).
 use Rattle.std.specs.Prelude.{◌≡◌, ◌≤◌, ◌%◌, ℕ, List, Some}
-use Rattle.lfs_model.specs.Checkpoint.{CheckpointValue}
+use Rattle.lfs_model.specs.Checkpoint.{CheckpointValue, unit_sectors}
 use Rattle.lfs_model.specs.Content.{Content, newest}
 use Rattle.lfs_model.specs.Stands.{LogMap, StandsAt}
 use Rattle.lfs_model.specs.Crash.{Keeps, IsFreeSector, IsReadyFor, StandsOn, StandsForOn}
-use Rattle.lfs_model.specs.Device.{DeviceState, MayWrite, CrashWrites, IsUntouched, Only, put}
+use Rattle.lfs_model.specs.Device.{DeviceState, MayWriteUnit, CrashWritesUnit, IsUntouched, LieWithin, Only, put}
 use Rattle.lfs_model.specs.Reach.{view}
 use Rattle.lfs_model.specs.Stands.{used_in}
+use Rattle.lfs_model.specs.UnitLaws.{unit_by}
 
--- What is there stands for the log map by the acknowledged checkpoint k, and what a stop now leaves has what k needs.
+-- What is there stands for the log map by the acknowledged checkpoint k, and what a stop now leaves has what k needs. The device's units
+-- lie within those of the volume.
 pub record IsSettled (d : DeviceState) (k : CheckpointValue) (m : LogMap) : Type 0 where
+  pub units : LieWithin d.unit (unit_by (unit_sectors k))
   pub newest : newest d.content ≡ Some k
   pub stands : StandsAt d.content k m
   pub each : (c : Content) → d.may_leave c → Keeps d.content k c
@@ -33,22 +36,23 @@ SettledStands = (d : DeviceState) (k : CheckpointValue) (m : LogMap) → IsSettl
 abbrev pub SettledWrite : Type 1
 SettledWrite = (d d' : DeviceState) (k : CheckpointValue) (m : LogMap) (at : ℕ) (bytes : List ℕ) → IsSettled d k m
     → IsFreeSector d.content k at
-    → MayWrite at bytes d.content d'.content → CrashWrites at bytes d d'
+    → MayWriteUnit d.unit at bytes d.content d'.content → CrashWritesUnit at bytes d d' → d'.unit ≡ d.unit
     → IsSettled d' k m × ((s : ℕ) → used_in (view d'.content k) s ≡ used_in (view d.content k) s)
 
 -- So does a call that leaves the content, and leaves no more to a stop.
 abbrev pub SettledStill : Type 1
-SettledStill = (d d' : DeviceState) (k : CheckpointValue) (m : LogMap) → IsSettled d k m → IsUntouched d d' → IsSettled d' k m
+SettledStill = (d d' : DeviceState) (k : CheckpointValue) (m : LogMap) → IsSettled d k m → IsUntouched d d' → d'.unit ≡ d.unit
+    → IsSettled d' k m
 
 -- Once all is durable, the write of the next checkpoint's slot leaves, at each stop, the one log map or the other, on as many segments.
 abbrev pub SlotTorn : Type 1
 SlotTorn = (d d' : DeviceState) (k next : CheckpointValue) (m m' : LogMap) (slot : ℕ) (bytes : List ℕ) → IsSettled d k m
     → IsPlanned k d.content slot bytes next m'
-    → next.segments ≡ k.segments → Only d.content d → CrashWrites slot bytes d d' → (c : Content) → d'.may_leave c
+    → next.segments ≡ k.segments → Only d.content d → CrashWritesUnit slot bytes d d' → (c : Content) → d'.may_leave c
     → StandsForOn k.segments m m' c
 
 -- And once that is durable, the other.
 abbrev pub Acknowledged : Type 1
 Acknowledged = (d d' : DeviceState) (k next : CheckpointValue) (m m' : LogMap) (slot : ℕ) (bytes : List ℕ) → IsSettled d k m
     → IsPlanned k d.content slot bytes next m'
-    → d'.content ≡ put d.content slot bytes → Only d'.content d' → IsSettled d' next m'
+    → next.unit_power ≡ k.unit_power → d'.content ≡ put d.content slot bytes → Only d'.content d' → d'.unit ≡ d.unit → IsSettled d' next m'

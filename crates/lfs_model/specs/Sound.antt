@@ -1,10 +1,12 @@
 -- What holds of every state of a volume. The numbers are own choices.
-use Rattle.std.specs.Prelude.{ℕ, ◌*◌, ◌<◌, ◌≤◌, ◌≡◌, ◌≢◌, ◌⊎◌, true, List, length, Option, Some, None, T}
+use Rattle.std.specs.Prelude.{ℕ, ◌*◌, ◌<◌, ◌≤◌, ◌≡◌, ◌≢◌, true, List, length, Option, Some, None, T}
 use Rattle.std.specs.List.{AllByRecursion}
 use Rattle.std.specs.Ordering.{nat_cmp}
 use Rattle.std.specs.FinMap.{find, is_sorted}
 use Rattle.lfs_model.specs.Bytes.{AreBytes}
-use Rattle.lfs_model.specs.Tree.{Node, File, Dir, Link, Tree, State, node, entry, names, links, is_dir, byte_cmp, opened, name_len}
+use Rattle.lfs_model.specs.Checkpoint.{IsVersion}
+use Rattle.lfs_model.specs.Tree.{Node, File, Dir, Link, Tree, State, node, entry, names, links, is_dir, byte_cmp, opened}
+use Rattle.lfs_model.specs.Tree.{IsDirectoryForm, name_len}
 use Rattle.lfs_model.specs.Walk.{dot, dot_dot}
 use Rattle.lfs_model.specs.Need.{need}
 use Rattle.lfs_model.specs.declared.limits.TheConstants.{LAST_NUMBER, LARGEST_FILE, LONGEST_PATH, MOST_ENTRIES, MOST_LINKS, MOST_HANDLES}
@@ -35,9 +37,9 @@ IsWithinLimits (File b) = (length b ≤ LARGEST_FILE) × AreBytes b
 IsWithinLimits (Dir form m) = T (is_sorted byte_cmp m) × (length m ≤ MOST_ENTRIES) × AllByRecursion (λ e. IsGoodName (name_len form) e.0) m
 IsWithinLimits (Link text) = (0 < length text) × (length text ≤ LONGEST_PATH) × AllByRecursion (λ c. c ≢ 0) text × AreBytes text
 
--- a directory's form is below the version: in version 1 every form is 0
+-- a directory's form is one of the version: in version 1 every form is 0
 abbrev pub IsOfVersion : ℕ → Node → Type 0
-IsOfVersion version (Dir form m) = form < version
+IsOfVersion version (Dir form m) = IsDirectoryForm version form
 IsOfVersion version _ = Unit {0}
 
 -- it is a file
@@ -53,7 +55,7 @@ pub record IsKeptOpen (s : State) (n : ℕ) : Type 0 where
 pub record Sound (N : ℕ) (s : State) : Type 0 where
   pub in_order : T (is_sorted nat_cmp s.tree)
   pub handles_in_order : T (is_sorted nat_cmp s.handles)
-  pub version : (s.version ≡ 1) ⊎ (s.version ≡ 2)
+  pub version : IsVersion s.version
   pub forms : (n : ℕ) (x : Node) → node s.tree n ≡ Some x → IsOfVersion s.version x
   pub root : is_dir (node s.tree 1) ≡ true
   pub numbers : (n : ℕ) → node s.tree n ≢ None → (1 ≤ n) × (n ≤ LAST_NUMBER)

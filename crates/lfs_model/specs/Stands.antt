@@ -5,7 +5,7 @@ use Rattle.std.specs.Prelude.{length, count_by, Option, Some, None, slice_index}
 use Rattle.std.specs.List.{range_with_len}
 use Rattle.lfs_model.specs.declared.Kind.TheVariants.{Directory}
 use Rattle.lfs_model.specs.Entry.{Entry, Data, Leaf, Double, Inode, Map, Usage, Header, IsInode, header, word, half}
-use Rattle.lfs_model.specs.Checkpoint.{CheckpointValue, layout_version, usage_blocks}
+use Rattle.lfs_model.specs.Checkpoint.{CheckpointValue, layout_version, unit_sectors, usage_blocks}
 use Rattle.lfs_model.specs.Content.{Content, newest}
 use Rattle.lfs_model.specs.Reach.{View, view, Row, place_in, segment_start}
 use Rattle.lfs_model.specs.declared.limits.TheConstants.{SECTOR_LEN, CHECKPOINT_SLOTS, SEGMENT_SECTORS, BLOCK_POINTERS, BLOCK_SEGMENTS}
@@ -69,6 +69,8 @@ module _ (v : View) where
     pub fresh : Fresh 1
     pub readable : (j : ℕ) → Reached (Usage j) → length (v.block (Usage j)) ≡ SECTOR_LEN
     pub fit : (s : ℕ) → used_in s ≤ SEGMENT_SECTORS
+    -- whole units
+    pub whole : (s : ℕ) → s < v.checkpoint.segments → used_in s % unit_sectors v.checkpoint ≡ 0
     pub less : (s : ℕ) → (used_in s ≡ 0) ⊎ ((0 < live_in s) × (live_in s < used_in s))
     pub both : (s : ℕ) → used_in s ≡ 0 → live_in s ≡ 0
     pub past : (s : ℕ) → v.checkpoint.segments ≤ s → (used_in s ≡ 0) × (age_in s ≡ 0)

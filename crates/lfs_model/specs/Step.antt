@@ -1,6 +1,6 @@
 -- The calls, row by row: what refuses each, in the order in which it is checked, and then its answer and its change.
 -- The meanings are those of POSIX.1-2017 for the call named beside each row; the order of the refusals is an own choice.
-use Rattle.std.specs.Prelude.{ℕ, ◌+◌, ◌-◌, ◌*◌, ◌≡◌, Bool, true, false, not, ◌&&◌, ◌||◌, List, [], ◌∷◌, ◌++◌, map, length, take, ◌==◌}
+use Rattle.std.specs.Prelude.{ℕ, ◌+◌, ◌-◌, ◌*◌, ◌≡◌, cond, Bool, true, false, not, ◌&&◌, ◌||◌, List, [], ◌∷◌, ◌++◌, map, length, take, ◌==◌}
 use Rattle.std.specs.Prelude.{if◌then◌else◌, nat_lt, nat_le, is_some, is_none, unwrap_or, option_map, flat_map, suc, zero}
 use Rattle.std.specs.List.{list_any}
 use Rattle.std.specs.Ordering.{nat_cmp}
@@ -8,7 +8,7 @@ use Rattle.std.specs.FinMap.{find, put}
 use Rattle.lfs_model.specs.Bytes as bytes
 use Rattle.lfs_model.specs.Tree.{Node, File, Dir, Link, Tree, Handles, State, node, with_node, without, is_dir, names_of, names_in, entry}
 use Rattle.lfs_model.specs.Tree.{with_name, without_name, same_name, names, links, up, least, least_handle, opened, slot_len, form_of}
-use Rattle.lfs_model.specs.Tree.{name_limit}
+use Rattle.lfs_model.specs.Tree.{name_limit, new_form}
 use Rattle.lfs_model.specs.PathText.{comps, slash, last, text_refusal}
 use Rattle.lfs_model.specs.Refusal.{Refusal, NoEntry, NotDir, IsDir, Exist, NotEmpty, Inval, NameTooLong, Perm, Busy, BadHandle}
 use Rattle.lfs_model.specs.Refusal.{TooManyOpen, TooManyLinks, FileTooBig, NoSpace, NoNumber, DirFull}
@@ -205,7 +205,7 @@ truncates s h n = let f = file_at s h in
 
 -- mkdir, with the parent d; the form of a new directory is the version's
 abbrev pub makes_dir : ℕ → State → List ℕ → ℕ → Answer × State
-makes_dir N s p d = let t' = with_new s.tree d p (Dir (s.version - 1) []) in
+makes_dir N s p d = let t' = with_new s.tree d p (Dir (new_form s.version) []) in
     checked s (new_entry s.tree d p true ++ when (nat_le MOST_LINKS (links s.tree d)) TooManyLinks ∷ no_number s.tree ∷ no_space N t' ∷ [])
     (Done, with_tree s t')
 
@@ -264,9 +264,13 @@ renames N s a b da db = let t = s.tree in let n = target t da a in let old = tar
 abbrev pub lists : State → ℕ → Answer × State
 lists s n = checked s (when (not (is_dir (node s.tree n))) NotDir ∷ []) (Entries (map (entry_of s.tree) (names_in s.tree n)), s)
 
--- upgrade: the version of the layout becomes 2
+-- the version after an upgrade
+abbrev pub raised_version : ℕ → ℕ
+raised_version version = cond (version == 1) 2 version
+
+-- upgrade: the version of the layout becomes 2 where it is 1
 abbrev pub upgrades : State → Answer × State
-upgrades s = (Done, record s { version = 2 })
+upgrades s = (Done, record s { version = raised_version s.version })
 
 -- the tree with directory n in form 1: its names and their numbers stay
 abbrev pub widened : Tree → ℕ → Tree

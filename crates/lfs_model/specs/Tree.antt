@@ -1,5 +1,6 @@
 -- The state of a volume: a tree of numbered nodes, and the open handles.
 -- Numbers are POSIX's file serial numbers, handles its file descriptors (POSIX.1-2017, Definitions).
+use Rattle.std.specs.Prelude.{◌≡◌, ◌<◌, ◌≤◌, cond}
 use Rattle.std.specs.Prelude.{ℕ, zero, suc, ◌+◌, ◌-◌, Bool, true, false, not, ◌&&◌, ◌||◌, List, [], ◌∷◌, ◌==◌, if◌then◌else◌, Option, Some}
 use Rattle.std.specs.Prelude.{unwrap_or, option_map, sum_by, count_by}
 use Rattle.std.specs.List.{list_any, filter, find as first_that}
@@ -7,7 +8,7 @@ use Rattle.std.specs.Ordering.{nat_cmp, eq_by_cmp}
 use Rattle.std.specs.declared.cmp.Ordering.{Ordering}
 use Rattle.std.specs.Cmp.Lexicographic.{slice_cmp}
 use Rattle.std.specs.FinMap.{find, put}
-use Rattle.lfs_model.specs.declared.limits.TheConstants.{NARROW_SLOT, WIDE_SLOT}
+use Rattle.lfs_model.specs.declared.limits.TheConstants.{LAST_SECTOR_VERSION, NARROW_SLOT, WIDE_SLOT}
 
 -- a directory's names with the numbers that they give, in the order of the names' bytes (POSIX.1-2017, Definitions: Directory Entry)
 abbrev pub Names : Type 0
@@ -61,6 +62,15 @@ form_of _ = 0
 abbrev pub is_dir : Option Node → Bool
 is_dir (Some (Dir form m)) = true
 is_dir _ = false
+
+-- the form of the directories that are made in a version: own choice
+abbrev pub new_form : ℕ → ℕ
+new_form version = cond (version == 1) 0 1
+
+-- The forms of a directory in a version: the first in versions whose units are sectors, the second in all but the first.
+abbrev pub IsDirectoryForm : ℕ → ℕ → Type 0
+IsDirectoryForm version zero = version ≤ LAST_SECTOR_VERSION
+IsDirectoryForm version (suc form) = (form ≡ 0) × (1 < version)
 
 -- the bytes of an entry's slot in a directory of this form: own choice
 abbrev pub slot_len : ℕ → ℕ

@@ -5,12 +5,12 @@ use Rattle.lfs_model.specs.Call.{Answer, Call, Refuse, takes_no_memory}
 use Rattle.lfs_model.specs.Checkpoint.{CheckpointValue}
 use Rattle.lfs_model.specs.Content.{newest}
 use Rattle.lfs_model.specs.Device.{DeviceState, Only}
-use Rattle.lfs_model.specs.Image.{IsNew, new_form}
+use Rattle.lfs_model.specs.Image.{IsNew}
 use Rattle.lfs_model.specs.Refusal.{NoMemory}
 use Rattle.lfs_model.specs.Run.{Point, RunOf}
 use Rattle.lfs_model.specs.Script.{Line, call_of}
 use Rattle.lfs_model.specs.Step.{Step}
-use Rattle.lfs_model.specs.Tree.{Dir}
+use Rattle.lfs_model.specs.Tree.{Dir, new_form}
 use Rattle.lfs_model.specs.Use.{UsesVolume}
 use Rattle.lfs_model.specs.Volume.{LeavesPrefix, mounted}
 
@@ -27,13 +27,13 @@ new_point version d = record {
 }
 
 -- A use of a new volume of N segments begins there.
-abbrev pub BeginsNew : ℕ → ℕ → DeviceState → DeviceState → Type 0
-BeginsNew version N d d' = IsNew version N d.content → (lines : List Line) (answers : List Answer) (u : UsesVolume d d' lines answers)
+abbrev pub BeginsNew : ℕ → ℕ → ℕ → DeviceState → DeviceState → Type 0
+BeginsNew version N p d d' = IsNew version N p d.content → (lines : List Line) (answers : List Answer) (u : UsesVolume d d' lines answers)
     → (u.segments ≡ N) × (u.first.number ≡ 1) × (u.first.state ≡ (new_point version d).state)
 
 -- Where a stop leaves the new volume alone, that is the one state that is pending after no call.
-abbrev pub NewIsPending : ℕ → ℕ → DeviceState → Type 0
-NewIsPending version N d = IsNew version N d.content → Only d.content d → LeavesPrefix d (new_point version d ∷ []) [] []
+abbrev pub NewIsPending : ℕ → ℕ → ℕ → DeviceState → Type 0
+NewIsPending version N p d = IsNew version N p d.content → Only d.content d → LeavesPrefix d (new_point version d ∷ []) [] []
 
 -- ---- answers
 

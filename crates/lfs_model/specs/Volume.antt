@@ -7,14 +7,14 @@ use Rattle.lfs_model.specs.Content.{Content, newest}
 use Rattle.lfs_model.specs.Crash.{IsReadyFor, Keeps}
 use Rattle.lfs_model.specs.Damage.{IsDamaged, stage}
 use Rattle.lfs_model.specs.Device.{AllLeft, DeviceState, IsSector, MayWrite}
-use Rattle.lfs_model.specs.Image.{IsNew, new_form}
+use Rattle.lfs_model.specs.Image.{IsNew}
 use Rattle.lfs_model.specs.Call.{Call, Answer}
 use Rattle.lfs_model.specs.Reach.{view, segment_start}
 use Rattle.lfs_model.specs.Run.{Point, StandsForPending}
 use Rattle.lfs_model.specs.Sound.{Sound}
 use Rattle.lfs_model.specs.Encodes.{IsLogMap}
 use Rattle.lfs_model.specs.Stands.{LogMap, StandsAt, log_in}
-use Rattle.lfs_model.specs.Tree.{State, Tree, Dir, drop_nameless}
+use Rattle.lfs_model.specs.Tree.{State, Tree, Dir, drop_nameless, new_form}
 use Rattle.lfs_model.specs.TreeOf.{AreFormed, AreLinks, Stands, TreeOf, dropped, tree_in}
 use Rattle.lfs_model.specs.declared.limits.TheConstants.{LEAST_SECTORS}
 
@@ -60,7 +60,7 @@ NotRefused = (c : Content) (s : State) → Stands c s → ¬ (IsTooSmall c) × �
 
 -- A new volume has an empty root.
 abbrev pub NewVolume : Type 0
-NewVolume = (version N : ℕ) (c : Content) → IsNew version N c → Stands c (mounted version ((1, Dir (new_form version) []) ∷ []))
+NewVolume = (version N p : ℕ) (c : Content) → IsNew version N p c → Stands c (mounted version ((1, Dir (new_form version) []) ∷ []))
 
 -- The log map of a running volume of N segments in this state. A file without a name is in it, and its header has links 0.
 pub record IsLogOf (N : ℕ) (m : LogMap) (s : State) : Type 0 where

@@ -29,6 +29,17 @@ pub const MOST_SEGMENTS: u32 = 1_024;
 /// The sectors that a volume has at least.
 pub const LEAST_SECTORS: u32 = 4_098;
 
+// Versions of the layout: those in use are 1 to `LAST_VERSION`.
+
+/// The last version whose units are sectors.
+pub const LAST_SECTOR_VERSION: u32 = 2;
+
+/// The last version: it has units, and a checksum in each checkpoint.
+pub const LAST_VERSION: u32 = 3;
+
+/// The logarithm to base 2 of how many sectors a unit has at most, in the last version.
+pub const MOST_UNIT_POWER: u8 = 6;
+
 // Files.
 
 /// The numbers of files, with 0, which no file has.

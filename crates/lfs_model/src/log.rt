@@ -1,6 +1,6 @@
 //! The log in memory and on its device: the laws of its one invariant, each the contract of a
 //! function that does nothing.
-ghost use Rattle.lfs_model.specs.Placing.{Placing, MapPlacing, MapLeaving, Settling, Filling, Opening, Reopening, Sealing};
+ghost use Rattle.lfs_model.specs.Placing.{Placing, MapPlacing, MapLeaving, Settling, Filling, Opening, Reopening, Padding, Sealing};
 ghost use Rattle.lfs_model.specs.Lifting.{Lifting, MapLifting, UsageLifting};
 ghost use Rattle.lfs_model.specs.Changing.{Rewriting, Adding, Removing, Growing, Shrinking, Relabeling, Creating, Forgetting, Reading};
 ghost use Rattle.lfs_model.specs.Detaching.{Detaching, DetachedCounts, DetachedLive};
@@ -42,6 +42,11 @@ pub fn opening()
 /// A segment with room is opened again, and all counts stay.
 pub fn reopening()
     ensures { Reopening }
+{}
+
+/// The last chunk names an entry more to whose sector no address leads, and all counts stay.
+pub fn padding()
+    ensures { Padding }
 {}
 
 /// The summary of the last chunk is written, and no segment is open.

@@ -3,6 +3,7 @@ ghost use Rattle.lfs_salvage.specs.Telling.{TellsNothing};
 
 use crate::wording::{put_damage, put_slot, put_unfinished};
 use lfs_device::{SectorDevice, World};
+use lfs_fs::FsError;
 use lfs_host::fault::{Ending, Fault, Refusal};
 use lfs_host::image::{Beside, Patience, open_to_look};
 use lfs_host::printing::flush;
@@ -103,11 +104,12 @@ pub fn explain<Here: World, R: Files<File = File> + Clock, W: Write>(
     let Some(code) = code_of(checked) else {
         return Ok(checked);
     };
-    match open_to_look::<Here, R>(rt, image, patience) {
+    match open_to_look::<Here, R>(rt, alloc, image, patience) {
         Ok((mut device, Beside::Nobody)) => {
             explain_device(alloc, &mut device, code, output)?;
             Ok(checked)
         }
+        Err(Refusal::Call(FsError::NoMemory)) => Err(Fault::Memory(AllocError)),
         Ok((_, Beside::Writer)) | Err(_) => Ok(checked),
     }
 }

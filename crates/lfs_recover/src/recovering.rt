@@ -128,9 +128,9 @@ pub fn recover<Here: World, R: Files<File = File> + Clock, W: Write>(
     recovery: Recovery<'_>,
     output: &mut W,
 ) -> Result<Ending, Fault> {
-    let (mut device, beside) = match open_to_look::<Here, R>(rt, image, Patience::Second) {
+    let (mut device, beside) = match open_to_look::<Here, R>(rt, alloc, image, Patience::Second) {
         Ok(opened) => opened,
-        Err(fault) => return refuse(output, Refusal::Image(fault)),
+        Err(refusal) => return refuse(output, refusal),
     };
     if beside == Beside::Writer {
         return refuse(output, Refusal::Image(ImageFault::InUse));

@@ -7,7 +7,7 @@ use crate::readings::read_sector;
 use crate::survey::Survey;
 use crate::walk::{NUMBERS, ROOT};
 use lfs_device::SectorDevice;
-use lfs_layout::{BlockName, Inode, InodeView, PointerView, is_zero};
+use lfs_layout::{BlockName, Inode, InodeView, PointerView, is_form, is_zero};
 use lfs_model::limits::{BLOCK_POINTERS, DIRECT_BLOCKS, FIRST_DOUBLE};
 use lfs_model::{BlockKind, Kind};
 use std::alloc::Global;
@@ -34,7 +34,7 @@ fn take_inode<D: SectorDevice>(
     let bytes = survey.take(device, sector, name)?;
     let inode = InodeView::decode(&bytes)?.to_inode();
     let is_rooted = number != ROOT || inode.kind == Kind::Directory;
-    let has_form = u32::from(inode.form) < survey.checkpoint.version;
+    let has_form = is_form(survey.checkpoint.version, inode.kind, inode.form);
     if inode.number == number && is_rooted && has_form {
         Some(inode)
     } else {

@@ -6,13 +6,15 @@ ghost use Rattle.lfs_model.specs.UseLaws.{BeginsNew, NewIsPending, UsesArePlain}
 
 use lfs_device::SectorDevice;
 
-/// The first use of a new volume of a version, as `format` makes one of version 1, begins with an
+/// The first use of a new volume of a version, as `format` makes one of version 1, whatever its units
+/// are, begins with an
 /// empty root, on as many segments, by checkpoint 1. This state is the one that is pending before
 /// it, which is the premise on which a use goes on.
 pub fn new_volumes_begin_empty<D: SectorDevice>(device: &D, used: &D)
-    ensures begins { (version N : ℕ)
-        → BeginsNew version N (in_sectors D.state device.now) (in_sectors D.state used.now) }
-    ensures pending { (version N : ℕ) → NewIsPending version N (in_sectors D.state device.now) }
+    ensures begins { (version N p : ℕ)
+        → BeginsNew version N p (in_sectors D.state device.now) (in_sectors D.state used.now) }
+    ensures pending { (version N p : ℕ)
+        → NewIsPending version N p (in_sectors D.state device.now) }
 {}
 
 /// Where no call of the device failed in a use, each answer is the model's, but for want of

@@ -10,6 +10,9 @@ module _ (old new : UsageTable) (s number : ℕ) (go : Begins old new s number) 
   pub begins_size : length new.segments ≡ length old.segments
   begins_size = grind arith
 
+  pub begins_unit : new.unit ≡ old.unit
+  begins_unit = grind arith
+
   -- the segment has room for a block
   pub begins_room : used_of new s < 64
   begins_room = grind arith

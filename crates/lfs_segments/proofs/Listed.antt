@@ -96,6 +96,7 @@ pub record ReleasesListed (old now : UsageTable) (l : Unsettled) (k : ℕ) : Typ
   pub size : length now.segments ≡ length old.segments
   pub blocks : now.blocks ≡ old.blocks
   pub last : now.last ≡ old.last
+  pub unit : now.unit ≡ old.unit
   pub done : (i : ℕ) → i < k
       → get_or now.segments (get_or l.segments i 0) no_segment ≡ released (get_or old.segments (get_or l.segments i 0) no_segment)
   pub either : (s : ℕ) → (get_or now.segments s no_segment ≡ released (get_or old.segments s no_segment))
@@ -109,6 +110,7 @@ listed_goes_on {old} {now} {l} {k} {s} {x} so is lt same new_is = subst (λ t. R
   size = length-set now.segments s x ∙ so.size;
   blocks = so.blocks;
   last = so.last;
+  unit = so.unit;
   done = λ i low. ⊎_elim
       (own (get_or l.segments i 0))
       (λ away. set_other now.segments x away ∙ so.done i (earlier i low away))
@@ -136,6 +138,7 @@ listed_ends {old} {now} so le lists room = record {
   size = so.size;
   blocks = so.blocks;
   last = so.last;
+  unit = so.unit;
   clean = so.clean;
 }
   where

@@ -3,6 +3,7 @@ use Rattle.std.proofs.Common.{Option, ◌≡◌, ◌≢◌, ◌<◌, ◌≤◌, 
 use Rattle.std.proofs.Common.{replicate, refl, sym, ◌∙◌, ap, subst, arith, eq-eqb, length-set, get_or-set_other, get_or-set_same}
 use Rattle.std.specs.Prelude.{slice_set}
 use Rattle.std.proofs.lemmas.Bool.{cases_eq, ne_eqb}
+use Rattle.lfs_model.specs.declared.limits.TheConstants.{MOST_UNIT_POWER}
 use Rattle.lfs_model.specs.Stands.{count_up}
 use Rattle.lfs_model.proofs.Live.{count_up_none, count_up_more, count_up_same}
 use Rattle.lfs_segments.specs.Table.{SegmentNumbers, no_segment, is_clean_in, clean_in, PlaceInSegment, FitsSegment, FitsTable}
@@ -88,20 +89,23 @@ all_clean n = ap (count_up (is_clean_in (replicate n no_segment))) (long n) ∙ 
 pub all_fit : (n : ℕ) (i : ℕ) → FitsSegment (get_or (replicate n no_segment) i no_segment)
 all_fit n i = subst FitsSegment (sym (no_segment_there n i)) (record { used = omega arith; fewer = omega arith; kept = omega arith })
 
-pub new_fits : (o : Option ℕ) {segments : List SegmentNumbers} (blocks : List PlaceInSegment) (n : ℕ) → n ≤ 1024
-    → segments ≡ replicate n no_segment → length blocks ≡ 16 → FitsTable (record { segments = segments; blocks = blocks; last = o })
-new_fits o blocks n few is whole = record {
+pub new_fits : (o : Option ℕ) {segments : List SegmentNumbers} (blocks : List PlaceInSegment) (n unit : ℕ) → n ≤ 1024
+    → unit ≤ MOST_UNIT_POWER → segments ≡ replicate n no_segment → length blocks ≡ 16
+    → FitsTable (record { segments = segments; blocks = blocks; last = o; unit = unit })
+new_fits o blocks n unit few low is whole = record {
   few = let l = ap length is ∙ long n in omega arith;
   blocks = whole;
+  unit = low;
   each = λ s. subst (λ l. FitsSegment (get_or l s no_segment)) (sym is) (all_fit n s);
 }
 
 -- the table with a segment's numbers changed
-pub set_fits : (o : Option ℕ) (segments : List SegmentNumbers) (blocks : List PlaceInSegment) (s : ℕ) {x : SegmentNumbers}
-    → FitsTable (record { segments = segments; blocks = blocks; last = o }) → s < length segments → FitsSegment x
-    → FitsTable (record { segments = slice_set segments s x; blocks = blocks; last = o })
-set_fits o segments blocks s {x} fits lt own = record {
+pub set_fits : (o : Option ℕ) (segments : List SegmentNumbers) (blocks : List PlaceInSegment) (unit s : ℕ) {x : SegmentNumbers}
+    → FitsTable (record { segments = segments; blocks = blocks; last = o; unit = unit }) → s < length segments → FitsSegment x
+    → FitsTable (record { segments = slice_set segments s x; blocks = blocks; last = o; unit = unit })
+set_fits o segments blocks unit s {x} fits lt own = record {
   few = omega (arith, length-set segments s x);
   blocks = fits.blocks;
+  unit = fits.unit;
   each = set_each FitsSegment segments s x lt own fits.each;
 }

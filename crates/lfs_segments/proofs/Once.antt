@@ -4,7 +4,7 @@ use Rattle.std.proofs.Common.{ap, subst, arith}
 use Rattle.lfs_model.specs.Summary.{BlockNameValue}
 use Rattle.lfs_segments.specs.Table.{UsageTable, used_of}
 use Rattle.lfs_segments.specs.Chunk.{Chunk, IsOpenChunk, StaysInPlace, summary_at}
-use Rattle.lfs_segments.specs.Steps.{Begins, Notes}
+use Rattle.lfs_segments.specs.Steps.{Begins, Notes, Pads}
 use Rattle.lfs_segments.specs.Once.{WrittenSince, WrittenOnce, EachOnce, WritesNothing, WritesTo, first_behind, with_address}
 
 module _ {s : ℕ} {t t' : UsageTable} {c c' : Chunk} {written : List ℕ} (once : WrittenOnce s t c written) where
@@ -14,6 +14,10 @@ module _ {s : ℕ} {t t' : UsageTable} {c c' : Chunk} {written : List ℕ} (once
   placed_once : {lives : Bool} → IsOpenChunk c t → Notes t t' c.segment lives → StaysInPlace c c'
       → WrittenOnce s t' c' (with_address s c (first_behind t c.segment) written)
   placed_once opened notes stays = grind arith
+
+  padded_once : (name : BlockNameValue) → IsOpenChunk c t → Pads t t' c.segment → StaysInPlace c c' → c'.names ≡ c.names ++ name ∷ []
+      → WrittenOnce s t' c' written
+  padded_once name opened pads stays names = grind (arith, ap length names)
 
   sealed_once : t' ≡ t → IsOpenChunk c t → 0 < length c.names → StaysInPlace c c' → c'.names ≡ []
       → WrittenOnce s t' c' (with_address s c (summary_at c) written)
@@ -28,6 +32,8 @@ each_once s _ _ _ (WrittenSince.begun t t' c c' written number before begins sta
     begun_once (each_once s t c written before) begins start
 each_once s _ _ _ (WrittenSince.placed t t' c c' written name lives before opened notes stays names) =
     placed_once (each_once s t c written before) opened notes stays
+each_once s _ _ _ (WrittenSince.padded t t' c c' written name before opened pads stays names) =
+    padded_once (each_once s t c written before) name opened pads stays names
 each_once s _ _ _ (WrittenSince.sealed t c c' written before opened some stays ended) =
     sealed_once (each_once s t c written before) refl opened some stays ended
 each_once s _ _ _ (WrittenSince.changed t t' c written before same) = changed_once (each_once s t c written before) refl same
@@ -43,6 +49,11 @@ pub placed_step : (t t' : UsageTable) (c c' : Chunk) (name : BlockNameValue) (li
 placed_step t t' c c' name lives address opened notes stays names at s written before =
     subst (λ a. WrittenSince s t' c' (with_address s c a written)) (sym at)
     (WrittenSince.placed t t' c c' written name lives before opened notes stays names)
+
+pub padded_step : (t t' : UsageTable) (c c' : Chunk) (name : BlockNameValue) → IsOpenChunk c t
+    → Pads t t' c.segment → StaysInPlace c c' → c'.names ≡ c.names ++ name ∷ [] → WritesNothing t t' c c'
+padded_step t t' c c' name opened pads stays names s written before =
+    WrittenSince.padded t t' c c' written name before opened pads stays names
 
 pub sealed_step : (t : UsageTable) (c c' : Chunk) → IsOpenChunk c t → 0 < length c.names → StaysInPlace c c' → c'.names ≡ []
     → WritesTo t t c c' (summary_at c)

@@ -6,7 +6,7 @@ use Rattle.std.proofs.lemmas.Bool.{cases_eq, ne_eqb}
 use Rattle.lfs_model.specs.Running.{IsSet, CountsUp, CountsDown}
 use Rattle.lfs_segments.specs.Table.{SegmentNumbers, UsageTable, FitsTable, no_segment, no_place, used_of}
 use Rattle.lfs_segments.specs.Table.{live_of, held_of, age_of, kept_of, clean_in}
-use Rattle.lfs_segments.specs.Steps.{Stales, Notes, Lifts, TakesAway, HidesBlocks, TakesSegment, GoesOn, released}
+use Rattle.lfs_segments.specs.Steps.{Stales, Notes, Pads, Lifts, TakesAway, HidesBlocks, TakesSegment, GoesOn, released}
 use Rattle.lfs_segments.specs.Steps.{is_empty, changed}
 use Rattle.lfs_segments.proofs.Numbers.{set_own, set_other, one_taken, still_clean, clean_change, one_at_most}
 
@@ -71,6 +71,22 @@ module _ {old : UsageTable} {s : ℕ} (x : SegmentNumbers) (fits : FitsTable old
     kept = stays (λ n. n.kept) kept;
     blocks = differs;
     last = refl;
+    unit = refl;
+    size = size;
+    clean = in_use (λ z. omega arith) used;
+  })
+
+  pub pads_of : {new : UsageTable} → 0 < used_of old s → x.used ≡ suc (used_of old s) → x.live ≡ live_of old s
+      → x.held ≡ held_of old s → x.age ≡ age_of old s → x.kept ≡ kept_of old s → new ≡ changed old s x → Pads old new s
+  pads_of some used live held age kept is = subst (λ t. Pads old t s) (sym is) (record {
+    used = set_to used (sets (λ n. n.used));
+    live = stays (λ n. n.live) live;
+    held = stays (λ n. n.held) held;
+    age = stays (λ n. n.age) age;
+    kept = stays (λ n. n.kept) kept;
+    blocks = differs;
+    last = refl;
+    unit = refl;
     size = size;
     clean = in_use (λ z. omega arith) used;
   })
@@ -92,6 +108,7 @@ module _ {old : UsageTable} {s : ℕ} (x : SegmentNumbers) (fits : FitsTable old
         kept = stays (λ n. n.kept) kept;
         blocks = differs;
         last = refl;
+        unit = refl;
         size = size;
         clean = in_use (λ z. omega arith) used;
       })
@@ -108,6 +125,7 @@ module _ {old : UsageTable} {s : ℕ} (x : SegmentNumbers) (fits : FitsTable old
       kept = stays (λ n. n.kept) kept;
       blocks = differs;
       last = refl;
+      unit = refl;
       size = size;
       clean = as_clean used;
     })
@@ -122,6 +140,7 @@ module _ {old : UsageTable} {s : ℕ} (x : SegmentNumbers) (fits : FitsTable old
       kept = stays (λ n. n.kept) kept;
       blocks = differs;
       last = refl;
+      unit = refl;
       size = size;
       clean = as_clean used;
     })
@@ -135,15 +154,15 @@ module _ {old : UsageTable} {s : ℕ} (x : SegmentNumbers) (fits : FitsTable old
       kept = stays (λ n. n.kept) kept;
       blocks = differs;
       last = refl;
+      unit = refl;
       size = size;
       clean = as_clean used;
     })
 
 -- a clean segment is taken: nothing lives in it, and nothing holds it
 pub takes_of : {old new : UsageTable} {s age : ℕ} → FitsTable old → s < length old.segments → used_of old s ≡ 0
-    → new ≡ record {
+    → new ≡ record old {
       segments = slice_set old.segments s (record { used = 1; live = 0; held = 0; age = age; kept = 0 });
-      blocks = old.blocks;
       last = Some s;
     } → TakesSegment old new s age
 takes_of {old} {s} {age} fits lt clean is =
@@ -161,6 +180,7 @@ takes_of {old} {s} {age} fits lt clean is =
       blocks = λ i. (refl, refl);
       size = length-set old.segments s x;
       last = refl;
+      unit = refl;
       count = one_taken old.segments s x lt clean (λ h. omega arith);
     })
 
@@ -169,6 +189,7 @@ pub record ReleasedTo (old now : UsageTable) (k : ℕ) : Type 0 where
   pub size : length now.segments ≡ length old.segments
   pub blocks : now.blocks ≡ old.blocks
   pub last : now.last ≡ old.last
+  pub unit : now.unit ≡ old.unit
   pub before : (s : ℕ) → s < k → get_or now.segments s no_segment ≡ released (get_or old.segments s no_segment)
   pub after : (s : ℕ) → k ≤ s → get_or now.segments s no_segment ≡ get_or old.segments s no_segment
   pub clean : clean_in old.segments ≤ clean_in now.segments
@@ -191,6 +212,7 @@ release_goes_on {old} {now} {k} {x} so lt same is = subst (λ t. ReleasedTo old 
   size = length-set now.segments k x ∙ so.size;
   blocks = so.blocks;
   last = so.last;
+  unit = so.unit;
   before = λ s low. ⊎_elim
       (λ here. rw here (set_own now.segments k x lt ∙ same ∙ ap released (so.after k (omega arith))))
       (λ away. set_other now.segments x away ∙ so.before s (omega arith))

@@ -1,13 +1,14 @@
 -- The chunk that is being filled. Chunks of blocks behind a summary are those
 -- of the Sprite LFS paper (1992, section 3.3), called partial segments there.
-use Rattle.std.specs.Prelude.{◌≡◌, ◌<◌, ◌≤◌, ◌+◌, ◌-◌, ◌*◌, ◌%◌, ◌==◌, cond, nat_lt, ℕ, suc, List, Option, Some, None, map, length, get_or}
-use Rattle.std.specs.Prelude.{Result, OnOk, OnErr}
+use Rattle.std.specs.Prelude.{◌≡◌, ◌<◌, ◌≤◌, ◌+◌, ◌-◌, ◌*◌, ◌/◌, ◌%◌, ◌==◌, true, cond, nat_lt, ℕ, suc, List, Option, Some, None}
+use Rattle.std.specs.Prelude.{Result, OnOk, OnErr, map, length, get_or}
+use Rattle.lfs_model.specs.declared.BlockKind.TheVariants as kind
 use Rattle.lfs_model.specs.Entry.{Entry, entry_of}
 use Rattle.lfs_model.specs.Summary.{BlockNameValue, IsPlaced, no_block}
-use Rattle.lfs_model.specs.declared.limits.TheConstants.{CHECKPOINT_SLOTS, CHUNK_BLOCKS, SEGMENT_SECTORS}
+use Rattle.lfs_model.specs.declared.limits.TheConstants.{BLOCK_SEGMENTS, CHECKPOINT_SLOTS, CHUNK_BLOCKS, SEGMENT_SECTORS}
 use Rattle.lfs_model.specs.Counting.{segment_of}
 use Rattle.lfs_model.specs.Device.{DeviceState, Carries, Elapses, BearsAll}
-use Rattle.lfs_segments.specs.Table.{UsageTable, used_of, live_of, held_of, kept_of}
+use Rattle.lfs_segments.specs.Table.{UsageTable, used_of, live_of, held_of, kept_of, stale_of}
 
 pub record Chunk : Type 0 where
   -- the segment that it is written to
@@ -23,6 +24,10 @@ entries_of c = map entry_of c.names
 -- the address of its summary
 abbrev pub summary_at : Chunk → ℕ
 summary_at c = CHECKPOINT_SLOTS + SEGMENT_SECTORS * c.segment + c.start
+
+-- the name of a usage block
+abbrev pub usage_name : ℕ → BlockNameValue
+usage_name j = record { file = 0; kind = kind.Usage; index = j }
 
 -- the chunk is where it was, whatever its blocks are
 pub record StaysInPlace (old new : Chunk) : Type 0 where
@@ -46,12 +51,14 @@ pub record IsChunk (names : List BlockNameValue) : Type 0 where
   pub each : (i : ℕ) → i < length names
       → IsPlaced (get_or names i no_block).kind (get_or names i no_block).file (get_or names i no_block).index
 
--- the chunk is the last of its segment, and starts where the acknowledged checkpoint needs nothing
+-- the chunk is the last of its segment, and starts where the acknowledged checkpoint needs nothing; once it has blocks, the usage block
+-- of its segment differs from what the device has
 pub record IsOpenChunk (c : Chunk) (t : UsageTable) : Type 0 where
   pub inside : c.segment < length t.segments
   pub used : used_of t c.segment ≡ c.start + suc (length c.names)
   pub free : kept_of t c.segment ≤ c.start
   pub last : t.last ≡ Some c.segment
+  pub stale : 0 < length c.names → stale_of t (c.segment / BLOCK_SEGMENTS) ≡ true
 
 -- A chunk more may begin in segment s: a summary and a block have room behind what is in use, and
 -- something lives there or holds it.

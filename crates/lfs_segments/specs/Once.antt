@@ -5,7 +5,7 @@ use Rattle.lfs_model.specs.Summary.{BlockNameValue}
 use Rattle.lfs_model.specs.declared.limits.TheConstants.{CHECKPOINT_SLOTS, SEGMENT_SECTORS}
 use Rattle.lfs_segments.specs.Table.{UsageTable, used_of}
 use Rattle.lfs_segments.specs.Chunk.{Chunk, IsOpenChunk, StaysInPlace, summary_at}
-use Rattle.lfs_segments.specs.Steps.{Begins, Notes, TakesSegment}
+use Rattle.lfs_segments.specs.Steps.{Begins, Notes, Pads, TakesSegment}
 
 -- the address of the first sector of segment s that isn't in use
 abbrev pub first_behind : UsageTable → ℕ → ℕ
@@ -16,7 +16,7 @@ abbrev pub with_address : ℕ → Chunk → ℕ → List ℕ → List ℕ
 with_address s c address written = cond (c.segment == s) (address ∷ written) written
 
 -- To these addresses of segment s was written since it was taken, the last one first. A block is written as it gets
--- its place, and a summary as its chunk ends; a chunk that begins writes nothing.
+-- its place, and a summary as its chunk ends; a chunk that begins writes nothing, and neither does one that names an entry more.
 pub data WrittenSince (s : ℕ) : UsageTable → Chunk → List ℕ → Type 0 where
   taken : (t t' : UsageTable) (c : Chunk) (number : ℕ) → TakesSegment t t' s number → WrittenSince s t' c []
   begun : (t t' : UsageTable) (c c' : Chunk) (written : List ℕ) (number : ℕ) → WrittenSince s t c written
@@ -24,6 +24,9 @@ pub data WrittenSince (s : ℕ) : UsageTable → Chunk → List ℕ → Type 0 w
   placed : (t t' : UsageTable) (c c' : Chunk) (written : List ℕ) (name : BlockNameValue) (lives : Bool) → WrittenSince s t c written
       → IsOpenChunk c t → Notes t t' c.segment lives → StaysInPlace c c' → c'.names ≡ c.names ++ name ∷ []
       → WrittenSince s t' c' (with_address s c (first_behind t c.segment) written)
+  padded : (t t' : UsageTable) (c c' : Chunk) (written : List ℕ) (name : BlockNameValue) → WrittenSince s t c written
+      → IsOpenChunk c t → Pads t t' c.segment → StaysInPlace c c' → c'.names ≡ c.names ++ name ∷ []
+      → WrittenSince s t' c' written
   sealed : (t : UsageTable) (c c' : Chunk) (written : List ℕ) → WrittenSince s t c written
       → IsOpenChunk c t → 0 < length c.names → StaysInPlace c c' → c'.names ≡ []
       → WrittenSince s t c' (with_address s c (summary_at c) written)

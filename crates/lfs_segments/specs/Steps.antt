@@ -20,10 +20,9 @@ staled t j = record { address = address_of t j; stale = true }
 
 -- segment s has these numbers, so that its usage block differs
 abbrev pub changed : UsageTable → ℕ → SegmentNumbers → UsageTable
-changed t s n = record {
+changed t s n = record t {
   segments = slice_set t.segments s n;
   blocks = slice_set t.blocks (s / BLOCK_SEGMENTS) (staled t (s / BLOCK_SEGMENTS));
-  last = t.last;
 }
 
 -- the numbers of a segment as a checkpoint has them
@@ -39,6 +38,20 @@ pub record Notes (old new : UsageTable) (s : ℕ) (lives : Bool) : Type 0 where
   pub kept : (i : ℕ) → kept_of new i ≡ kept_of old i
   pub blocks : Stales old new (s / BLOCK_SEGMENTS)
   pub last : new.last ≡ old.last
+  pub unit : new.unit ≡ old.unit
+  pub size : length new.segments ≡ length old.segments
+  pub clean : clean_in new.segments ≡ clean_in old.segments
+
+-- a sector more of segment s is in use, for no block
+pub record Pads (old new : UsageTable) (s : ℕ) : Type 0 where
+  pub used : IsSet (used_of old) (used_of new) s (suc (used_of old s))
+  pub live : (i : ℕ) → live_of new i ≡ live_of old i
+  pub held : (i : ℕ) → held_of new i ≡ held_of old i
+  pub age : (i : ℕ) → age_of new i ≡ age_of old i
+  pub kept : (i : ℕ) → kept_of new i ≡ kept_of old i
+  pub blocks : Stales old new (s / BLOCK_SEGMENTS)
+  pub last : new.last ≡ old.last
+  pub unit : new.unit ≡ old.unit
   pub size : length new.segments ≡ length old.segments
   pub clean : clean_in new.segments ≡ clean_in old.segments
 
@@ -51,6 +64,7 @@ pub record Lifts (old new : UsageTable) (s : ℕ) (lives : Bool) : Type 0 where
   pub kept : (i : ℕ) → kept_of new i ≡ kept_of old i
   pub blocks : Stales old new (s / BLOCK_SEGMENTS)
   pub last : new.last ≡ old.last
+  pub unit : new.unit ≡ old.unit
   pub size : length new.segments ≡ length old.segments
   pub clean : clean_in new.segments ≡ clean_in old.segments
 
@@ -63,6 +77,7 @@ pub record TakesAway (old new : UsageTable) (s count : ℕ) (lives : Bool) : Typ
   pub kept : (i : ℕ) → kept_of new i ≡ kept_of old i
   pub blocks : Stales old new (s / BLOCK_SEGMENTS)
   pub last : new.last ≡ old.last
+  pub unit : new.unit ≡ old.unit
   pub size : length new.segments ≡ length old.segments
   pub clean : clean_in new.segments ≡ clean_in old.segments
 
@@ -75,6 +90,7 @@ pub record HidesBlocks (old new : UsageTable) (s count : ℕ) : Type 0 where
   pub kept : (i : ℕ) → kept_of new i ≡ kept_of old i
   pub blocks : Stales old new (s / BLOCK_SEGMENTS)
   pub last : new.last ≡ old.last
+  pub unit : new.unit ≡ old.unit
   pub size : length new.segments ≡ length old.segments
   pub clean : clean_in new.segments ≡ clean_in old.segments
 
@@ -90,6 +106,7 @@ pub record TakesSegment (old new : UsageTable) (s number : ℕ) : Type 0 where
   pub kept : (i : ℕ) → kept_of new i ≡ kept_of old i
   pub blocks : (i : ℕ) → (stale_of new i ≡ stale_of old i) × (address_of new i ≡ address_of old i)
   pub last : new.last ≡ Some s
+  pub unit : new.unit ≡ old.unit
   pub size : length new.segments ≡ length old.segments
   pub count : clean_in old.segments ≡ suc (clean_in new.segments)
 
@@ -107,6 +124,7 @@ pub record GoesOn (old new : UsageTable) (s number : ℕ) : Type 0 where
   pub kept : (i : ℕ) → kept_of new i ≡ kept_of old i
   pub blocks : Stales old new (s / BLOCK_SEGMENTS)
   pub last : new.last ≡ old.last
+  pub unit : new.unit ≡ old.unit
   pub size : length new.segments ≡ length old.segments
   pub clean : clean_in new.segments ≡ clean_in old.segments
 
@@ -120,6 +138,7 @@ pub record PutsPlace (old new : UsageTable) (j at : ℕ) (differs : Bool) : Type
   pub address : IsSet (address_of old) (address_of new) j at
   pub stale : IsSet (stale_of old) (stale_of new) j differs
   pub last : new.last ≡ old.last
+  pub unit : new.unit ≡ old.unit
 
 -- the numbers of a segment after a checkpoint is acknowledged: clean where nothing lives and nothing holds it
 abbrev pub is_empty : SegmentNumbers → Bool
@@ -133,6 +152,7 @@ pub record Releases (old new : UsageTable) : Type 0 where
   pub size : length new.segments ≡ length old.segments
   pub blocks : new.blocks ≡ old.blocks
   pub last : new.last ≡ old.last
+  pub unit : new.unit ≡ old.unit
   pub clean : clean_in old.segments ≤ clean_in new.segments
 
 -- what a usage block says of a segment: nothing where nothing lives

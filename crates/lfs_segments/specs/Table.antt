@@ -2,7 +2,7 @@
 -- The segment usage table is that of the Sprite LFS paper (1992, section 3.6).
 use Rattle.std.specs.Prelude.{Option, ◌≡◌, ◌≤◌, ◌+◌, ◌-◌, ◌==◌, ℕ, Bool, false, List, length, get_or}
 use Rattle.lfs_model.specs.Stands.{count_up}
-use Rattle.lfs_model.specs.declared.limits.TheConstants.{MOST_SEGMENTS, SEGMENT_SECTORS, USAGE_BLOCKS}
+use Rattle.lfs_model.specs.declared.limits.TheConstants.{MOST_SEGMENTS, MOST_UNIT_POWER, SEGMENT_SECTORS, USAGE_BLOCKS}
 
 pub record SegmentNumbers : Type 0 where
   pub used : ℕ
@@ -27,6 +27,8 @@ pub record UsageTable : Type 0 where
   pub blocks : List PlaceInSegment
   -- the segment in which the last chunk begun stands; none before the first one
   pub last : Option ℕ
+  -- the logarithm to base 2 of how many sectors a unit of the volume has
+  pub unit : ℕ
 
 -- the numbers of a segment, none past the last
 abbrev pub used_of : UsageTable → ℕ → ℕ
@@ -67,4 +69,5 @@ pub record FitsSegment (n : SegmentNumbers) : Type 0 where
 pub record FitsTable (t : UsageTable) : Type 0 where
   pub few : length t.segments ≤ MOST_SEGMENTS
   pub blocks : length t.blocks ≡ USAGE_BLOCKS
+  pub unit : t.unit ≤ MOST_UNIT_POWER
   pub each : (s : ℕ) → FitsSegment (get_or t.segments s no_segment)

@@ -1,18 +1,21 @@
 //! Chunks: a summary and the blocks behind it, in a clean segment or behind other chunks.
 ghost use Rattle.std.specs.Prelude.{◌≡◌, ◌≢◌, ◌<◌, ◌≤◌, ◌+◌, ◌-◌, ◌*◌, ◌/◌, ◌++◌, [], ◌∷◌, ℕ, Some, true, None, length, IfSome, IfNone, OnOk, OnErr};
-ghost use Rattle.lfs_model.specs.Device.{put, MayWrite, CrashWrites};
+ghost use Rattle.lfs_model.specs.Device.{put, MayWriteUnit, CrashWritesUnit};
 ghost use Rattle.lfs_model.specs.Entry.{entries_in};
 ghost use Rattle.lfs_model.specs.Summary.{IsPlaced, summary_sector};
-ghost use Rattle.lfs_segments.specs.Table.{used_of, clean_in};
-ghost use Rattle.lfs_segments.specs.Steps.{Begins, GoesOn, Notes, TakesSegment};
+ghost use Rattle.lfs_segments.specs.Table.{used_of, clean_in, stale_of};
+ghost use Rattle.lfs_segments.specs.Steps.{Begins, GoesOn, Notes, Pads, TakesSegment};
 ghost use Rattle.lfs_segments.specs.Once.{EachOnce, WritesNothing, WritesTo};
-ghost use Rattle.lfs_segments.specs.Chunk.{IsOpenChunk, AsksOneWrite, IsUnkeptBy, StaysInPlace, TakesChunk, entries_of, due_in, summary_at};
+ghost use Rattle.lfs_segments.specs.Chunk.{IsOpenChunk, AsksOneWrite, IsUnkeptBy, StaysInPlace, TakesChunk, entries_of, due_in, summary_at, usage_name};
 
 use crate::usage::Usage;
 use arrayvec::ArrayVec;
-use lfs_device::{DeviceFault, SectorUnits};
+use lfs_device::{DeviceFault, SectorDevice};
 use lfs_layout::{BlockName, encode_summary};
-use lfs_model::limits::{CHECKPOINT_SLOTS, CHUNK_BLOCKS, MOST_SEGMENTS, SEGMENT_SECTORS};
+use lfs_model::BlockKind;
+use lfs_model::limits::{
+    BLOCK_SEGMENTS, CHECKPOINT_SLOTS, CHUNK_BLOCKS, MOST_SEGMENTS, SEGMENT_SECTORS, USAGE_BLOCKS,
+};
 use std::marker::Model;
 
 /// The last place in a segment at which a chunk may begin: a block has room behind its summary.
@@ -143,12 +146,34 @@ impl ChunkWriter {
         self.address() + self.names.len() as u32
     }
 
+    /// Names a block more behind the last one, to whose sector no address leads: the usage block
+    /// of the segment, which stands elsewhere.
+    pub fn pad(&mut self, usage: &mut Usage)
+        requires opened { IsOpenChunk self.old usage.old }
+        requires some { 0 < length self.old.names }
+        requires room { self.old.start + length self.old.names < CHUNK_BLOCKS }
+        ensures names { self.new.names ≡ self.old.names ++ usage_name (self.old.segment
+            / BLOCK_SEGMENTS) ∷ [] }
+        ensures place { StaysInPlace self.old self.new }
+        ensures padded { Pads usage.old usage.new self.old.segment }
+        ensures stale { (j : ℕ) → stale_of usage.new j ≡ stale_of usage.old j }
+        ensures opened { IsOpenChunk self.new usage.new }
+        ensures once { WritesNothing usage.old usage.new self.old self.new }
+    {
+        self.names.push(named(self.segment / BLOCK_SEGMENTS));
+        usage.pad(self.segment);
+    }
+
     /// Writes the summary of the chunk, and ends it.
     ///
     /// # Errors
     ///
     /// The device's fault: the chunk is as it was.
-    pub fn seal<D: SectorUnits>(&mut self, device: &mut D, usage: &Usage) -> Result<(), DeviceFault>
+    pub fn seal<D: SectorDevice>(
+        &mut self,
+        device: &mut D,
+        usage: &Usage,
+    ) -> Result<(), DeviceFault>
         requires opened { IsOpenChunk self.old usage.now }
         requires some { 0 < length self.old.names }
         requires inside { summary_at self.old < (D.state device.old).size }
@@ -157,9 +182,9 @@ impl ChunkWriter {
             → (D.state device.new).content ≡ put (D.state device.old).content
             (summary_at self.old) (summary_sector self.old.names)) }
         ensures failed_write { OnErr result ((D.state device.new).keeps_model
-            → MayWrite (summary_at self.old) (summary_sector self.old.names)
-            (D.state device.old).content (D.state device.new).content) }
-        ensures crash { CrashWrites (summary_at self.old)
+            → MayWriteUnit (D.state device.old).unit (summary_at self.old)
+            (summary_sector self.old.names) (D.state device.old).content (D.state device.new).content) }
+        ensures crash { CrashWritesUnit (summary_at self.old)
             (summary_sector self.old.names) (D.state device.old) (D.state device.new) }
         ensures ended { OnOk result (self.new.names ≡ []) }
         ensures kept { OnErr result (self.new ≡ self.old) }
@@ -172,6 +197,19 @@ impl ChunkWriter {
         write(device, usage, self.address(), &summary, false)?;
         self.names.clear();
         Ok(())
+    }
+}
+
+/// The name of a usage block.
+fn named(index: u32) -> BlockName
+    requires { index < USAGE_BLOCKS }
+    ensures value { result ≡ usage_name index }
+    ensures placed { IsPlaced result.kind result.file result.index }
+{
+    BlockName {
+        file: 0,
+        kind: BlockKind::Usage,
+        index,
     }
 }
 
@@ -195,14 +233,13 @@ fn last_with_room(usage: &Usage) -> Option<u32>
 }
 
 /// Writes a block or a summary to a sector that wasn't in use as the acknowledged checkpoint was
-/// written, and to no other. The device's units are sectors, so that a stop within the write spoils
-/// no other sector. `again` tells whether it is likely to be read soon, and is worth keeping in
-/// front of the device.
+/// written, and to no other. `again` tells whether it is likely to be read soon, and is worth
+/// keeping in front of the device.
 ///
 /// # Errors
 ///
 /// The device's fault.
-pub fn write<D: SectorUnits>(
+pub fn write<D: SectorDevice>(
     device: &mut D,
     usage: &Usage,
     address: u32,
@@ -215,8 +252,9 @@ pub fn write<D: SectorUnits>(
     ensures written { OnOk result ((D.state device.new).keeps_model
         → (D.state device.new).content ≡ put (D.state device.old).content address bytes.now) }
     ensures failed_write { OnErr result ((D.state device.new).keeps_model
-        → MayWrite address bytes.now (D.state device.old).content (D.state device.new).content) }
-    ensures crash { CrashWrites address bytes.now (D.state device.old) (D.state device.new) }
+        → MayWriteUnit (D.state device.old).unit address bytes.now
+        (D.state device.old).content (D.state device.new).content) }
+    ensures crash { CrashWritesUnit address bytes.now (D.state device.old) (D.state device.new) }
     ensures asks { AsksOneWrite (D.state device.old) (D.state device.new) result }
 {
     if again {

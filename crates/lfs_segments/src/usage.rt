@@ -1,7 +1,7 @@
 //! What is known of each segment, after the segment usage table of the Sprite LFS paper (1992,
 //! section 3.6).
 ghost use Rattle.std.specs.Prelude.{◌≡◌, ◌≢◌, ◌<◌, ◌≤◌, ◌+◌, ◌-◌, ◌*◌, ◌/◌, ◌^◌, ◌==◌, ℕ, suc, true, false, cond, not, length, get_or, replicate, slice_set, IfOk, IfSome, IfNone, IsTrue, IsFalse, None, Some};
-ghost use Rattle.lfs_segments.specs.Steps.{Notes, Lifts, TakesAway, HidesBlocks, TakesSegment, GoesOn, PutsPlace, Releases, SpellsBlock, changed, loaded, staled};
+ghost use Rattle.lfs_segments.specs.Steps.{Notes, Pads, Lifts, TakesAway, HidesBlocks, TakesSegment, GoesOn, PutsPlace, Releases, SpellsBlock, changed, loaded, staled};
 ghost use Rattle.lfs_model.specs.Usage.{IsUse};
 ghost use Rattle.lfs_segments.specs.Table.{no_segment, no_place, used_of, live_of, held_of, clean_in, FitsSegment, FitsTable};
 ghost use Rattle.lfs_segments.specs.Chunk.{TakesChunk};
@@ -12,7 +12,9 @@ use crate::releasing::{ROOM, Unsettled, released};
 use crate::spelled::SpelledBlocks;
 use crate::state::{SegmentState, UsageBlock};
 use lfs_layout::SegmentUsage;
-use lfs_model::limits::{BLOCK_SEGMENTS, MOST_SEGMENTS, SEGMENT_SECTORS, USAGE_BLOCKS};
+use lfs_model::limits::{
+    BLOCK_SEGMENTS, MOST_SEGMENTS, MOST_UNIT_POWER, SEGMENT_SECTORS, USAGE_BLOCKS,
+};
 use std::alloc::{AllocError, Global};
 use std::marker::Model;
 
@@ -40,6 +42,8 @@ pub struct Usage {
     taken: u32,
     /// The segment in which the last chunk begun stands.
     last: Option<u32>,
+    /// The logarithm to base 2 of how many sectors a unit has.
+    unit_power: u8,
     /// The segments whose numbers change as the next checkpoint is acknowledged.
     unsettled: Unsettled,
     /// The blocks of the table as they are written.
@@ -54,20 +58,23 @@ impl Model for Usage {
 
     ghost Value = { UsageTable };
 
-    ghost view = { λ u. record { segments = u.states.items; blocks = u.blocks.items; last = u.last } };
+    ghost view = { λ u. record { segments = u.states.items; blocks = u.blocks.items; last = u.last; unit = u.unit_power } };
 
     ghost use Rattle.lfs_segments.specs.Settled.{ListsUnsettled};
 
-    ghost invariant = { λ u. FitsTable (record { segments = u.states.items; blocks = u.blocks.items; last = u.last }) × AreTotals u.states.items u.clean u.early u.taken × ListsUnsettled u.unsettled u.states.items × AreSpelled u.spelled.blocks.items u.states.items };
+    ghost invariant = { λ u. FitsTable (record { segments = u.states.items; blocks = u.blocks.items; last = u.last; unit = u.unit_power }) × AreTotals u.states.items u.clean u.early u.taken × ListsUnsettled u.unsettled u.states.items × AreSpelled u.spelled.blocks.items u.states.items };
 }
 
 impl Usage {
-    /// So many clean segments, and usage blocks that have no address.
-    pub fn new(alloc: Global, segments: u32) -> Result<Usage, AllocError>
-        requires { segments ≤ MOST_SEGMENTS }
+    /// So many clean segments, and usage blocks that have no address, on a volume whose units have 2
+    /// to `unit_power` sectors.
+    pub fn new(alloc: Global, segments: u32, unit_power: u8) -> Result<Usage, AllocError>
+        requires few { segments ≤ MOST_SEGMENTS }
+        requires unit { unit_power ≤ MOST_UNIT_POWER }
         ensures clean { IfOk result (λ u. u.segments ≡ replicate segments no_segment) }
         ensures blocks { IfOk result (λ u. u.blocks ≡ replicate USAGE_BLOCKS no_place) }
         ensures last { IfOk result (λ u. u.last ≡ None) }
+        ensures unit { IfOk result (λ u. u.unit ≡ unit_power) }
     {
         let states = Vec::from_elem(alloc, CLEAN, segments as usize)?;
         let blocks = Vec::from_elem(alloc, NO_BLOCK, USAGE_BLOCKS as usize)?;
@@ -79,6 +86,7 @@ impl Usage {
             early: 0,
             taken: 0,
             last: None,
+            unit_power,
             unsettled: Unsettled::new(),
             spelled,
         })
@@ -95,6 +103,7 @@ impl Usage {
         self.early = other.early;
         self.taken = other.taken;
         self.last = other.last;
+        self.unit_power = other.unit_power;
         self.unsettled = other.unsettled;
         self.spelled.copy_from(&other.spelled);
     }
@@ -106,6 +115,22 @@ impl Usage {
         ensures table { FitsTable self.now }
     {
         self.states.len() as u32
+    }
+
+    /// The logarithm to base 2 of how many sectors a unit has.
+    pub fn unit_power(&self) -> u8
+        ensures value { result ≡ self.now.unit }
+        ensures few { result ≤ MOST_UNIT_POWER }
+    {
+        self.unit_power
+    }
+
+    /// How many sectors a unit has.
+    pub fn unit_sectors(&self) -> u16
+        ensures value { result ≡ 2 ^ self.now.unit }
+        ensures some { 0 < result }
+    {
+        1 << self.unit_power
     }
 
     /// How many segments are clean.
@@ -244,6 +269,17 @@ impl Usage {
         self.change(segment, state);
     }
 
+    /// A sector more of a segment is in use, for no block.
+    pub fn pad(&mut self, segment: u32)
+        requires inside { segment < length self.old.segments }
+        requires begun { 0 < used_of self.old segment }
+        requires room { used_of self.old segment < SEGMENT_SECTORS }
+        ensures { Pads self.old self.new segment }
+    {
+        let state = padded(self.state(segment));
+        self.change(segment, state);
+    }
+
     /// A block that lives in a segment, or holds it, is there no more.
     pub fn lift(&mut self, segment: u32, lives: bool)
         requires inside { segment < length self.old.segments }
@@ -375,7 +411,21 @@ impl Usage {
     }
 }
 
-fn noted(mut state: SegmentState, lives: bool) -> SegmentState
+/// A sector more in use, for no block.
+fn padded(mut state: SegmentState) -> SegmentState
+    requires room { state.used < SEGMENT_SECTORS }
+    requires fits { FitsSegment state }
+    ensures used { result.used ≡ suc state.used }
+    ensures live { result.live ≡ state.live }
+    ensures held { result.held ≡ state.held }
+    ensures age { result.age ≡ state.age }
+    ensures kept { result.kept ≡ state.kept }
+{
+    state.used += 1;
+    state
+}
+
+fn noted(state: SegmentState, lives: bool) -> SegmentState
     requires room { state.used < SEGMENT_SECTORS }
     requires fits { FitsSegment state }
     ensures used { result.used ≡ suc state.used }
@@ -384,7 +434,7 @@ fn noted(mut state: SegmentState, lives: bool) -> SegmentState
     ensures age { result.age ≡ state.age }
     ensures kept { result.kept ≡ state.kept }
 {
-    state.used += 1;
+    let mut state = padded(state);
     if lives {
         state.live += 1;
     } else {

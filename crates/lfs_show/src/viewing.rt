@@ -188,10 +188,11 @@ fn look_beside<Here: World, R: Files<File = File>, W: Write>(
 
 // The devices of a file, one for a look and one to watch it.
 fn devices_of<Here: World>(
+    alloc: Global,
     file: File,
-) -> Result<(FileDeviceIn<Here>, FileDeviceIn<Here>), ImageFault> {
-    let watched = image::device_of_copy(&file)?;
-    Ok((image::device_of(file)?, watched))
+) -> Result<(FileDeviceIn<Here>, FileDeviceIn<Here>), Refusal> {
+    let watched = image::device_of_copy(alloc, &file)?;
+    Ok((image::device_of(alloc, file)?, watched))
 }
 
 // Looks once at an open image. None where that isn't known to be of one moment.
@@ -203,14 +204,14 @@ fn look_at_file<Here: World, R: Files<File = File>, W: Write>(
     asked: Asked<'_>,
     output: &mut W,
 ) -> Result<Option<Looked>, Fault> {
-    match (devices_of::<Here>(file), beside) {
+    match (devices_of::<Here>(alloc, file), beside) {
         (Ok((device, _)), Beside::Nobody) => {
             Ok(Some(look_alone(rt, alloc, device, asked, output)?))
         }
         (Ok((device, watched)), Beside::Writer) => {
             look_beside(rt, alloc, watched, device, asked, output)
         }
-        (Err(fault), _) => Ok(Some(Looked::Refused(Refusal::Image(fault)))),
+        (Err(refusal), _) => Ok(Some(Looked::Refused(refusal))),
     }
 }
 

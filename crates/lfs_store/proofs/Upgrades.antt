@@ -18,7 +18,7 @@ pub upgrades : {c : Changes} {d : Draft} → IsNoChange c → d.changes.headers 
     → LosesOnly d.changes FirstVersion → DraftsUpgrade d
 upgrades none headers blocks only = record {
   map = only.map;
-  fits = λ m. only.fits m tt;
+  fits = λ m first. only.fits m first;
   headers = cc;
   blocks = cc;
 }

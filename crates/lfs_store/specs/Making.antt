@@ -8,6 +8,7 @@ use Rattle.lfs_store.specs.StoreState.{Fits, with_draft}
 -- The version of the layout is raised, and nothing else changes.
 pub record DraftsUpgrade (d : Draft) : Type 0 where
   pub map : (m : LogMap) → with_draft d m ≡ raised true m
-  pub fits : (m : LogMap) → Fits d m
+  -- where it was the first
+  pub fits : (m : LogMap) → m.version ≡ 1 → Fits d m
   pub headers : d.changes.headers.items ≡ []
   pub blocks : d.changes.blocks.items ≡ []

@@ -1,6 +1,6 @@
 //! Files made in the draft, their links, and files that go.
 ghost use Rattle.std.specs.Prelude.{◌≡◌, ◌≤◌, true, IfSome, IfNone, IfErr, OnOk, OnErr, IsErrOf};
-ghost use Rattle.lfs_model.specs.Image.{new_form};
+ghost use Rattle.lfs_model.specs.Tree.{new_form};
 ghost use Rattle.lfs_cleaner.specs.log.memory.Batch.{IsNoChange};
 ghost use Rattle.lfs_files.specs.Files.{Counts, IsFault, Redrafts};
 ghost use Rattle.lfs_files.specs.Headers.{first_links, first_header};

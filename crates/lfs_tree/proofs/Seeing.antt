@@ -1,7 +1,7 @@
 -- What a device that holds a log map answers to reads.
 use Rattle.std.proofs.Common.{◌≡◌, ◌<◌, ⊎_elim, ◌+◌, ◌-◌, ◌/◌, ◌%◌, ℕ, zero, suc, nat_lt, cond, List, [], length, replicate, Option, Some}
 use Rattle.std.proofs.Common.{None, refl, sym, ◌∙◌, ap, arith}
-use Rattle.std.proofs.lemmas.Bool.{cases_eq}
+use Rattle.std.proofs.lemmas.Bool.{cases_eq, cond-false}
 use Rattle.std.proofs.lemmas.List.{get_or-set_other, get_or-set_same, length-replicate}
 use Rattle.std.proofs.Common.{set}
 use Rattle.std.specs.Option.{option_map}
@@ -83,6 +83,11 @@ module _ {c : Content} {k : CheckpointValue} {m : LogMap}
         header = cc (header_at c k m sized st n (omega arith));
         block = cc;
       }
+
+  pub inode_not : {n at : ℕ} → at ≡ address c k (Inode n) → at ≡ 0 → m.header n ≡ None
+  inode_not {n} is none =
+      let at = sym is ∙ none in
+      st.header n ∙ cond-false (nat_lt 0 ((view c k).address (Inode n))) _ None (ap (nat_lt 0) at)
 
   -- ---- blocks
   module _ (n : ℕ) {bytes : List ℕ} (is : bytes ≡ block c (address c k (Inode n))) where

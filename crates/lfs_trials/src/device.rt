@@ -1,20 +1,22 @@
 //! Devices in memory.
 use anyhow::{Context, Result};
 use lfs_device::{DeviceCall, Left, MemDevice, SectorDevice};
-use lfs_script::fs::format_version;
+use lfs_model::limits::{CHECKPOINT_SLOTS, SEGMENT_SECTORS};
+use lfs_script::fs::{Shape, format_with};
 use std::alloc::{AllocError, Global};
 use std::num::NonZeroU32;
 
 /// More calls than a run makes of a kind.
 const MANY_CALLS: u64 = 1_000_000;
 
-/// A device of so many sectors, without a volume. Its units are counted from sector 0.
-pub fn device_of(alloc: Global, sectors: u32, unit: NonZeroU32) -> Result<MemDevice> {
-    let device = MemDevice::with_unit(alloc, sectors, unit, 0).ok();
+/// A device of so many sectors, without a volume. Its units are counted from sector `first`.
+pub fn device_of(alloc: Global, sectors: u32, unit: NonZeroU32, first: u32) -> Result<MemDevice> {
+    let device = MemDevice::with_unit(alloc, sectors, unit, first).ok();
     device.context("no memory for a device")
 }
 
-/// A device with an empty volume.
+/// A device with an empty volume. One of version 3 has the device's units, and its slots are units by
+/// themselves.
 pub fn new_device(
     alloc: Global,
     segments: u16,
@@ -22,8 +24,19 @@ pub fn new_device(
     unit: NonZeroU32,
 ) -> Result<MemDevice> {
     let segments = u32::from(segments);
-    let mut device = device_of(alloc, 2 + 64 * segments, unit)?;
-    format_version(&mut device, segments, version)
+    let (first, of_volume) = if version == 3 {
+        (CHECKPOINT_SLOTS, unit.get())
+    } else {
+        (0, 1)
+    };
+    let mut device = device_of(alloc, 2 + 64 * segments, unit, first)?;
+    let shape = Shape {
+        segments,
+        version,
+        segment_sectors: SEGMENT_SECTORS,
+        unit: of_volume,
+    };
+    format_with(&mut device, shape)
         .ok()
         .context(format_args!("no volume of {segments} segments"))?;
     Ok(device)

@@ -19,18 +19,25 @@ const PLAIN: VolumeKind = VolumeKind {
     version: 1,
 };
 
-/// How a case's name ends whose volume is of version 2.
-const OF_VERSION_2: &str = ".v2";
+/// How a case's name ends whose volume is of a later version, and of which.
+const LATER_VERSIONS: [(&str, u32); 2] = [(".v2", 2), (".v3", 3)];
 
 /// What looks at the tree that a stop leaves.
 const LOOK: &str = "! crash old\ntree\n! use\n";
 
+/// The version that a case's name tells, and what stands before that in it.
+fn version_of(name: &str) -> (&str, u32) {
+    for (ending, version) in LATER_VERSIONS {
+        if let Some(front) = name.strip_suffix(ending) {
+            return (front, version);
+        }
+    }
+    (name, PLAIN.version)
+}
+
 /// The volume that a case's name tells.
 fn kind_of(name: &str) -> Result<VolumeKind> {
-    let (name, version) = match name.strip_suffix(OF_VERSION_2) {
-        Some(name) => (name, 2),
-        None => (name, PLAIN.version),
-    };
+    let (name, version) = version_of(name);
     let segments = match name.rsplit_once('.') {
         Some((_, count)) => count
             .parse::<u16>()

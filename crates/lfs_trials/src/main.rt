@@ -7,7 +7,8 @@
 //! - `! device N` makes a device of N sectors, without a volume.
 //! - `! new N V` makes a device with an empty volume of N segments, of version V.
 //! - `! device N U` and `! new N V U` do so with units of U sectors each, counted from sector 0.
-//!   Where U isn't given, each sector is a unit.
+//!   Where U isn't given, each sector is a unit. A volume of version 3 has such units too, and they
+//!   are counted from sector 2, so that each checkpoint slot is a unit.
 //! - `! fail read N`, `write` or `sync`: the N-th such call from now on, counted from 0, fails once.
 //! - `! stop N`: the N-th write from now on fails, and each later call too, until the device stops.
 //! - `! use` mounts the device, runs the script, and takes the device back. It says the replies, and
@@ -23,8 +24,9 @@
 //!
 //! - `NAME.script` is a script, and `NAME.replies` has what it writes, on a volume of 64 segments
 //!   or, as `NAME.72.script`, of as many as the name tells. The volume is of version 1 or, as
-//!   `NAME.v2.script` and `NAME.72.v2.script`, of version 2. Where `NAME.tree` is there, it has the
-//!   reply of `tree` once the volume has stopped and is mounted again.
+//!   `NAME.v2.script` and `NAME.72.v2.script`, of version 2, and as `NAME.v3.script` of version 3.
+//!   Where `NAME.tree` is there, it has the reply of `tree` once the volume has stopped and is
+//!   mounted again.
 //! - Each line of `NAME.bad` is a script of its own, which is one bad line.
 //! - `NAME.talk` has lines as standard input has them, but for `! cases`, and `NAME.said` what is
 //!   said of them.

@@ -65,7 +65,7 @@ impl Talk {
     pub fn carry_out(&mut self, alloc: Global, order: Order) -> Result<()> {
         match order {
             Order::Device { sectors, unit } => {
-                self.device = Some(device_of(alloc, sectors, unit)?);
+                self.device = Some(device_of(alloc, sectors, unit, 0)?);
             }
             Order::New {
                 segments,

@@ -43,13 +43,14 @@ taken_none = record {
   size = refl;
   blocks = refl;
   last = refl;
+  unit = refl;
 }
 
 pub taken_more : {old mid new : UsageTable} {uses : List SegmentUse} {j n : ℕ} → IsTakenIn old mid uses j n
     → (64 * j + n < length mid.segments → new.segments ≡ slice_set mid.segments (64 * j + n) (loaded (get_or uses n no_use)))
     → (length mid.segments ≤ 64 * j + n → new.segments ≡ mid.segments) → new.blocks ≡ mid.blocks → new.last ≡ mid.last
-    → IsTakenIn old new uses j (n + 1)
-taken_more {old} {mid} {new} {uses} {j} {n} before own past blocks last = record {
+    → new.unit ≡ mid.unit → IsTakenIn old new uses j (n + 1)
+taken_more {old} {mid} {new} {uses} {j} {n} before own past blocks last unit = record {
   own = λ i low within. ⊎_elim
       (λ (here : i ≡ n). let size = before.size in let lt : 64 * j + n < length mid.segments = omega (arith, within, here, size) in
       ap₂ (λ (l : List SegmentNumbers) (a : ℕ). get_or l (64 * j + a) no_segment) (own lt) here
@@ -62,6 +63,7 @@ taken_more {old} {mid} {new} {uses} {j} {n} before own past blocks last = record
       (λ (le : length mid.segments ≤ 64 * j + n). ap length (past le)) (cases_lt (64 * j + n) (length mid.segments)) ∙ before.size;
   blocks = blocks ∙ before.blocks;
   last = last ∙ before.last;
+  unit = unit ∙ before.unit;
 }
   where
     x : SegmentNumbers

@@ -5,7 +5,7 @@ use Rattle.std.proofs.Common.{get_or, set, Some, None, refl, sym, ◌∙◌, ap,
 use Rattle.std.specs.List.{AllByRecursion}
 use Rattle.std.proofs.lemmas.Bool.{cases_lt}
 use Rattle.std.proofs.lemmas.List.{length-set}
-use Rattle.lfs_model.specs.Checkpoint.{CheckpointValue}
+use Rattle.lfs_model.specs.Checkpoint.{CheckpointValue, unit_sectors}
 use Rattle.lfs_model.specs.Content.{Content, block, bytes_of}
 use Rattle.lfs_model.specs.Device.{Cell, DeviceState, IsSector, cell_at}
 use Rattle.lfs_model.specs.Entry.{Usage, half, word}
@@ -215,10 +215,11 @@ is_needed j n p k count val inside some = (λ x. omega arith, λ x. omega arith)
 -- all usage blocks
 pub usages_of : (c : Content) (k : CheckpointValue) → k.segments ≤ 1024
     → ((j : ℕ) → j < 16 → (0 < get_or k.usage j 0) ↔ (j < (k.segments + 63) / 64))
+    → ((s : ℕ) → s < k.segments → used_in (view c k) s % unit_sectors k ≡ 0)
     → {marks : List ℕ} → Walked (view c k) marks 16 → IsBounded (view c k) → Usages (view c k)
-usages_of c k few is_there {marks} w bounded = usages c k reached all (fresh_of w bounded 1 (λ e b. (within e b).0))
+usages_of c k few is_there whole {marks} w bounded = usages c k reached all (fresh_of w bounded 1 (λ e b. (within e b).0))
     (λ j some. (w.good (Usage j) (bounded (Usage j) some) (bounded (Usage j) some) some).readable)
-    (λ j lt. let some = all j lt in (good_block c k j (w.good (Usage j) (bounded (Usage j) some) (bounded (Usage j) some) some)).1)
+    (λ j lt. let some = all j lt in (good_block c k j (w.good (Usage j) (bounded (Usage j) some) (bounded (Usage j) some) some)).1) whole
   where
     at : (j : ℕ) → address c k (Usage j) ≡ get_or k.usage j 0
     at j = address_linked c k (Usage j)

@@ -1,7 +1,7 @@
 -- Tables of a volume in memory, as its usage blocks and the blocks of its inode map are taken in one by one.
 -- All of it is an own choice.
 use Rattle.std.specs.Prelude.{◌≡◌, ◌<◌, ◌≤◌, ◌+◌, ◌*◌, ◌/◌, ℕ, false, List, length, get_or, Some, None}
-use Rattle.lfs_model.specs.declared.limits.TheConstants.{BLOCK_POINTERS, MAP_BLOCKS}
+use Rattle.lfs_model.specs.declared.limits.TheConstants.{BLOCK_POINTERS, MAP_BLOCKS, MOST_UNIT_POWER}
 use Rattle.lfs_model.specs.Checkpoint.{CheckpointValue, FitsCheckpoint, IsSegmentCount, IsVersion, layout_version}
 use Rattle.lfs_model.specs.Content.{Content, newest}
 use Rattle.lfs_model.specs.Entry.{word}
@@ -27,6 +27,7 @@ pub record IsTakenIn (old new : UsageTable) (uses : List SegmentUse) (j upto : �
   pub size : length new.segments ≡ length old.segments
   pub blocks : new.blocks ≡ old.blocks
   pub last : new.last ≡ old.last
+  pub unit : new.unit ≡ old.unit
 
 -- what the content says of a segment
 abbrev pub numbers_in : Content → CheckpointValue → ℕ → SegmentNumbers
@@ -68,6 +69,7 @@ pub record IsLoaded (t : Tables) (size : ℕ) : Type 0 where
   pub known : IsVersion t.version
   pub room : 2 + 64 * t.segments ≤ size
   pub usage : IsUsageUpTo ((t.segments + 63) / 64) t.segments t.usage
+  pub unit : t.usage.unit ≤ MOST_UNIT_POWER
   pub map : IsMapUpTo MAP_BLOCKS t.map
 
 -- They say what a content does by this checkpoint.
@@ -75,6 +77,7 @@ pub record SaysTables (c : Content) (k : CheckpointValue) (t : Tables) : Type 0 
   pub number : k.number ≡ t.number
   pub segments : k.segments ≡ t.segments
   pub version : layout_version k ≡ t.version
+  pub unit : k.unit_power ≡ t.usage.unit
   pub usage : SaysUsage c k ((k.segments + 63) / 64) t.usage
   pub map : SaysMap c k MAP_BLOCKS t.map
 

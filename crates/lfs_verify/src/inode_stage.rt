@@ -1,6 +1,6 @@
 //! The inodes of all files, and the kind of the root.
 ghost use Rattle.std.specs.Prelude.{◌≡◌, ◌<◌, ◌≤◌, ◌↔◌, ◌⊎◌, ℕ, length, get_or, IsTrue, IfOk, vec_len, vec_capacity};
-ghost use Rattle.lfs_model.specs.Checkpoint.{IsVersion, layout_version};
+ghost use Rattle.lfs_model.specs.Checkpoint.{layout_version};
 ghost use Rattle.lfs_model.specs.Reach.{view};
 ghost use Rattle.lfs_model.specs.Stands.{Inodes};
 ghost use Rattle.lfs_verify.specs.Directories.{IsDirectoryInode};
@@ -45,7 +45,6 @@ pub fn all_inodes<D: SectorDevice>(
     marks: &mut [u32],
     sector: &mut [u8; 512],
 ) -> Result<bool, DeviceFault>
-    requires known { IsVersion version }
     requires files { length map.now ≡ FILE_NUMBERS }
     requires none { vec_len inodes.old ≡ 0 }
     requires room { there_below map.now FILE_NUMBERS ≤ vec_capacity inodes.old }
@@ -84,7 +83,6 @@ pub fn stage_inodes<D: SectorDevice>(
     marks: &mut [u32],
     sector: &mut [u8; 512],
 ) -> Result<bool, DeviceFault>
-    requires known { IsVersion version }
     requires files { length map.now ≡ FILE_NUMBERS }
     requires none { vec_len inodes.old ≡ 0 }
     requires room { there_below map.now FILE_NUMBERS ≤ vec_capacity inodes.old }

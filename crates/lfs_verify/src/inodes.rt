@@ -1,6 +1,5 @@
 //! The inodes of all files, which a walk looks at once and keeps.
 ghost use Rattle.std.specs.Prelude.{◌≡◌, ◌<◌, ◌≤◌, ◌+◌, ◌⊎◌, ◌++◌, ◌∷◌, [], nat_lt, length, get_or, IsTrue, IfOk, MatchOption, vec_len, vec_capacity};
-ghost use Rattle.lfs_model.specs.Checkpoint.{IsVersion};
 ghost use Rattle.lfs_model.specs.Content.{block};
 ghost use Rattle.lfs_model.specs.Entry.{IsInode};
 ghost use Rattle.lfs_model.specs.Objects.{one_if};
@@ -79,7 +78,6 @@ pub fn take_inode<D: SectorDevice>(
     file: u32,
     out: &mut [u8; 512],
 ) -> Result<bool, DeviceFault>
-    requires known { IsVersion version }
     requires file { file < FILE_NUMBERS }
     requires inside { length marks.old ≤ (D.state device.old).size }
     ensures takes { IfOk result (λ r. OfContent (D.state device.old) (D.state device.new) (λ c.

@@ -19,7 +19,7 @@ use lfs_cache::CachedDevice;
 use lfs_device::{ReadFault, SectorDevice};
 use lfs_inodes::InodeMap;
 use lfs_layout::{Checkpoint, PointerView, UsageView};
-use lfs_model::limits::{BLOCK_SEGMENTS, MAP_BLOCKS, USAGE_BLOCKS};
+use lfs_model::limits::{BLOCK_SEGMENTS, MAP_BLOCKS, MOST_UNIT_POWER, USAGE_BLOCKS};
 use lfs_segments::Usage;
 use std::alloc::Global;
 
@@ -31,7 +31,7 @@ pub struct Tables {
     pub number: u64,
     /// How many segments the volume has.
     pub segments: u32,
-    /// Of its layout: 1 or 2.
+    /// Of its layout: 1 to 3.
     pub version: u32,
     pub map: InodeMap,
     pub usage: Usage,
@@ -89,6 +89,7 @@ fn take_entry(usage: &mut Usage, index: u32, entry: u32, block: &UsageView<'_>)
         → usage.new.segments ≡ usage.old.segments }
     ensures blocks { usage.new.blocks ≡ usage.old.blocks }
     ensures last { usage.new.last ≡ usage.old.last }
+    ensures unit { usage.new.unit ≡ usage.old.unit }
 {
     let segment = 64 * index + entry;
     if segment < usage.segments() {
@@ -119,6 +120,7 @@ fn load_usage_block<D: SectorDevice>(
     requires index { index < (checkpoint.now.segments + 63) / 64 }
     requires before { IsUsageUpTo index checkpoint.now.segments usage.old }
     ensures after { OnOk result (IsUsageUpTo (index + 1) checkpoint.now.segments usage.new) }
+    ensures unit { usage.new.unit ≡ usage.old.unit }
     ensures says { OnOk result ((D.state device.new).keeps_model
         → SaysUsage (D.state device.old).content checkpoint.now index usage.old
         → SaysUsage (D.state device.old).content checkpoint.now (index + 1) usage.new) }
@@ -149,6 +151,7 @@ fn load_usage<D: SectorDevice>(
     requires before { IsUsageUpTo 0 checkpoint.now.segments usage.old }
     ensures after { OnOk result (IsUsageUpTo ((checkpoint.now.segments + 63) / 64)
         checkpoint.now.segments usage.new) }
+    ensures unit { usage.new.unit ≡ usage.old.unit }
     ensures says { OnOk result ((D.state device.new).keeps_model
         → SaysUsage (D.state device.old).content checkpoint.now
         ((checkpoint.now.segments + 63) / 64) usage.new) }
@@ -225,6 +228,15 @@ pub fn version_of(checkpoint: &Checkpoint) -> u32
     checkpoint.version
 }
 
+/// The logarithm to base 2 of how many sectors a unit has.
+fn unit_of(checkpoint: &Checkpoint) -> u8
+    requires { FitsCheckpoint checkpoint.now }
+    ensures value { result ≡ checkpoint.now.unit_power }
+    ensures few { result ≤ MOST_UNIT_POWER }
+{
+    checkpoint.unit_power
+}
+
 /// The tables to which a checkpoint leads, with these totals. It only reads.
 ///
 /// # Errors
@@ -251,7 +263,7 @@ pub fn load_tables<D: SectorDevice>(
     ensures looks { Looks (D.state device.old) (D.state device.new) }
 {
     let segments = segments_of(checkpoint);
-    let Ok(mut usage) = Usage::new(alloc, segments) else {
+    let Ok(mut usage) = Usage::new(alloc, segments, unit_of(checkpoint)) else {
         return Err(MountFault::NoMemory);
     };
     let Ok(mut map) = InodeMap::new(alloc) else {

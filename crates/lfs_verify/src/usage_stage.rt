@@ -1,5 +1,6 @@
 //! The usage blocks, and the tables of the sectors in use that they hold.
-ghost use Rattle.std.specs.Prelude.{◌≡◌, ◌<◌, ◌≤◌, ◌+◌, ◌*◌, ◌/◌, ◌↔◌, length, get_or, IsTrue, IfOk};
+ghost use Rattle.std.specs.Prelude.{◌≡◌, ◌<◌, ◌≤◌, ◌+◌, ◌*◌, ◌/◌, ◌%◌, ◌↔◌, ℕ, length, get_or, IsTrue, IfOk};
+ghost use Rattle.lfs_model.specs.Checkpoint.{FitsCheckpoint};
 ghost use Rattle.lfs_model.specs.Reach.{view};
 ghost use Rattle.lfs_model.specs.Stands.{Usages};
 ghost use Rattle.lfs_verify.specs.Keeping.{KeepsTables, OfContent, Steps};
@@ -12,7 +13,7 @@ use crate::reading::take_block;
 use lfs_cache::CachedDevice;
 use lfs_device::{DeviceFault, SectorDevice};
 use lfs_layout::{Checkpoint, UsageView};
-use lfs_model::limits::{BLOCK_SEGMENTS, MOST_SEGMENTS, USAGE_BLOCKS};
+use lfs_model::limits::{BLOCK_SEGMENTS, USAGE_BLOCKS};
 
 pub(crate) fn segments_of(checkpoint: &Checkpoint) -> u32
     ensures { result ≡ checkpoint.now.segments }
@@ -95,6 +96,19 @@ pub fn take_usage<D: SectorDevice>(
     Ok(true)
 }
 
+/// Whether each segment has whole units of so many sectors in use.
+fn are_whole(used: &[u16], unit: u16) -> bool
+    requires { 0 < unit }
+    ensures { IsTrue result ↔ ((s : ℕ) → s < length used.now → get_or used.now s 0 % unit ≡ 0) }
+{
+    for segment in 0..used.len() {
+        if used[segment] % unit != 0 {
+            return false;
+        }
+    }
+    true
+}
+
 /// Stage 1: takes the usage blocks, and copies their entries to the tables of used and of live
 /// sectors. False where the stage fails.
 ///
@@ -109,7 +123,7 @@ pub fn stage_usages<D: SectorDevice>(
     marks: &mut [u32],
     sector: &mut [u8; 512],
 ) -> Result<bool, DeviceFault>
-    requires few { checkpoint.now.segments ≤ MOST_SEGMENTS }
+    requires fits { FitsCheckpoint checkpoint.now }
     requires used { length used.old ≡ checkpoint.now.segments }
     requires live { length live.old ≡ checkpoint.now.segments }
     requires inside { length marks.old ≤ (D.state device.old).size }
@@ -131,5 +145,5 @@ pub fn stage_usages<D: SectorDevice>(
             return Ok(false);
         }
     }
-    Ok(true)
+    Ok(are_whole(used, checkpoint.unit_sectors()))
 }

@@ -1,11 +1,10 @@
 //! What the walk asks of a block by itself.
 ghost use Rattle.std.specs.Prelude.{◌≡◌, ◌<◌, ◌≤◌, ◌*◌, ◌^◌, ◌↔◌, ℕ, slice_index, IsTrue};
-ghost use Rattle.lfs_model.specs.Checkpoint.{IsVersion};
 ghost use Rattle.lfs_model.specs.Entry.{IsInode, word};
 ghost use Rattle.lfs_verify.specs.Take.{SomeWord};
 ghost use Rattle.lfs_verify.specs.Walk.{IsDataBytes};
 
-use lfs_layout::{InodeView, word};
+use lfs_layout::{InodeView, is_form, word};
 use lfs_model::limits::{BLOCK_POINTERS, FILE_BLOCKS};
 
 /// The number at a place of 4 bytes of a block.
@@ -31,13 +30,12 @@ pub fn has_word(block: &[u8; 512]) -> bool
 
 /// Whether a block is the inode of this number, of a form that this version of the layout has.
 pub fn is_inode(block: &[u8; 512], version: u32, file: u32) -> bool
-    requires { IsVersion version }
     ensures { IsTrue result ↔ IsInode version file block.now }
 {
     let Some(inode) = InodeView::decode(block) else {
         return false;
     };
-    u32::from(inode.form()) < version && inode.number() == file
+    is_form(version, inode.kind(), inode.form()) && inode.number() == file
 }
 
 /// Whether a byte isn't 0.

@@ -46,7 +46,7 @@ fn walk_usages<D: SectorDevice>(
     labels: &mut [u32],
     marks: &mut [u32],
 ) -> Result<(), WalkFault>
-    requires few { checkpoint.now.segments ≤ MOST_SEGMENTS }
+    requires fits { FitsCheckpoint checkpoint.now }
     requires used { length used.old ≡ checkpoint.now.segments }
     requires live { length live.old ≡ checkpoint.now.segments }
     requires labels { length labels.old ≡ 2 + 64 * checkpoint.now.segments }

@@ -1,9 +1,9 @@
 -- What a mount and the making of a volume are of.
 use Rattle.std.specs.Prelude.{◌≡◌, ◌≢◌, ◌<◌, ◌≤◌, ◌+◌, ◌*◌, ℕ, ℤ, pos, [], ◌∷◌, length, Option, Some, None, Result, Ok, Err}
-use Rattle.lfs_model.specs.Checkpoint.{IsSegmentCount, IsVersion}
+use Rattle.lfs_model.specs.Checkpoint.{IsSectorVersion, IsSegmentCount}
 use Rattle.lfs_model.specs.Device.{Carries, IsUntouched, LeavesOnly, Only, in_sectors}
-use Rattle.lfs_model.specs.Image.{IsNew, new_form}
-use Rattle.lfs_model.specs.Tree.{Dir}
+use Rattle.lfs_model.specs.Image.{IsNew}
+use Rattle.lfs_model.specs.Tree.{Dir, new_form}
 use Rattle.lfs_model.specs.TreeOf.{Stands}
 use Rattle.lfs_model.specs.Volume.{mounted}
 use Rattle.lfs_model.specs.declared.limits.TheConstants.{CHECKPOINT_SLOTS, SEGMENT_SECTORS}
@@ -86,11 +86,12 @@ pub data MountsFrom (old new : Volume) (room : ℕ) (code : ℤ) : Type 0 where
 -- What an empty volume of so many segments was to be made on, by what came of it.
 abbrev pub IsMade : ℕ → ℕ → QueueDevice → QueueDevice → Result (Unit {0}) FormatFault → Type 0
 IsMade segments version old new (Ok done) =
-    IsNew version segments (queue_state new).content × Only (queue_state new).content (queue_state new)
+    IsNew version segments 0 (queue_state new).content × Only (queue_state new).content (queue_state new)
     × Stands (queue_state new).content (mounted version ((1, Dir (new_form version) []) ∷ []))
-IsMade segments version old new (Err format_fault.Inval) = ¬ (IsSegmentCount segments × IsVersion version) × (new ≡ old)
+IsMade segments version old new (Err format_fault.Inval) = ¬ (IsSegmentCount segments × IsSectorVersion version) × (new ≡ old)
 IsMade segments version old new (Err format_fault.TooSmall) =
-    IsSegmentCount segments × IsVersion version × ((queue_state old).size < CHECKPOINT_SLOTS + SEGMENT_SECTORS * segments) × (new ≡ old)
+    IsSegmentCount segments × IsSectorVersion version × ((queue_state old).size < CHECKPOINT_SLOTS + SEGMENT_SECTORS * segments)
+    × (new ≡ old)
 IsMade segments version old new (Err format_fault.Device) = (queue_state old).failures < (queue_state new).failures
 
 abbrev pub code_of_making : Result (Unit {0}) FormatFault → ℤ
@@ -104,7 +105,7 @@ pub record Makes (segments version : ℕ) (old new : QueueDevice) (code : ℤ) :
   pub number : code ≡ code_of_making outcome
   pub made : IsMade segments version old new outcome
   pub carries : Carries (queue_state old) (queue_state new)
-  pub any_moment : LeavesOnly (queue_state old) (queue_state new) (MayStand version segments (queue_state old))
+  pub any_moment : LeavesOnly (queue_state old) (queue_state new) (MayStand version segments 0 (queue_state old))
 
 abbrev pub MakesOn : ℕ → ℕ → QueueDevice → Option (Fs QueueDevice) → Source → ℤ → Type 0
 MakesOn segments version device None (Device after) code = Makes segments version device after code

@@ -25,17 +25,17 @@ module _ {D : Type 0} (state : D → DeviceState) (old new : D) where
   pub carries_in_sectors : Carries (state old) (state new) → Carries (in_sectors state old) (in_sectors state new)
   carries_in_sectors carries = units_carry (λ k. k) carries
 
-  pub moments_in_sectors : (segments version : ℕ) → IsMaking version segments (state old) (state new) → (in_sectors state new).keeps_model
-      → LeavesOnly (in_sectors state old) (in_sectors state new) (MayStand version segments (in_sectors state old))
+  pub moments_in_sectors : (segments version : ℕ) → IsMaking version segments 0 (state old) (state new) → (in_sectors state new).keeps_model
+      → LeavesOnly (in_sectors state old) (in_sectors state new) (MayStand version segments 0 (in_sectors state old))
   moments_in_sectors segments version making keeps =
       let sectors = sectors_before making.carries keeps in
       leaves_in_sectors sectors stands (making.any_moment sectors keeps.1)
     where
-      stands : (c : Content) → MayStand version segments (state old) c → MayStand version segments (in_sectors state old) c
+      stands : (c : Content) → MayStand version segments 0 (state old) c → MayStand version segments 0 (in_sectors state old) c
       stands c (inl from) = inl (from.0, (sectors_before making.carries keeps, from.1), from.2)
       stands c (inr made) = inr made
 
-  pub volume_in_sectors : (segments version : ℕ) → HasMade version segments (state old) (state new) → (in_sectors state new).keeps_model
+  pub volume_in_sectors : (segments version : ℕ) → HasMade version segments 0 (state old) (state new) → (in_sectors state new).keeps_model
       → IsEmptyVolume segments version (in_sectors state new)
   volume_in_sectors segments version made keeps = record {
     image = made.image keeps.1;

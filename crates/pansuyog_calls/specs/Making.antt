@@ -1,9 +1,9 @@
 -- What a mount and the making of a volume are of.
 use Rattle.std.specs.Prelude.{◌≡◌, ◌<◌, ◌+◌, ◌*◌, ℕ, ℤ, pos, [], ◌∷◌, Result, Ok, Err}
-use Rattle.lfs_model.specs.Checkpoint.{IsSegmentCount, IsVersion}
+use Rattle.lfs_model.specs.Checkpoint.{IsSectorVersion, IsSegmentCount}
 use Rattle.lfs_model.specs.Device.{Carries, DeviceState, IsUntouched, LeavesOnly, Only}
-use Rattle.lfs_model.specs.Image.{IsNew, new_form}
-use Rattle.lfs_model.specs.Tree.{Dir}
+use Rattle.lfs_model.specs.Image.{IsNew}
+use Rattle.lfs_model.specs.Tree.{Dir, new_form}
 use Rattle.lfs_model.specs.TreeOf.{Stands}
 use Rattle.lfs_model.specs.Volume.{mounted}
 use Rattle.lfs_model.specs.declared.limits.TheConstants.{CHECKPOINT_SLOTS, SEGMENT_SECTORS}
@@ -22,7 +22,7 @@ code_of_making (Err fault) = code_of_format_fault fault
 
 -- an empty volume of so many segments stands on a device, and a stop leaves nothing else
 pub record IsEmptyVolume (segments version : ℕ) (d : DeviceState) : Type 0 where
-  pub image : IsNew version segments d.content
+  pub image : IsNew version segments 0 d.content
   pub durable : Only d.content d
   pub volume : Stands d.content (mounted version ((1, Dir (new_form version) []) ∷ []))
 
@@ -47,9 +47,9 @@ module _ {D : Type 0} (state : D → DeviceState) where
   -- What an empty volume of so many segments was to be made on, by what came of it.
   abbrev pub IsMade : ℕ → ℕ → D → D → Result (Unit {0}) FormatFault → Type 0
   IsMade segments version old new (Ok done) = (state new).keeps_model → IsEmptyVolume segments version (state new)
-  IsMade segments version old new (Err format_fault.Inval) = ¬ (IsSegmentCount segments × IsVersion version) × (new ≡ old)
+  IsMade segments version old new (Err format_fault.Inval) = ¬ (IsSegmentCount segments × IsSectorVersion version) × (new ≡ old)
   IsMade segments version old new (Err format_fault.TooSmall) =
-      IsSegmentCount segments × IsVersion version × ((state old).size < CHECKPOINT_SLOTS + SEGMENT_SECTORS * segments) × (new ≡ old)
+      IsSegmentCount segments × IsSectorVersion version × ((state old).size < CHECKPOINT_SLOTS + SEGMENT_SECTORS * segments) × (new ≡ old)
   IsMade segments version old new (Err format_fault.Device) = (state old).failures < (state new).failures
 
   -- An empty volume was to be made on a device.
@@ -58,4 +58,4 @@ module _ {D : Type 0} (state : D → DeviceState) where
     pub number : code ≡ code_of_making outcome
     pub made : IsMade segments version old new outcome
     pub carries : Carries (state old) (state new)
-    pub any_moment : (state new).keeps_model → LeavesOnly (state old) (state new) (MayStand version segments (state old))
+    pub any_moment : (state new).keeps_model → LeavesOnly (state old) (state new) (MayStand version segments 0 (state old))

@@ -4,9 +4,10 @@ ghost use Rattle.pansuyog_calls.specs.Codes.{in_use, lock_failed};
 ghost use Rattle.pansuyog_calls.specs.Taking.{Takes};
 
 use crate::access::Access;
-use crate::codes::{ALREADY_MOUNTED, DEVICE, IN_USE, LOCK_FAILED};
+use crate::codes::{ALREADY_MOUNTED, DEVICE, IN_USE, LOCK_FAILED, NO_MEMORY};
 use crate::volume::VolumeIn;
-use lfs_device::{FileDeviceIn, World};
+use lfs_device::{FileDeviceIn, FileFault, World};
+use std::alloc::Global;
 use std::fs::{File, TryLockError};
 
 /// Locks a file, as the program `lfs` does: against all others for who writes, and against those for
@@ -27,7 +28,12 @@ fn lock(file: &File, access: Access) -> Result<(), i32>
 
 /// Takes a file as the device, where no volume is mounted. What was held before is closed then. A
 /// file that isn't taken is closed, and nothing changes.
-pub fn take<W: World>(volume: &mut VolumeIn<FileDeviceIn<W>>, file: File, access: Access) -> i32
+pub fn take<W: World>(
+    alloc: Global,
+    volume: &mut VolumeIn<FileDeviceIn<W>>,
+    file: File,
+    access: Access,
+) -> i32
     ensures { Takes access volume.old volume.new result }
 {
     if volume.fs.is_some() {
@@ -37,13 +43,14 @@ pub fn take<W: World>(volume: &mut VolumeIn<FileDeviceIn<W>>, file: File, access
         Ok(()) => {}
         Err(code) => return code,
     }
-    match FileDeviceIn::new(file) {
+    match FileDeviceIn::new(alloc, file) {
         Ok(device) => {
             volume.device = Some(device);
             volume.access = access;
             0
         }
-        Err(_) => DEVICE,
+        Err(FileFault::NoMemory) => NO_MEMORY,
+        Err(FileFault::Failed) => DEVICE,
     }
 }
 

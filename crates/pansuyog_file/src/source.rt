@@ -38,7 +38,12 @@ pub extern "C" fn pansuyog_file_new(alloc: Global, at: &mut Place) -> i32
 /// Takes a file that C lends as the device of a volume, where none is mounted, and locks it. Flag 1
 /// says that the volume is only read. A file that isn't taken is closed, and nothing changes.
 #[unsafe(no_mangle)]
-pub extern "C" fn pansuyog_file_take(volume: &mut Handle, lent: Lent, flags: u32) -> i32
+pub extern "C" fn pansuyog_file_take(
+    alloc: Global,
+    volume: &mut Handle,
+    lent: Lent,
+    flags: u32,
+) -> i32
     ensures { Opens flags volume.old.value volume.new.value result }
 {
     let file = lent.into_file();
@@ -47,7 +52,7 @@ pub extern "C" fn pansuyog_file_take(volume: &mut Handle, lent: Lent, flags: u32
         1 => Access::ReadOnly,
         _ => return INVAL,
     };
-    taking::take(&mut volume.volume().inner, file, access)
+    taking::take(alloc, &mut volume.volume().inner, file, access)
 }
 
 /// The system's number (`errno`) of the newest call of the file that failed, or 0.

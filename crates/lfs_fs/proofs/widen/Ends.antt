@@ -27,7 +27,7 @@ use Rattle.lfs_steps.proofs.widen.Steps.{widen_no_directory, widen_nothing, wide
 -- a directory has form 0 or 1
 wide_form : (form : ℕ) → IsForm 2 kind.Directory form → form ≢ 0 → form ≡ 1
 wide_form zero is ne = absurd (ne refl)
-wide_form (suc form) is ne = omega (arith, is)
+wide_form (suc form) is ne = omega (arith, is.0)
 
 -- ---- what the header says
 module _ {D : Type 0} {state : D → DeviceState} (lawful : (d : D) → IsLawful (state d)) {v : Mounted D} {f : Fs D} {path : List ℕ} {n : ℕ}

@@ -1,9 +1,9 @@
 -- A directory of a log map, as a call that widens it finds it, and the log map with it widened: it is that of the tree then.
-use Rattle.lfs_fs.proofs.Prelude.{◌≡◌, ◌≤◌, ◌<◌, ◌+◌, ◌*◌, ◌==◌, ⊎_elim, ℕ, true, false, List, Some, sym, ◌∙◌, ap, subst, arith, cases_eq}
-use Rattle.lfs_fs.proofs.Prelude.{ne_eqb, Done, Refuse, Widen, IsLogMap, IsForm, need, IsDirectory, IsHeaderOf, NoSpace, LogMap, Step}
+use Rattle.lfs_fs.proofs.Prelude.{◌≡◌, ◌≤◌, ◌<◌, ◌+◌, ◌*◌, ◌==◌, ⊎_elim, ℕ, true, false, List, Some, refl, sym, ◌∙◌, ap, subst, arith}
+use Rattle.lfs_fs.proofs.Prelude.{cases_eq, ne_eqb, Done, Refuse, Widen, IsLogMap, IsForm, need, IsDirectory, IsHeaderOf, NoSpace, LogMap}
 use Rattle.lfs_fs.proofs.Prelude.{widened, with_tree, IsCounted, State, Tree, form_of, is_dir, links, names_in, node, slot_len, tree_in, At}
 use Rattle.lfs_fs.proofs.Prelude.{Resolve, totals_of_tree, WidensNames, HasHeader, MayWiden, map_by, IsMapOf, IsShaped, need_shaped}
-use Rattle.lfs_fs.proofs.Prelude.{shape_of}
+use Rattle.lfs_fs.proofs.Prelude.{shape_of, Step}
 use Rattle.lfs_model.specs.declared.Kind.TheVariants as kind
 use Rattle.lfs_model.specs.Entry as entry
 use Rattle.lfs_model.specs.Inode.{IsSize}
@@ -48,7 +48,7 @@ module _ {N : ℕ} {m : LogMap} {s : State} (here : IsMapOf N m s)
   pub wide_fits : FitsHeader head.kind 1 head.links (slot_len 1 * slot_count head)
   unfolding IsSize
   wide_fits = let most = few_slots head.form head.size few in record {
-    known = rw dir (omega arith);
+    known = rw dir (refl, omega arith);
     links_few = fits.links;
     size_fits = rw dir (omega arith, omega (arith, most));
   }
@@ -62,11 +62,11 @@ module _ {N : ℕ} {m : LogMap} {s : State} (here : IsMapOf N m s)
   -- ---- it is widened
 
   module _ (new : (s.version ≡ 1) → ⊥) where
-    two : s.version ≡ 2
-    two = ⊎_elim (λ (one : s.version ≡ 1). absurd (new one)) (λ (is : s.version ≡ 2). is) here.log.sound.version
+    later : 1 < s.version
+    later = let some = here.log.sound.version.0 in omega (arith, some, new)
 
     pub known : IsForm m.version head.kind 1
-    known = rw (← here.log.version, two, dir) (omega arith)
+    known = rw (← here.log.version, dir) (refl, later)
 
     module _ {m' : LogMap} (file : WidensFile m m' n head) (names : WidensNames m m' n head) where
       was_object : IsObject m n (as_header head)
@@ -116,7 +116,7 @@ module _ {N : ℕ} {m : LogMap} {s : State} (here : IsMapOf N m s)
         module _ (room : blocks + 7 * others + 720 ≤ 47 * N) where
           links_now : (q : ℕ) → links (widened s.tree n) q ≡ links s.tree q
           links_now = same_links N s n (form_of (node s.tree n)) (names_in s.tree n) here.log.sound
-              (dir_at (node s.tree n) is_dir_here) two (let same = needs in omega (arith, same, room))
+              (dir_at (node s.tree n) is_dir_here) later (let same = needs in omega (arith, same, room))
 
           links_are : (q : ℕ) (g : entry.Header) → m'.header q ≡ Some g → g.links ≡ links (widened s.tree n) q
           links_are q g at = ⊎_elim

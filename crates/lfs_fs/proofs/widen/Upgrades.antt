@@ -1,12 +1,14 @@
 -- The exits of upgrade, and of changes that find nothing to do, as steps of the model.
-use Rattle.lfs_fs.proofs.Prelude.{◌≡◌, ◌<◌, ◌≤◌, ◌+◌, ◌*◌, ◌^◌, ⊎_elim, inl, inr, ℕ, true, false, Some, refl, sym, ◌∙◌, ap, subst, arith}
+use Rattle.lfs_fs.proofs.Prelude.{◌≡◌, ◌≢◌, ◌==◌, ◌<◌, ◌≤◌, ◌+◌, ◌*◌, ◌^◌, inl, inr, ℕ, true, false, Some, refl, sym, ◌∙◌, ap, subst}
 use Rattle.lfs_fs.proofs.Prelude.{Result, Ok, Err, OnOk, OnErr, IfErr, Call, Done, Refuse, Upgrade, changes, CheckpointValue, DeviceState}
 use Rattle.lfs_fs.proofs.Prelude.{IsLawful, Worn, acknowledges, LogMap, Step, State, Tree, links, Store, AreTotals}
 use Rattle.lfs_fs.proofs.Prelude.{totals_of_tree, draft_of, drafted_of, volume_of, with_draft, FsError, Fs, StagesDraft, TurnsDown}
 use Rattle.lfs_fs.proofs.Prelude.{Begins, answer_by, seen, IsIn, IsStill, Mounted, Serves, segments_of, IsMapOf, room_shaped}
-use Rattle.lfs_fs.proofs.Prelude.{asked_by, length, shape_of}
+use Rattle.lfs_fs.proofs.Prelude.{arith, ne_eqb, asked_by, length, shape_of}
+use Rattle.std.proofs.lemmas.Bool.{cond-false}
 use Rattle.lfs_model.specs.Entry.{Header}
 use Rattle.lfs_model.specs.Raising.{raised}
+use Rattle.lfs_model.specs.Step.{raised_version}
 use Rattle.lfs_model.specs.TreeOf.{AreFormed, object, slots}
 use Rattle.lfs_model.proofs.Raising.{raised_kept, raised_tree}
 use Rattle.lfs_model.proofs.Widening.{upgrade_keeps}
@@ -61,22 +63,21 @@ formed_raised : (m : LogMap) → AreFormed m → AreFormed (raised true m)
 unfolding object slots
 formed_raised m is n h there dir = is n h there dir
 
-pub raised_map : (N : ℕ) (m : LogMap) (s : State) → IsMapOf N m s → IsMapOf N (raised true m) (upgraded s)
-raised_map N m s is = record {
+pub raised_map : (N : ℕ) (m : LogMap) (s : State) → s.version ≡ 1 → IsMapOf N m s → IsMapOf N (raised true m) (upgraded s)
+raised_map N m s first is = record {
   map = raised_kept m true low is.map;
   long = λ n i has. is.long n i has;
   log = record {
     sound = upgrade_keeps N s (upgraded s) Done is.log.sound (upgrade_step N s);
     is = is.log.is ∙ sym (raised_tree m true);
-    version = refl;
+    version = ap raised_version first;
     formed = formed_raised m is.log.formed;
     links = λ n h there. is.log.links n h there ∙ ap (λ (t : Tree). links t n) (sym (raised_tree m true));
   };
 }
   where
     low : m.version ≤ 2
-    low = let same = is.log.version in
-        ⊎_elim (λ (one : s.version ≡ 1). omega (arith, same, one)) (λ (two : s.version ≡ 2). omega (arith, same, two)) is.log.sound.version
+    low = let same = is.log.version in omega (arith, same, first)
 
 -- ---- upgrade
 
@@ -84,20 +85,21 @@ module _ {D : Type 0} {state : D → DeviceState} (lawful : (d : D) → IsLawful
   running : (seen mid).log.halted ≡ false
   running = begun_running state begun
 
-  same_state : (s : State) → s.version ≡ 2 → upgraded s ≡ s
-  same_state s two = ap (λ (n : ℕ). record { tree = s.tree; handles = s.handles; version = n }) (sym two)
+  same_state : (s : State) → s.version ≢ 1 → upgraded s ≡ s
+  same_state s later = ap (λ (n : ℕ). record { tree = s.tree; handles = s.handles; version = n })
+      (cond-false (s.version == 1) 2 s.version (ne_eqb s.version 1 later))
 
-  -- the volume has version 2
-  pub upgrade_nothing : (seen mid).log.version ≡ 2 → {X : Type 0} (r : Result X FsError) → OnOk r ((seen mid).log.number < 2 ^ 62)
+  -- the volume has a later version
+  pub upgrade_nothing : (seen mid).log.version ≢ 1 → {X : Type 0} (r : Result X FsError) → OnOk r ((seen mid).log.number < 2 ^ 62)
       → OnErr r (2 ^ 62 ≤ (seen mid).log.number) → IfErr r (λ fault. fault ≡ error.Worn)
       → Serves state (seen mid) (seen mid) Upgrade (answer_by (λ _. Done) r)
-  upgrade_nothing two =
+  upgrade_nothing later =
       nothing_ends lawful (still_logged state mid mid refl refl) running refl (λ e. cc)
       (λ k m0 m s keeps is. subst (λ (x : State). Step (segments_of (seen mid)) s Upgrade Done x)
-      (same_state s (version_of_volume is ∙ two)) (upgrade_step (segments_of (seen mid)) s))
+      (same_state s (λ one. later (sym (version_of_volume is) ∙ one))) (upgrade_step (segments_of (seen mid)) s))
 
   module _ (b : Store D) (same_log : volume_of b ≡ (seen mid).log) (same_drafted : drafted_of b ≡ drafted_of mid.store)
-      (drafts : DraftsUpgrade (draft_of b)) (counts : CountsUpgraded (draft_of b)) where
+      (drafts : DraftsUpgrade (draft_of b)) (counts : CountsUpgraded (draft_of b)) (first : (seen mid).log.version ≡ 1) where
     abbrev ready : Fs D
     ready = record { alloc = mid.alloc; store = b; handles = mid.handles }
 
@@ -106,7 +108,7 @@ module _ {D : Type 0} {state : D → DeviceState} (lawful : (d : D) → IsLawful
 
     module _ (k : CheckpointValue) {m0 : LogMap} (m : LogMap) (s : State) (is : IsIn state (seen mid) k m0 m s) where
       after : IsMapOf (segments_of (seen mid)) (with_draft (draft_of b) m) (upgraded s)
-      after = rw (drafts.map m) (raised_map (segments_of (seen mid)) m s (map_of_volume is))
+      after = rw (drafts.map m) (raised_map (segments_of (seen mid)) m s (version_of_volume is ∙ first) (map_of_volume is))
 
       totals : AreTotals (with_draft (draft_of b) m) (drafted_of b)
       totals = rw (same_drafted ∙ begun.drafted) (counts m (seen mid).log.totals is.counted)
@@ -131,7 +133,7 @@ module _ {D : Type 0} {state : D → DeviceState} (lawful : (d : D) → IsLawful
           next = upgraded s;
           answer = Done;
           ok = refl;
-          fits = drafts.fits m;
+          fits = drafts.fits m (is.holds.version ∙ first);
           counted = totals k m s is;
           map = λ has_room. after k m s is;
           done = λ has_room. upgrade_step (segments_of (seen mid)) s;

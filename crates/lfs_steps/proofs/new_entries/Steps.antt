@@ -11,7 +11,8 @@ use Rattle.std.specs.FinMap.{put}
 use Rattle.lfs_model.specs.declared.Kind.TheVariants as kinds
 use Rattle.lfs_model.specs.Call.{Create, Handle, Mkdir, Symlink, changes, is_ok}
 use Rattle.lfs_model.specs.Call.{takes_no_memory}
-use Rattle.lfs_model.specs.Image.{new_form}
+use Rattle.lfs_model.specs.Tree.{new_form}
+use Rattle.lfs_model.proofs.Versions.{by_version, new_form_known}
 use Rattle.lfs_model.specs.Inode.{IsSize}
 use Rattle.lfs_model.specs.Refusal.{NoNumber, TooManyOpen}
 use Rattle.lfs_model.specs.Step.{makes_link, no_number}
@@ -62,19 +63,14 @@ unfolding IsSize
 file_sized = record { known = tt; links_few = omega arith; size_fits = omega arith }
 
 pub directory_form : (version : ℕ) → IsVersion version → IsForm version kinds.Directory (new_form version)
-directory_form version known = ⊎_elim
-    (λ (e : version ≡ 1). subst (λ (v : ℕ). IsForm v kinds.Directory (new_form v)) (sym e) tt)
-    (λ (e : version ≡ 2). subst (λ (v : ℕ). IsForm v kinds.Directory (new_form v)) (sym e) (omega arith))
-    known
+directory_form = new_form_known
 
 pub directory_sized : (version : ℕ) → IsVersion version → FitsHeader kinds.Directory (new_form version) 2 0
 unfolding IsSize
-directory_sized version known = ⊎_elim
-    (λ (e : version ≡ 1). subst (λ (v : ℕ). FitsHeader kinds.Directory (new_form v) 2 0)
-    (sym e) record { known = tt; links_few = omega arith; size_fits = (refl, omega arith) })
-    (λ (e : version ≡ 2). subst (λ (v : ℕ). FitsHeader kinds.Directory (new_form v) 2 0)
-    (sym e) record { known = omega arith; links_few = omega arith; size_fits = (refl, omega arith) })
-    known
+directory_sized = by_version (λ v. FitsHeader kinds.Directory (new_form v) 2 0)
+    record { known = omega arith; links_few = omega arith; size_fits = (refl, omega arith) }
+    record { known = (refl, omega arith); links_few = omega arith; size_fits = (refl, omega arith) }
+    record { known = (refl, omega arith); links_few = omega arith; size_fits = (refl, omega arith) }
 
 pub link_sized : {size : ℕ} → 1 ≤ size → size ≤ 1023 → FitsHeader kinds.Link 0 1 size
 unfolding IsSize

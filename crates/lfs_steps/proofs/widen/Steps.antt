@@ -3,12 +3,12 @@ use Rattle.lfs_steps.proofs.Prelude.{◌≡◌, ◌<◌, ◌≤◌, ◌*◌, ◌
 use Rattle.lfs_steps.proofs.Prelude.{Done, Refuse, need, Refusal, Inval, NoSpace, NotDir, Step, checked, no_space, when, with_tree, State}
 use Rattle.lfs_steps.proofs.Prelude.{Tree, form_of, is_dir, node, At, Refused, Resolve}
 use Rattle.lfs_model.specs.Call.{Upgrade, Widen}
-use Rattle.lfs_model.specs.Step.{widened, widens}
+use Rattle.lfs_model.specs.Step.{raised_version, widened, widens}
 use Rattle.lfs_steps.proofs.calls.Checks.{below, not_below, passes, refuses}
 
--- the state whose layout has version 2
+-- the state whose layout has the version after an upgrade
 abbrev pub upgraded : State → State
-upgraded s = record { tree = s.tree; handles = s.handles; version = 2 }
+upgraded s = record { tree = s.tree; handles = s.handles; version = raised_version s.version }
 
 pub upgrade_step : (N : ℕ) (s : State) → Step N s Upgrade Done (upgraded s)
 upgrade_step N s = record { first_end = At 1; second_end = At 1; first = refl; second = refl; answer = refl; state = refl }

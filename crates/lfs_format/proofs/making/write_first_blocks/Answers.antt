@@ -1,10 +1,9 @@
 use Rattle.std.proofs.Common.{arith}
 use Rattle.lfs_format.proofs.FirstMoments.{writes_none, writes_write}
-use Rattle.lfs_format.proofs.FirstWrites.{known_version}
 use Rattle.lfs_format.proofs.making.write_first_blocks.Goals as goal
 
 pub root_block-requires : goal.root_block-requires
-root_block-requires g c = known_version _ c.args.shape.first c.args.shape.last
+root_block-requires g c = c.args.shape.known
 
 pub returns-in_err-write-clause-writes : goal.returns-in_err-write-clause-writes
 returns-in_err-write-clause-writes g c =

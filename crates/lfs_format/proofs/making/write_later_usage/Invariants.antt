@@ -9,7 +9,7 @@ invariant-loop-index g l =
     let now = g.D.SectorDevice.state l.device in
     record {
       writes : WritesChunk l.segments old now;
-      chunk : now.keeps_model → (version : ℕ) (before : Content) → HasChunk version l.segments 1 before old.content
-          → HasChunk version l.segments l.index before now.content;
+      chunk : now.keeps_model → (version p : ℕ) (before : Content) → HasChunk version l.segments p 1 before old.content
+          → HasChunk version l.segments p l.index before now.content;
       failures : now.failures ≡ old.failures;
     }

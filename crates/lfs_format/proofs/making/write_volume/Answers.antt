@@ -1,10 +1,12 @@
 use Rattle.std.proofs.Common.{◌∙◌}
 use Rattle.lfs_format.proofs.FirstMoments.{making_cleared, making_chunked, making_synced, making_written, volume_made}
-use Rattle.lfs_format.proofs.FirstWrites.{known_version}
 use Rattle.lfs_format.proofs.making.write_volume.Goals as goal
 
 pub checkpoint-requires-clause-known : goal.checkpoint-requires-clause-known
-checkpoint-requires-clause-known g c = known_version _ c.args.shape.first c.args.shape.last
+checkpoint-requires-clause-known g c = c.args.shape.known
+
+pub checkpoint-requires-clause-unit : goal.checkpoint-requires-clause-unit
+checkpoint-requires-clause-unit g c = c.args.shape.unit
 
 pub returns-in_err-clear_slots-clause-making : goal.returns-in_err-clear_slots-clause-making
 returns-in_err-clear_slots-clause-making g c =
@@ -33,7 +35,7 @@ returns-in_err-replace-clause-making g c =
     let replaced = c.replace.ensures in
     making_written (lawful _) cleared.any_moment cleared.carries cleared.clear
     cleared.durable chunk.writes (lawful _) sync.untouched sync.carries sync.time (lawful _)
-    c.checkpoint.ensures.value (known_version _ c.args.shape.first c.args.shape.last) c.args.shape.count c.requires.size chunk.chunk
+    c.checkpoint.ensures.value c.args.shape.known c.args.shape.unit c.args.shape.count c.requires.size chunk.chunk
     sync.durable replaced.any_moment
     replaced.carries
 
@@ -46,7 +48,7 @@ returns-clause-making g c =
     let replaced = c.replace.ensures in
     making_written (lawful _) cleared.any_moment cleared.carries cleared.clear
     cleared.durable chunk.writes (lawful _) sync.untouched sync.carries sync.time (lawful _)
-    c.checkpoint.ensures.value (known_version _ c.args.shape.first c.args.shape.last) c.args.shape.count c.requires.size chunk.chunk
+    c.checkpoint.ensures.value c.args.shape.known c.args.shape.unit c.args.shape.count c.requires.size chunk.chunk
     sync.durable replaced.any_moment
     replaced.carries
 
@@ -59,6 +61,6 @@ returns-clause-made g c =
     let replaced = c.in_ok-replace.ensures in
     volume_made (lawful _) cleared.any_moment cleared.carries cleared.clear
     cleared.durable chunk.writes (lawful _) sync.untouched sync.carries sync.time
-    c.checkpoint.ensures.value (known_version _ c.args.shape.first c.args.shape.last) c.args.shape.count c.requires.size cleared.others
+    c.checkpoint.ensures.value c.args.shape.known c.args.shape.unit c.args.shape.count c.requires.size cleared.others
     chunk.chunk replaced.carries
     replaced.content replaced.durable (replaced.no_failure ∙ sync.no_failure ∙ chunk.ends.no_failure ∙ cleared.ends.no_failure)

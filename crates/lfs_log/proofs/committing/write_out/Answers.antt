@@ -3,6 +3,7 @@ use Rattle.lfs_memory.specs.segments.Chunk.{Chunk}
 use Rattle.lfs_memory.specs.segments.Table.{UsageTable, clean_in}
 use Rattle.lfs_memory.specs.inodes.Blocks.{TableValue}
 use Rattle.lfs_log.proofs.Saves.{segments_taken, room_there, many_spare}
+use Rattle.lfs_log.proofs.Padding.{anew_still}
 use Rattle.lfs_log.proofs.committing.write_out.Goals as goal
 use Rattle.lfs_memory.proofs.Going.{on_err, goes_then, goes_at_most, stops_then}
 
@@ -28,12 +29,15 @@ returns-clause-done g c =
 pub place_all-requires-clause-room : goal.place_all-requires-clause-room
 place_all-requires-clause-room g c = room_there c.args.memory.now (length c.args.memory.now.dirty.blocks) c.requires.clean
 
+pub fill_usage-requires-clause-anew : goal.fill_usage-requires-clause-anew
+fill_usage-requires-clause-anew g c = anew_still c.in_ok-seal_rest.ensures.only c.in_ok-place_all.ensures.anew
+
 pub returns-clause-taken : goal.returns-clause-taken
 returns-clause-taken g c =
     let taken = segments_taken c.args.memory.now c.place_all.new.memory (length c.args.memory.now.dirty.blocks) c.requires.closed
     c.in_ok-place_all.ensures.saves.done.goes.memory c.in_ok-place_all.ensures.saves.done.goes.room in
     let same =
-    ap clean_in (c.in_ok-fill_usage.ensures.only.segments ∙ ap (λ (u : UsageTable). u.segments) c.seal_rest.ensures.only.usage) in
+    ap clean_in c.in_ok-fill_usage.ensures.only.segments ∙ c.seal_rest.ensures.only.clean in
     omega (arith, taken, same)
 
 pub returns-clause-out : goal.returns-clause-out

@@ -52,7 +52,7 @@ returns-in_err-seal_rest-clause-stopped g c =
 pub returns-in_err-seal_rest-clause-most : goal.returns-in_err-seal_rest-clause-most
 returns-in_err-seal_rest-clause-most g c =
     let le = saved_told (g.D.SectorDevice.state c.seal_rest.new.device) c.args.memory.now c.seal_rest.new.memory c.end_last.ensures
-    c.requires.closed c.loop.invariant.saves (omega arith) (omega arith) c.seal_rest.ensures.only.usage c.seal_rest.ensures.told in
+    c.requires.closed c.loop.invariant.saves (omega arith) (omega arith) c.seal_rest.ensures.only.clean c.seal_rest.ensures.told in
     omega (arith, le)
 
 pub returns-clause-done : goal.returns-clause-done
@@ -70,7 +70,7 @@ returns-clause-fewer g c =
 pub returns-clause-due : goal.returns-clause-due
 returns-clause-due g c =
     chunk_due c.args.memory.now c.loop.memory c.seal_rest.new.memory c.end_last.ensures
-    c.seal_rest.ensures.only.dirty c.seal_rest.ensures.only.usage c.loop.invariant.early.due
+    c.seal_rest.ensures.only.dirty c.seal_rest.ensures.only.early c.loop.invariant.early.due
 
 pub returns-clause-capacity : goal.returns-clause-capacity
 returns-clause-capacity g c = ap (λ (t : TableValue). t.capacity) c.seal_rest.ensures.only.dirty ∙ c.loop.invariant.capacity
@@ -79,14 +79,14 @@ pub returns-clause-taken : goal.returns-clause-taken
 returns-clause-taken g c =
     let room = c.loop.invariant.saves.goes.room in
     let before = ap (λ (u : UsageTable). clean_in u.segments) c.end_last.ensures in
-    let after = ap (λ (u : UsageTable). clean_in u.segments) c.seal_rest.ensures.only.usage in
+    let after = c.seal_rest.ensures.only.clean in
     let one = one_segment c.args.memory.now c.loop.memory c.requires.closed (omega (arith, before, room)) in
     omega (arith, one, after)
 
 pub returns-clause-told : goal.returns-clause-told
 returns-clause-told g c =
     saved_told (g.D.SectorDevice.state c.seal_rest.new.device) c.args.memory.now c.seal_rest.new.memory c.end_last.ensures
-    c.requires.closed c.loop.invariant.saves (omega arith) (omega arith) c.seal_rest.ensures.only.usage c.seal_rest.ensures.told
+    c.requires.closed c.loop.invariant.saves (omega arith) (omega arith) c.seal_rest.ensures.only.clean c.seal_rest.ensures.told
 
 pub returns-clause-most : goal.returns-clause-most
 returns-clause-most g c = let told = returns-clause-told g c in omega (arith, told)

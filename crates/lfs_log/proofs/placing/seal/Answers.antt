@@ -18,4 +18,4 @@ returns-clause-done g c =
     (g.met.D.SectorDevice.lawful c.args.device.now) c.in_ok-seal.ensures.entries c.in_ok-seal.ensures.crash
     c.in_ok-seal.ensures.asks.carries
     c.in_ok-seal.ensures.asks.time
-    c.seal.new.self c.in_ok-seal.ensures.ended c.in_ok-seal.ensures.asks.no_failure c.in_ok-seal.ensures.written
+    c.requires.ends c.seal.new.self c.in_ok-seal.ensures.ended c.in_ok-seal.ensures.asks.no_failure c.in_ok-seal.ensures.written

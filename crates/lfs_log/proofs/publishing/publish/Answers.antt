@@ -1,6 +1,6 @@
 use Rattle.std.specs.Prelude.{Result, Ok, Err, IsErr, OnErr}
 use Rattle.lfs_memory.proofs.Going.{on_err}
-use Rattle.lfs_log.proofs.PublishSteps.{left_alone, published, replace_fails, sync_fails, written_alone}
+use Rattle.lfs_log.proofs.PublishSteps.{published, replace_fails, sync_fails}
 use Rattle.lfs_log.proofs.publishing.publish.Goals as goal
 
 -- what a failure says
@@ -17,23 +17,15 @@ pub returns-in_err-replace-clause-stopped : goal.returns-in_err-replace-clause-s
 returns-in_err-replace-clause-stopped g c =
     let e = c.in_ok-make_durable.ensures in
     let r = c.in_err-replace.ensures in
-    let old = g.D.SectorDevice.state c.make_durable.new.device in
-    let new = g.D.SectorDevice.state c.replace.new.device in
-    let sectors = g.met.D.SectorUnits.units c.make_durable.new.device in
     on_err _ _ (replace_fails _ _ _ _ _ (g.met.D.SectorDevice.lawful c.args.device.now) e.looks _ c.next_checkpoint-next.result
-    c.requires.memory c.requires.out c.next_checkpoint-next.ensures e.durable e.no_failure (written_alone old new _ _ sectors r.any_moment)
-    (left_alone old new _ _ sectors r.left) r.carries r.failed_order)
+    c.requires.memory c.requires.out c.next_checkpoint-next.ensures e.durable e.no_failure r.any_moment r.left r.carries r.failed_order)
 
 pub returns-clause-done : goal.returns-clause-done
 returns-clause-done g c =
     let e = c.in_ok-make_durable.ensures in
     let r = c.in_ok-replace.ensures in
-    let old = g.D.SectorDevice.state c.make_durable.new.device in
-    let new = g.D.SectorDevice.state c.replace.new.device in
-    let sectors = g.met.D.SectorUnits.units c.make_durable.new.device in
     published _ _ _ _ _ (g.met.D.SectorDevice.lawful c.args.device.now) e.looks _ c.next_checkpoint-next.result
-    c.requires.memory c.requires.out c.next_checkpoint-next.ensures e.durable e.no_failure (written_alone old new _ _ sectors r.any_moment)
-    (left_alone old new _ _ sectors r.left) r.carries
+    c.requires.memory c.requires.out c.next_checkpoint-next.ensures e.durable e.no_failure r.any_moment r.left r.carries
     c.release.ensures r.content r.durable r.no_failure
 
 pub returns-in_err-make_durable-clause-moment : goal.returns-in_err-make_durable-clause-moment

@@ -1,5 +1,5 @@
-use Rattle.std.proofs.Common.{inl, subst, ◌+◌, ap}
-use Rattle.lfs_model.specs.Entry.{Entry}
+use Rattle.std.proofs.Common.{rules, inl, subst, ◌≡◌, ◌+◌, refl, sym, ◌∙◌, ap}
+use Rattle.lfs_model.specs.Entry.{Entry, Map, Usage, entry_of}
 use Rattle.lfs_memory.proofs.Going.{ok_then}
 use Rattle.lfs_memory.proofs.Lifted.{map_lost}
 use Rattle.lfs_memory.specs.declared.memory.LogMemory.{LogMemory}
@@ -47,3 +47,14 @@ returns-in_default-clause-left g c =
     (subst (λ (x : Entry). HasLeft (g.D.SectorDevice.state c.args.device.now) (g.D.SectorDevice.state c.relocate_file_block.new.device)
     c.args.memory.now c.relocate_file_block.new.memory x c.args.address) c.key_of.ensures)
     c.relocate_file_block.ensures.left
+
+pub returns-in-Ok-clause-left : goal.returns-in-Ok-clause-left
+returns-in-Ok-clause-left g c = λ k m0 m keeps is is' traces at.
+    let named : entry_of c.args.name ≡ Map c.name.inside.index = search rules in
+    c.in-Ok.ensures.left (sym (is'.running.tables.at (Map c.name.inside.index) refl) ∙ ap is'.running.memory.at (sym named) ∙ at)
+
+pub returns-in-Ok-relocate_usage-clause-left : goal.returns-in-Ok-relocate_usage-clause-left
+returns-in-Ok-relocate_usage-clause-left g c = λ k m0 m keeps is is' traces at.
+    let named : entry_of c.args.name ≡ Usage c.name.inside.index = search rules in
+    c.in-Ok-relocate_usage.ensures.left (sym (is'.running.tables.at (Usage c.name.inside.index) refl)
+    ∙ ap is'.running.memory.at (sym named) ∙ at)

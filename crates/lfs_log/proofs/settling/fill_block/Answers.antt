@@ -13,7 +13,8 @@ returns-clause-done g c =
     let stale : stale_of c.args.memory.now.usage c.args.index ≡ true = search rules in
     let at : address_of c.args.memory.now.usage c.args.index ≡ c.place.inside.address = search rules in
     let e = c.in_ok-write.ensures in
-    fill_goes_at c.args.memory.now c.requires.memory (c.requires.anew c.args.index c.requires.index stale) at c.set_block.ensures
+    fill_goes_at c.args.memory.now c.requires.memory (c.requires.anew c.args.index c.requires.index stale) c.requires.closed
+    at c.set_block.ensures
     (g.D.SectorDevice.state c.args.device.now) (g.D.SectorDevice.state c.write.new.device) c.spelled-bytes.result.now
     c.spelled-bytes.ensures (g.met.D.SectorDevice.lawful c.args.device.now)
     e.written e.crash e.asks.no_failure e.asks.carries e.asks.time

@@ -34,3 +34,6 @@ returns-clause-failed g c = on_err_weaker c.read_sector.result (λ fails k m n s
     (is_long sees.sized sees.holds (Data n c.args.index) at (omega arith)) in
     omega arith)
     c.read_sector.ensures.failed
+
+pub returns-in-Err-Failed-clause-failed : goal.returns-in-Err-Failed-clause-failed
+returns-in-Err-Failed-clause-failed g c k m n sees is = c.in-Err-Failed.ensures.follows.failed (cc)

@@ -9,6 +9,7 @@ pub loop-index-init : goal.loop-index-init
 loop-index-init g c = record {
   upto = c.requires.before;
   says = λ keeps. says_nothing _ _ _;
+  unit = refl;
   looks = looks_none (g.met.D.SectorDevice.lawful _);
   no_failure = refl;
 }
@@ -21,6 +22,7 @@ loop-index-preserved g c =
       upto = now.after;
       says = λ keeps. says_then (λ x. SaysUsage x c.args.checkpoint.now) was.looks
           (was.says (now.keeps.looks.carries.kept_before keeps)) (now.says keeps);
+      unit = now.unit ∙ was.unit;
       looks = looks_then was.looks now.keeps.looks;
       no_failure = now.keeps.no_failure ∙ was.no_failure;
     }

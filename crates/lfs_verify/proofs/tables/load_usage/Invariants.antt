@@ -10,6 +10,7 @@ invariant-loop-index g l =
     record {
       upto : IsUsageUpTo l.index l.checkpoint.segments l.usage;
       says : now.keeps_model → SaysUsage old.content l.checkpoint l.index l.usage;
+      unit : l.usage.unit ≡ l.initial.usage.unit;
       looks : Looks old now;
       no_failure : now.failures ≡ old.failures;
     }

@@ -7,5 +7,6 @@ loop-entry-init c = record { taken = taken_none }
 pub loop-entry-preserved : goal.loop-entry-preserved
 loop-entry-preserved c = record {
   taken = taken_more c.loop-entry.invariant.taken
-      c.take_entry.ensures.own c.take_entry.ensures.past c.take_entry.ensures.blocks c.take_entry.ensures.last;
+      c.take_entry.ensures.own c.take_entry.ensures.past c.take_entry.ensures.blocks c.take_entry.ensures.last
+      c.take_entry.ensures.unit;
 }

@@ -1,6 +1,6 @@
 use Rattle.lfs_fs.proofs.Prelude.{true, refl, ap, ◌∙◌, arith, at_most, not_at_most}
 use Rattle.lfs_fs.proofs.Prelude.{checks_new}
-use Rattle.lfs_model.specs.Image.{new_form}
+use Rattle.lfs_model.specs.Tree.{new_form}
 use Rattle.lfs_fs.proofs.paths.Steps.{mkdir_refused}
 use Rattle.lfs_fs.proofs.new_entries.Drafts.{entry_ends}
 use Rattle.lfs_fs.proofs.new_entries.Ends.{bytes_of}

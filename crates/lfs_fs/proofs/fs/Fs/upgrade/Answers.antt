@@ -1,4 +1,4 @@
-use Rattle.lfs_fs.proofs.Prelude.{rules, ◌≡◌, sym, ◌∙◌}
+use Rattle.lfs_fs.proofs.Prelude.{rules, ◌≡◌, ◌≢◌, sym, ◌∙◌}
 use Rattle.lfs_fs.proofs.read.Ends.{begun_serves}
 use Rattle.lfs_fs.proofs.widen.Upgrades.{upgrade_ends, upgrade_nothing}
 use Rattle.lfs_fs.proofs.Exits.{returned, unbegun}
@@ -10,20 +10,22 @@ pub returns-in_err-begin : goal.returns-in_err-begin
 returns-in_err-begin g c =
     rw (returned c.from_residual.ensures) (unbegun (lawful_in_sectors g.met.D.SectorDevice.lawful) c.in_err-begin.ensures)
 
-pub returns-then-version-eq2 : goal.returns-then-version-eq2
-returns-then-version-eq2 g c =
+pub returns-then-version-ne1 : goal.returns-then-version-ne1
+returns-then-version-ne1 g c =
     let begun = c.in_ok-begin.ensures.done in
-    let two : c.version.result ≡ 2 = search rules in
+    let later : c.version.result ≢ 1 = search rules in
     begun_serves (in_sectors g.D.SectorDevice.state) begun
     (upgrade_nothing (lawful_in_sectors g.met.D.SectorDevice.lawful) begun
-    (sym c.version.ensures.value ∙ two)
+    (λ one. later (c.version.ensures.value ∙ one))
     c.check_worn.result c.check_worn.ensures.young c.check_worn.ensures.old c.check_worn.ensures.fault)
 
 pub returns : goal.returns
 returns g c =
     let begun = c.in_ok-begin.ensures.done in
+    let first : c.version.result ≡ 1 = search rules in
     begun_serves (in_sectors g.D.SectorDevice.state) begun
     (upgrade_ends (lawful_in_sectors g.met.D.SectorDevice.lawful) begun c.upgrade.new.self
     c.upgrade.ensures.keeps.log c.upgrade.ensures.keeps.drafted
-    c.upgrade.ensures.done c.upgrade.ensures.counted c.accept.new.self c.accept.ensures.rest c.accept.result c.accept.ensures.done
+    c.upgrade.ensures.done c.upgrade.ensures.counted (sym c.version.ensures.value ∙ first)
+    c.accept.new.self c.accept.ensures.rest c.accept.result c.accept.ensures.done
     c.accept.ensures.refused)

@@ -1,8 +1,8 @@
-use Rattle.std.proofs.Common.{◌≡◌, ℕ, sym, ◌∙◌, arith, List, codes, None}
-use Rattle.lfs_model.specs.Checkpoint.{checkpoint_text}
-use Rattle.lfs_model.specs.Fields.{part}
+use Rattle.std.proofs.Common.{◌≡◌, ◌<◌, ◌^◌, ℕ, sym, ap, ap₂, ◌≤◌, ◌∙◌, arith, List, codes, None}
+use Rattle.lfs_model.specs.Checkpoint.{CheckpointValue, FitsCheckpoint, checkpoint_sector, checkpoint_text, shape_bytes, sum_of}
+use Rattle.lfs_model.specs.Fields.{le32, part}
 use Rattle.lfs_model.proofs.Numbers.{le32_inj, le64_inj}
-use Rattle.lfs_model.proofs.CheckpointPlaces.{reads_from, reads_to, version_small}
+use Rattle.lfs_model.proofs.CheckpointPlaces.{reads_from, reads_to, unit_at, version_small}
 use Rattle.lfs_model.proofs.Decoding.{checkpoint_is, checkpoint_some}
 use Rattle.lfs_layout.proofs.checkpoint.Checkpoint.decode.Goals as goal
 
@@ -43,14 +43,35 @@ returns-then-not-is_version-clause-none c v fits is =
     let yes = c.is_version.ensures.1 (rw e fits.version) in
     cc
 
-pub returns-then-not-is_zero_at-clause-none : goal.returns-then-not-is_zero_at-clause-none
-returns-then-not-is_zero_at-clause-none c v fits is =
-    let yes = c.is_zero_at.ensures.1 (reads_from v fits is).gap in
+-- the version of a checkpoint that the sector spells is the number that was read
+same_version : {s : List ℕ} (n : ℕ) → n < 2 ^ 32 → le32 n ≡ part 20 4 s → (v : CheckpointValue) → FitsCheckpoint v
+    → s ≡ checkpoint_sector v → n ≡ v.version
+same_version n small spelled v fits is = le32_inj n small (version_small v.version fits.version)
+    (spelled ∙ (reads_from v fits is).version)
+
+pub returns-then-unit_power-most_unit_power-clause-none : goal.returns-then-unit_power-most_unit_power-clause-none
+returns-then-unit_power-most_unit_power-clause-none c v fits is =
+    let e = same_version c.number32_at-version.result c.number32_at-version.type_inv c.number32_at-version.ensures.spelled v fits is in
+    let most : v.unit_power ≤ c.most_unit_power.result = rw (c.most_unit_power.ensures, e) fits.unit in
+    let told = unit_at v fits is in
+    absurd (omega (arith, most, told, c.if-unit_power-most_unit_power.true))
+
+pub returns-then-not-has_shape-clause-none : goal.returns-then-not-has_shape-clause-none
+returns-then-not-has_shape-clause-none c v fits is =
+    let e = same_version c.number32_at-version.result c.number32_at-version.type_inv c.number32_at-version.ensures.spelled v fits is in
+    let yes = c.has_shape.ensures.1 ((reads_from v fits is).shape ∙ ap₂ shape_bytes (sym e) (sym (unit_at v fits is))) in
     cc
 
-pub returns-then-not-is_zero_at-2-clause-none : goal.returns-then-not-is_zero_at-2-clause-none
-returns-then-not-is_zero_at-2-clause-none c v fits is =
-    let yes = c.is_zero_at-2.ensures.1 (reads_from v fits is).rest in
+pub returns-then-not-is_zero_at-clause-none : goal.returns-then-not-is_zero_at-clause-none
+returns-then-not-is_zero_at-clause-none c v fits is =
+    let yes = c.is_zero_at.ensures.1 (reads_from v fits is).rest in
+    cc
+
+pub returns-then-not-has_sum-clause-none : goal.returns-then-not-has_sum-clause-none
+returns-then-not-has_sum-clause-none c v fits is =
+    let e = same_version c.number32_at-version.result c.number32_at-version.type_inv c.number32_at-version.ensures.spelled v fits is in
+    let yes = c.has_sum.ensures.1 ((reads_from v fits is).sum
+    ∙ ap (λ (n : ℕ). le32 (sum_of n (part 0 508 c.args.sector.now))) (sym e)) in
     cc
 
 pub returns-clause-found : goal.returns-clause-found
@@ -63,6 +84,7 @@ returns-clause-found c =
         number_fits = c.number64_at-number.type_inv;
         segments = c.is_segment_count.ensures.0 c.if-not-is_segment_count.false;
         version = c.is_version.ensures.0 c.if-not-is_version.false;
+        unit = rw (← c.most_unit_power.ensures) (omega (arith, c.if-unit_power-most_unit_power.false));
         map_length = c.words_at.ensures.length;
         map_fits = c.words_at.ensures.fits;
         usage_length = c.words_at-2.ensures.length;
@@ -73,10 +95,11 @@ returns-clause-found c =
         number = sym c.number64_at-number.ensures.spelled;
         segments = sym c.number32_at-segments.ensures.spelled;
         version = sym c.number32_at-version.ensures.spelled;
-        gap = c.is_zero_at.ensures.0 c.if-not-is_zero_at.false;
+        shape = c.has_shape.ensures.0 c.if-not-has_shape.false;
         map = sym c.words_at.ensures.spelled;
         usage = sym c.words_at-2.ensures.spelled;
-        rest = c.is_zero_at-2.ensures.0 c.if-not-is_zero_at-2.false;
+        rest = c.is_zero_at.ensures.0 c.if-not-is_zero_at.false;
+        sum = c.has_sum.ensures.0 c.if-not-has_sum.false;
       },
     )
 
@@ -100,9 +123,17 @@ pub returns-then-not-is_zero_at-clause-exact : goal.returns-then-not-is_zero_at-
 returns-then-not-is_zero_at-clause-exact c =
     checkpoint_is c.args.sector.now c.fits-sector c.told-sector None tt (λ v fits is. returns-then-not-is_zero_at-clause-none c v fits is)
 
-pub returns-then-not-is_zero_at-2-clause-exact : goal.returns-then-not-is_zero_at-2-clause-exact
-returns-then-not-is_zero_at-2-clause-exact c =
-    checkpoint_is c.args.sector.now c.fits-sector c.told-sector None tt (λ v fits is. returns-then-not-is_zero_at-2-clause-none c v fits is)
+pub returns-then-unit_power-most_unit_power-clause-exact : goal.returns-then-unit_power-most_unit_power-clause-exact
+returns-then-unit_power-most_unit_power-clause-exact c = checkpoint_is c.args.sector.now c.fits-sector c.told-sector None tt
+    (λ v fits is. returns-then-unit_power-most_unit_power-clause-none c v fits is)
+
+pub returns-then-not-has_shape-clause-exact : goal.returns-then-not-has_shape-clause-exact
+returns-then-not-has_shape-clause-exact c =
+    checkpoint_is c.args.sector.now c.fits-sector c.told-sector None tt (λ v fits is. returns-then-not-has_shape-clause-none c v fits is)
+
+pub returns-then-not-has_sum-clause-exact : goal.returns-then-not-has_sum-clause-exact
+returns-then-not-has_sum-clause-exact c =
+    checkpoint_is c.args.sector.now c.fits-sector c.told-sector None tt (λ v fits is. returns-then-not-has_sum-clause-none c v fits is)
 
 pub returns-clause-exact : goal.returns-clause-exact
 returns-clause-exact c = let found = returns-clause-found c in sym (checkpoint_some c.args.sector.now _ found.0 found.1)

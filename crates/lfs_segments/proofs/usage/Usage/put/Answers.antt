@@ -43,8 +43,8 @@ invariant_of-self c =
     ≡ c.self.inside.early + early_of c.args.state = search rules in
     let takens : c.exchanged-self-inside-3.result + taken_of (get_or c.self.inside.states.items c.args.segment no_segment)
     ≡ c.self.inside.taken + taken_of c.args.state = search rules in (
-      set_fits c.self.inside.last c.self.inside.states.items c.self.inside.blocks.items c.args.segment c.self.invariant.0
-          inside c.requires.fits,
+      set_fits c.self.inside.last c.self.inside.states.items c.self.inside.blocks.items c.self.inside.unit_power c.args.segment
+          c.self.invariant.0 inside c.requires.fits,
       totals_change c.args.segment c.args.state c.self.inside.taken
           c.exchanged-self-inside.result c.exchanged-self-inside-2.result c.exchanged-self-inside-3.result inside c.self.invariant.1 cleans
           earlies takens,

@@ -1,0 +1,11 @@
+use Rattle.lfs_device.proofs.RunTests.{takes_far, takes_low, takes_near}
+use Rattle.lfs_device.proofs.unsent.Unsent.takes.Goals as goal
+
+pub returns-then-sector-self : goal.returns-then-sector-self
+returns-then-sector-self c = takes_low c.args.self.now c.args.sector c.if-self-eq0.false c.if-sector-self.true
+
+pub returns-then-index-self : goal.returns-then-index-self
+returns-then-index-self c = takes_near c.args.self.now c.args.sector c.if-self-eq0.false c.if-sector-self.false c.if-index-self.true
+
+pub returns-else-index-self : goal.returns-else-index-self
+returns-else-index-self c = takes_far c.args.self.now c.args.sector c.if-self-eq0.false c.if-sector-self.false c.if-index-self.false
