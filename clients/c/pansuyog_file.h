@@ -23,8 +23,9 @@
  *  - Nobody else writes to the file while the volume is mounted. Its lock keeps out those who take it.
  *  - malloc, realloc and free are of one allocator, whose blocks are aligned to 16 bytes.
  *
- * Where a write or a sync of the file fails the call answers HALTED, and so does each later one. pansuyog_file_unmount, and mount anew: the
- * file holds what a loss of power may leave. Where a kernel's cache lies between, restart the machine before.
+ * Where a write or a sync of the file fails the call answers HALTED, and so does each later one. pansuyog_file_abandon, and attach it anew:
+ * the file holds what a loss of power may leave. Where a kernel's cache lies between, restart the machine before. pansuyog_file_unmount
+ * keeps the writes that were refused, and a mount behind it tries them once more: it answers DEVICE where they are refused again.
  *
  * Memory. A volume takes 0.7 to 4.7 MB, however large its file is. A call that needs memory which is refused answers NO_MEMORY, and changes
  * nothing. */

@@ -191,8 +191,8 @@ def text_of(path):
 class Scripts(unittest.TestCase):
     def test_each_script_has_its_replies(self):
         paths = [os.path.splitext(it)[0] for it in glob.glob(f"{CASES}/*.script")]
-        # A bad line is a matter of the language alone.
-        paths = [it for it in paths if "bad " not in text_of(f"{it}.replies")]
+        # A bad line is a matter of the language alone, and no call of Python makes a volume of version 3.
+        paths = [it for it in paths if "bad " not in text_of(f"{it}.replies") and not it.endswith(".v3")]
         self.assertGreaterEqual(len(paths), 67)
         for path in sorted(paths):
             with self.subTest(os.path.basename(path)), tempfile.TemporaryDirectory() as folder:

@@ -1,5 +1,5 @@
 -- What a run holds is what was last written.
-use Rattle.std.proofs.Common.{◌≡◌, ◌≢◌, ℕ, zero, suc, ◌+◌, ◌-◌, ◌<◌, ◌≤◌, max, true, false, Bool, if◌then◌else◌}
+use Rattle.std.proofs.Common.{◌≡◌, ◌≢◌, ℕ, zero, suc, ◌+◌, ◌-◌, ◌<◌, ◌≤◌, max, min, true, false, Bool, if◌then◌else◌}
 use Rattle.std.proofs.Common.{List, [], ◌∷◌, length, Some, None, inl, inr, refl, sym, ap, subst, ◌∙◌, arith}
 use Rattle.std.proofs.Common.{eq-eqb, get_or-set_same, get_or-set_other}
 use Rattle.std.proofs.lemmas.Bool.{cases_eq, ne_eqb}
@@ -14,7 +14,7 @@ use Rattle.lfs_device.specs.FileCalls.{ReadsFile, SyncsFile, from_file, from_run
 use Rattle.lfs_device.specs.History.{calls_of}
 use Rattle.lfs_device.specs.HostCall.{Length, Read, Write, Sync}
 use Rattle.lfs_device.specs.InOrder.{AreInOrder, orders_told}
-use Rattle.lfs_device.specs.Runs.{IsEmpty, IsOf, Run, Takes, bytes_of, placed, taken}
+use Rattle.lfs_device.specs.Runs.{IsEmpty, IsOf, Run, Takes, added, bytes_of, placed, taken}
 
 -- a sector in its place
 placed_length : (k : ℕ) (bytes : List ℕ) (sectors : List (List ℕ)) → k ≤ length sectors
@@ -42,58 +42,100 @@ placed_elsewhere (suc k) zero bytes (old ∷ sectors) ne = refl
 placed_elsewhere (suc k) (suc j) bytes [] ne = refl
 placed_elsewhere (suc k) (suc j) bytes (old ∷ sectors) ne = placed_elsewhere k j bytes sectors (λ e. ne (ap (λ (n : ℕ). suc n) e))
 
--- a run that takes a sector
-abbrev run : ℕ → List (List ℕ) → Run
-run first sectors = record { first = first; sectors = sectors }
+abbrev run : ℕ → List (List ℕ) → ℕ → Run
+run first sectors ahead = record { first = first; sectors = sectors; ahead = ahead }
 
-module _ (first sector : ℕ) (bytes : List ℕ) where
-  pub has_own : (sectors : List (List ℕ)) → Takes (run first sectors) sector → IsOf (taken (run first sectors) sector bytes) sector
-  has_own [] takes =
-      let many = placed_length (sector - sector) bytes [] (omega arith) in
-      record { low = omega arith; high = omega (arith, many) }
+-- a sector before all, or in its place
+module _ (first sector : ℕ) (bytes : List ℕ) (sectors : List (List ℕ)) (ahead left : ℕ) (low : first ≤ sector + 1)
+    (high : sector ≤ first + length sectors) where
+  abbrev with_it : ℕ → Run
+  with_it before = record { first = min sector first; sectors = added before (sector - first) bytes sectors; ahead = left }
+
+  own_in : (before : ℕ) → before ≡ first - sector → IsOf (with_it before) sector
+  own_in zero e =
+      let many = placed_length (sector - first) bytes sectors (omega (arith, high)) in
+      record { low = omega arith; high = omega (arith, e, many, high) }
+  own_in (suc before) e = record { low = omega arith; high = omega (arith, e) }
+
+  bytes_in : (before : ℕ) → before ≡ first - sector → bytes_of (with_it before) sector ≡ bytes
+  bytes_in zero e =
+      let at : sector - min sector first ≡ sector - first = omega (arith, e) in
+      ap (λ (k : ℕ). slice_index_or (placed (sector - first) bytes sectors) k []) at
+      ∙ placed_there (sector - first) bytes sectors (omega (arith, high))
+  bytes_in (suc before) e =
+      let at : sector - min sector first ≡ 0 = omega (arith, e) in
+      ap (λ (k : ℕ). slice_index_or (bytes ∷ sectors) k []) at
+
+  still_in : (before k : ℕ) → before ≡ first - sector → IsOf (run first sectors ahead) k → IsOf (with_it before) k
+  still_in zero k e of =
+      let many = placed_length (sector - first) bytes sectors (omega (arith, high)) in
+      let from = of.low in let end = of.high in
+      record { low = omega (arith, from); high = omega (arith, e, end, many) }
+  still_in (suc before) k e of =
+      let from = of.low in let end = of.high in
+      record { low = omega (arith, from); high = omega (arith, e, low, end) }
+
+  had_in : (before k : ℕ) → before ≡ first - sector → k ≢ sector → IsOf (with_it before) k → IsOf (run first sectors ahead) k
+  had_in zero k e ne of =
+      let many = placed_length (sector - first) bytes sectors (omega (arith, high)) in
+      let from = of.low in let end = of.high in
+      record { low = omega (arith, e, from); high = omega (arith, e, high, end, many, ne) }
+  had_in (suc before) k e ne of =
+      let from = of.low in let end = of.high in
+      record { low = omega (arith, e, low, from, ne); high = omega (arith, e, low, end) }
+
+  other_in : (before k : ℕ) → before ≡ first - sector → k ≢ sector → IsOf (run first sectors ahead) k
+      → bytes_of (with_it before) k ≡ bytes_of (run first sectors ahead) k
+  other_in zero k e ne of =
+      let from = of.low in
+      let at : k - min sector first ≡ k - first = omega (arith, e) in
+      ap (λ (j : ℕ). slice_index_or (placed (sector - first) bytes sectors) j []) at
+      ∙ placed_elsewhere (sector - first) (k - first) bytes sectors (omega (arith, e, from, ne))
+  other_in (suc before) k e ne of =
+      let from = of.low in
+      let at : k - min sector first ≡ suc (k - first) = omega (arith, e, low, from) in
+      ap (λ (j : ℕ). slice_index_or (bytes ∷ sectors) j []) at
+
+-- a run that takes a sector
+module _ (first sector ahead : ℕ) (bytes : List ℕ) where
+  pub has_own : (sectors : List (List ℕ)) → Takes (run first sectors ahead) sector
+      → IsOf (taken (run first sectors ahead) sector bytes) sector
+  has_own [] takes = own_in sector sector bytes [] ahead (ahead - (sector - sector)) (omega arith) (omega arith) (sector - sector) refl
   has_own (x ∷ sectors) takes =
       let on = takes (omega arith) in
-      let low = on.low in let high = on.high in
-      let many = placed_length (sector - first) bytes (x ∷ sectors) (omega (arith, high)) in
-      record { low = on.low; high = omega (arith, low, many) }
+      own_in first sector bytes (x ∷ sectors) ahead (ahead - (first - sector)) on.low on.high (first - sector) refl
 
-  own_bytes : (sectors : List (List ℕ)) → Takes (run first sectors) sector
-      → bytes_of (taken (run first sectors) sector bytes) sector ≡ bytes
-  own_bytes [] takes = let none : sector - sector ≡ 0 = omega arith in
-      ap (λ (k : ℕ). slice_index_or (placed k bytes []) k []) none
+  own_bytes : (sectors : List (List ℕ)) → Takes (run first sectors ahead) sector
+      → bytes_of (taken (run first sectors ahead) sector bytes) sector ≡ bytes
+  own_bytes [] takes = bytes_in sector sector bytes [] ahead (ahead - (sector - sector)) (omega arith) (omega arith) (sector - sector) refl
   own_bytes (x ∷ sectors) takes =
       let on = takes (omega arith) in
-      let high = on.high in placed_there (sector - first) bytes (x ∷ sectors) (omega (arith, high))
+      bytes_in first sector bytes (x ∷ sectors) ahead (ahead - (first - sector)) on.low on.high (first - sector) refl
 
-  has_still : (sectors : List (List ℕ)) → Takes (run first sectors) sector → (k : ℕ) → IsOf (run first sectors) k
-      → IsOf (taken (run first sectors) sector bytes) k
+  has_still : (sectors : List (List ℕ)) → Takes (run first sectors ahead) sector → (k : ℕ) → IsOf (run first sectors ahead) k
+      → IsOf (taken (run first sectors ahead) sector bytes) k
   has_still [] takes k of = absurd (let low = of.low in let high = of.high in omega (arith, low, high))
   has_still (x ∷ sectors) takes k of =
       let on = takes (omega arith) in
-      let high = on.high in
-      let many = placed_length (sector - first) bytes (x ∷ sectors) (omega (arith, high)) in
-      let end = of.high in
-      record { low = of.low; high = omega (arith, end, many) }
+      still_in first sector bytes (x ∷ sectors) ahead (ahead - (first - sector)) on.low on.high (first - sector) k refl of
 
-  had_other : (sectors : List (List ℕ)) → Takes (run first sectors) sector → (k : ℕ) → k ≢ sector
-      → IsOf (taken (run first sectors) sector bytes) k → IsOf (run first sectors) k
+  had_other : (sectors : List (List ℕ)) → Takes (run first sectors ahead) sector → (k : ℕ) → k ≢ sector
+      → IsOf (taken (run first sectors ahead) sector bytes) k → IsOf (run first sectors ahead) k
   had_other [] takes k ne of =
-      let many = placed_length (sector - sector) bytes [] (omega arith) in
-      absurd (let low = of.low in let high = of.high in omega (arith, many, low, high, ne))
+      let left = ahead - (sector - sector) in
+      let had = had_in sector sector bytes [] ahead left (omega arith) (omega arith) (sector - sector) k refl ne of in
+      absurd (let low = had.low in let high = had.high in omega (arith, low, high))
   had_other (x ∷ sectors) takes k ne of =
       let on = takes (omega arith) in
-      let low = on.low in let high = on.high in
-      let many = placed_length (sector - first) bytes (x ∷ sectors) (omega (arith, high)) in
-      let end = of.high in
-      record { low = of.low; high = omega (arith, low, high, end, many, ne) }
+      had_in first sector bytes (x ∷ sectors) ahead (ahead - (first - sector)) on.low on.high (first - sector) k refl ne of
 
-  other_bytes : (sectors : List (List ℕ)) → Takes (run first sectors) sector → (k : ℕ) → k ≢ sector
-      → IsOf (run first sectors) k → bytes_of (taken (run first sectors) sector bytes) k ≡ bytes_of (run first sectors) k
+  other_bytes : (sectors : List (List ℕ)) → Takes (run first sectors ahead) sector → (k : ℕ) → k ≢ sector
+      → IsOf (run first sectors ahead) k
+      → bytes_of (taken (run first sectors ahead) sector bytes) k ≡ bytes_of (run first sectors ahead) k
   other_bytes [] takes k ne of = absurd (let low = of.low in let high = of.high in omega (arith, low, high))
   other_bytes (x ∷ sectors) takes k ne of =
       let on = takes (omega arith) in
-      let low = on.low in let from = of.low in
-      placed_elsewhere (sector - first) (k - first) bytes (x ∷ sectors) (omega (arith, low, from, ne))
+      other_in first sector bytes (x ∷ sectors) ahead (ahead - (first - sector)) on.low on.high (first - sector) k refl ne of
 
 -- what was told
 pub told_same : (events : List Event) → orders_in (calls_of events) ≡ orders_told events
@@ -130,11 +172,12 @@ last_is n (Called (Write offset bytes false) ∷ events) is k of = last_is n eve
 last_is n (Called (Sync done) ∷ events) is k of = last_is n events is.1 k of
 last_is n (Kept sector bytes ∷ events) is k of = elim (cases_eq k sector) [
   | inl e ↦ last_own events sector k bytes e
-      ∙ ap (λ (b : List ℕ). Some b) (sym (own_bytes (kept events).first sector bytes (kept events).sectors is.2))
+      ∙ ap (λ (b : List ℕ). Some b) (sym (own_bytes (kept events).first sector (kept events).ahead bytes (kept events).sectors is.2))
       ∙ ap (λ (j : ℕ). Some (bytes_of (taken (kept events) sector bytes) j)) (sym e)
-  | inr ne ↦ let had = had_other (kept events).first sector bytes (kept events).sectors is.2 k ne of in
+  | inr ne ↦ let had = had_other (kept events).first sector (kept events).ahead bytes (kept events).sectors is.2 k ne of in
       last_other events sector k bytes ne ∙ last_is n events is.3 k had
-      ∙ ap (λ (b : List ℕ). Some b) (sym (other_bytes (kept events).first sector bytes (kept events).sectors is.2 k ne had))
+      ∙ ap (λ (b : List ℕ). Some b)
+      (sym (other_bytes (kept events).first sector (kept events).ahead bytes (kept events).sectors is.2 k ne had))
 ]
 last_is n (Shown sector bytes ∷ events) is k of = last_is n events is.2 k of
 last_is n (WriteRefused sector bytes ∷ events) is k of = last_is n events is.2 k of
@@ -150,9 +193,10 @@ others_none n (Called (Write offset bytes false) ∷ events) is k off = others_n
 others_none n (Called (Sync done) ∷ events) is k off = others_none n events is.1 k off
 others_none n (Kept sector bytes ∷ events) is k off = elim (cases_eq k sector) [
   | inl e ↦ absurd (off (subst (IsOf (taken (kept events) sector bytes)) (sym e)
-      (has_own (kept events).first sector bytes (kept events).sectors is.2)))
+      (has_own (kept events).first sector (kept events).ahead bytes (kept events).sectors is.2)))
   | inr ne ↦ last_other events sector k bytes ne
-      ∙ others_none n events is.3 k (λ of. off (has_still (kept events).first sector bytes (kept events).sectors is.2 k of))
+      ∙ others_none n events is.3 k
+      (λ of. off (has_still (kept events).first sector (kept events).ahead bytes (kept events).sectors is.2 k of))
 ]
 others_none n (Shown sector bytes ∷ events) is k off = others_none n events is.2 k off
 others_none n (WriteRefused sector bytes ∷ events) is k off = others_none n events is.2 k off

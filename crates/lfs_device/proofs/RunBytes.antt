@@ -1,5 +1,5 @@
 -- The sectors of a run, one behind the other in memory.
-use Rattle.std.proofs.Common.{◌≡◌, ℕ, zero, suc, ◌+◌, ◌*◌, ◌<◌, ◌≤◌, List, [], ◌∷◌, ◌++◌, length, take, drop, refl, sym, ap, ◌∙◌}
+use Rattle.std.proofs.Common.{◌≡◌, ℕ, zero, suc, ◌+◌, ◌-◌, ◌*◌, ◌<◌, ◌≤◌, List, [], ◌∷◌, ◌++◌, length, take, drop, refl, sym, ap, ◌∙◌}
 use Rattle.std.proofs.Common.{arith, append_assoc, drop-drop, length-drop, length-take-le, take-add, take_at, drop_at}
 use Rattle.std.proofs.Common.{inl, inr, max}
 use Rattle.std.proofs.lemmas.Bool.{cases_lt}
@@ -79,7 +79,7 @@ module _ (len : ℕ) (b : List ℕ) (long : length b ≡ len) where
       ∙ ap (λ (x : List (List ℕ)). take len bytes ∷ x)
       (put_behind count (drop len bytes) (omega (arith, more, room, length-drop len bytes)))
 
-  pub placed_bytes : (count count' k : ℕ) (bytes : List ℕ) {new : List ℕ} → new ≡ take (len * k) bytes ++ b ++ drop (len * k + len) bytes
+  placed_bytes : (count count' k : ℕ) (bytes : List ℕ) {new : List ℕ} → new ≡ take (len * k) bytes ++ b ++ drop (len * k + len) bytes
       → count' ≡ max count (k + 1) → k ≤ count → len * count ≤ length bytes
       → sectors_in len count' new ≡ placed k b (sectors_in len count bytes)
   unfolding put_at
@@ -93,3 +93,45 @@ module _ (len : ℕ) (b : List ℕ) (long : length b ≡ len) where
         ∙ put_behind count bytes room
         ∙ ap (λ (i : ℕ). placed i b (sectors_in len count bytes)) (sym at)
   ]
+
+  -- behind the room ahead
+  behind_room : (room m : ℕ) (bytes : List ℕ) {new : List ℕ} → new ≡ take (room + m) bytes ++ b ++ drop (room + m + len) bytes
+      → room + m ≤ length bytes
+      → drop room new ≡ take m (drop room bytes) ++ b ++ drop (m + len) (drop room bytes)
+  behind_room room m bytes {new} is within =
+      let past : room + (m + len) ≡ room + m + len = omega arith in
+      let rest = drop (m + len) (drop room bytes) in
+      let head = take room bytes in let middle = take m (drop room bytes) in
+      ap (λ (x : List ℕ). drop room x) (is
+      ∙ ap (λ (x : List ℕ). x ++ b ++ drop (room + m + len) bytes) (take-add room m bytes)
+      ∙ ap (λ (x : List ℕ). (head ++ middle) ++ b ++ x)
+      (ap (λ (n : ℕ). drop n bytes) (sym past) ∙ sym (drop-drop (m + len) room bytes))
+      ∙ ap (λ (x : List ℕ). x ++ rest) (append_assoc head middle b)
+      ∙ append_assoc head (middle ++ b) rest)
+      ∙ drop_at head (middle ++ b ++ rest) room (length-take-le room bytes (omega (arith, within)))
+
+  pub placed_behind : (count count' room k : ℕ) (bytes : List ℕ) {new : List ℕ}
+      → new ≡ take (len * (room + k)) bytes ++ b ++ drop (len * (room + k) + len) bytes
+      → count' ≡ max count (k + 1) → k ≤ count → len * (room + count) ≤ length bytes
+      → sectors_in len count' (drop (len * room) new) ≡ placed k b (sectors_in len count (drop (len * room) bytes))
+  placed_behind count count' room k bytes {new} is most le fits =
+      let parts : len * (room + k) ≡ len * room + len * k = omega arith in
+      let all : len * (room + count) ≡ len * room + len * count = omega arith in
+      let more : count ≡ k + (count - k) = omega (arith, le) in
+      let split : len * (k + (count - k)) ≡ len * k + len * (count - k) = omega arith in
+      let some = ap (λ (n : ℕ). len * n) more ∙ split in
+      placed_bytes count count' k (drop (len * room) bytes) (behind_room (len * room) (len * k) bytes
+      (is ∙ ap (λ (n : ℕ). take n bytes ++ b ++ drop (n + len) bytes) parts) (omega (arith, fits, all, some)))
+      most le (omega (arith, fits, all, length-drop (len * room) bytes))
+
+  pub put_ahead : (count : ℕ) (bytes : List ℕ) {new : List ℕ} → new ≡ take 0 bytes ++ b ++ drop len bytes
+      → sectors_in len (count + 1) (drop (len * 0) new) ≡ b ∷ sectors_in len count (drop (len * 1) bytes)
+  put_ahead count bytes {new} is =
+      let none : len * 0 ≡ 0 = omega arith in
+      let one : len * 1 ≡ len = omega arith in
+      let more : count + 1 ≡ suc count = omega arith in
+      ap (λ (n : ℕ). sectors_in len (count + 1) (drop n new)) none
+      ∙ ap (λ (x : List ℕ). sectors_in len (count + 1) x) is
+      ∙ ap (λ (n : ℕ). sectors_in len n (b ++ drop len bytes)) more
+      ∙ behind_head count b (drop len bytes) long
+      ∙ ap (λ (n : ℕ). b ∷ sectors_in len count (drop n bytes)) (sym one)

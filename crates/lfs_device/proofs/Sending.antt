@@ -12,7 +12,7 @@ use Rattle.lfs_device.proofs.KeptRuns.{has_own}
 -- where nothing is kept, all was sent
 taken_some : (run : Run) (sector : ℕ) (bytes : List ℕ) → Takes run sector → IsEmpty (taken run sector bytes) → ⊥
 taken_some run sector bytes takes empty =
-    let own = has_own run.first sector bytes run.sectors takes in
+    let own = has_own run.first sector run.ahead bytes run.sectors takes in
     let low = own.low in let high = own.high in absurd (omega (arith, low, high, empty))
 
 all_sent : {before orders : List Order} {run : Run} → Gathers before run orders → IsEmpty run

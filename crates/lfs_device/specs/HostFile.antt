@@ -1,5 +1,5 @@
 -- What was done with an open file, as a list.
-use Rattle.std.specs.Prelude.{ℕ, Option, Some, None, Result, Ok, Err, List, [], ◌∷◌, take}
+use Rattle.std.specs.Prelude.{ℕ, Option, Some, None, Result, Ok, Err, List, [], ◌∷◌, drop, take}
 use Rattle.lfs_device.specs.Event.{Event, Called, Kept, Shown, WriteRefused, SyncRefused}
 use Rattle.lfs_device.specs.HostCall.{Length, Read, Write, Sync}
 use Rattle.lfs_device.specs.declared.host.HostFile.{HostFile}
@@ -10,7 +10,7 @@ use Rattle.lfs_device.specs.declared.host.Notes.{Notes, Nothing, After'}
 abbrev pub event_noted : Noted → Event
 event_noted (noted.Length told) = Called (Length told)
 event_noted (noted.Read offset bytes done) = Called (Read offset bytes.value done)
-event_noted (noted.Write offset bytes len done) = Called (Write offset (take len bytes.value.items) done)
+event_noted (noted.Write offset bytes at len done) = Called (Write offset (take len (drop at bytes.value.items)) done)
 event_noted (noted.Sync done) = Called (Sync done)
 event_noted (noted.Kept sector bytes) = Kept sector bytes.value
 event_noted (noted.Shown sector bytes) = Shown sector bytes.value

@@ -32,13 +32,13 @@ impl From<AllocError> for FileFault {
 
 /// A file of the world `W` as a device, sector after sector. It never answers `Unreadable`.
 ///
-/// Sectors that are written one behind the other make a run of at most 64, which is kept in memory
-/// and goes out by one call of the system: a write at an offset. A write that goes on with the run,
-/// or is of a sector of it, makes no call. Another one sends the run first and begins a new one, and
-/// a sync sends it before it lets all reach the medium. Where that fails, the write or sync fails
-/// and does nothing, and the run stays. A read of a sector of the run gives what is kept, another
-/// one reads the file. A run that isn't sent is lost as the device is dropped, as a stop would lose
-/// it.
+/// Sectors that follow one another make a run of at most 64, which is kept in memory and goes out by
+/// one call of the system: a write at an offset. A write of a sector of the run, or of the next one
+/// behind it, makes no call, nor does one of the sector before it, for one sector of a run. Another
+/// write sends the run first and begins a new one, and a sync sends it before it lets all reach the
+/// medium. Where that fails, the write or sync fails and does nothing, and the run stays. A read of
+/// a sector of the run gives what is kept, another one reads the file. A run that isn't sent is lost
+/// as the device is dropped, as a stop would lose it.
 ///
 /// It keeps the device model as far as each read that succeeded gave what such a device would hold
 /// by then: a read of the run does. What it held as it was opened, and what a stop would have left

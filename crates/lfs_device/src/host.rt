@@ -1,7 +1,7 @@
 // The calls of the system on a file, and nothing else in this crate calls it. Clauses say what each
 // function notes. That it makes the call that it notes has to be read, for no clause of std says
 // what a call does. Those that begin with `note` make none.
-ghost use Rattle.std.specs.Prelude.{◌≡◌, ◌≤◌, [], ◌∷◌, is_ok, take, vec_len};
+ghost use Rattle.std.specs.Prelude.{◌≡◌, ◌+◌, ◌≤◌, [], ◌∷◌, drop, is_ok, take, vec_len};
 ghost use Rattle.lfs_device.specs.Event.{Called, Kept, Shown, WriteRefused, SyncRefused};
 ghost use Rattle.lfs_device.specs.HostCall.{Length, Read, Write, Sync};
 ghost use Rattle.lfs_device.specs.HostFile.{event_noted, events, told_by};
@@ -19,8 +19,8 @@ pub(crate) enum Noted {
     Length(Option<u64>),
     /// The offset in bytes, and what the buffer held after the call.
     Read(u64, Snapshot<[u8; 512]>, bool),
-    /// The offset in bytes, and the bytes, of which so many were written.
-    Write(u64, Snapshot<Vec<u8>>, usize, bool),
+    /// The offset in bytes, and the bytes, of which those from a place on were written, so many.
+    Write(u64, Snapshot<Vec<u8>>, usize, usize, bool),
     Sync(bool),
     /// A write that was taken, and not sent yet.
     Kept(u32, Snapshot<[u8; 512]>),
@@ -91,14 +91,20 @@ impl HostFile {
         answer
     }
 
-    /// Writes the first `len` of the bytes at `offset`.
-    pub(crate) fn write(&mut self, offset: u64, bytes: &Vec<u8>, len: usize) -> io::Result<()>
-        requires { len ≤ vec_len bytes.now }
-        ensures { events self.new
-            ≡ Called (Write offset (take len bytes.now.items) (is_ok result)) ∷ events self.old }
+    /// Writes `len` of the bytes, from the place `at` on, at `offset`.
+    pub(crate) fn write(
+        &mut self,
+        offset: u64,
+        bytes: &Vec<u8>,
+        at: usize,
+        len: usize,
+    ) -> io::Result<()>
+        requires { at + len ≤ vec_len bytes.now }
+        ensures { events self.new ≡ Called (Write offset (take len (drop at bytes.now.items))
+            (is_ok result)) ∷ events self.old }
     {
-        let answer = self.file.write_all_at(&bytes[..len], offset);
-        self.note(Noted::Write(offset, Snapshot::of(bytes), len, answer.is_ok()));
+        let answer = self.file.write_all_at(&bytes[at..at + len], offset);
+        self.note(Noted::Write(offset, Snapshot::of(bytes), at, len, answer.is_ok()));
         answer
     }
 

@@ -1,5 +1,5 @@
-// A file by sectors. Those that are written one behind the other go out together.
-ghost use Rattle.std.specs.Prelude.{◌≡◌, ◌≤◌};
+// A file by sectors. Those that follow one another go out together.
+ghost use Rattle.std.specs.Prelude.{◌≡◌, ◌+◌, ◌≤◌};
 ghost use Rattle.lfs_device.specs.Event.{kept};
 ghost use Rattle.lfs_device.specs.HostFile.{events};
 ghost use Rattle.lfs_device.specs.Runs.{Run-set};
@@ -16,7 +16,7 @@ use std::io;
 pub(crate) struct SectorFile {
     host: HostFile,
     unsent: Unsent,
-    ghost few: { unsent.count ≤ LONGEST_RUN },
+    ghost few: { unsent.ahead + unsent.count ≤ LONGEST_RUN },
     ghost same: { run_in unsent ≡ kept (events host) } by { Run-set (run_in unsent) (kept (events host)) },
 }
 

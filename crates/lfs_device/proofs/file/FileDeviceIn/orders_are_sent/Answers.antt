@@ -1,4 +1,4 @@
-use Rattle.std.proofs.Common.{ap, arith, length, subst, sym}
+use Rattle.std.proofs.Common.{◌*◌, ap, arith, drop, length, subst, sym}
 use Rattle.lfs_model.specs.declared.limits.TheConstants.{SECTOR_LEN}
 use Rattle.lfs_device.specs.FileDevice.{events_of, host_calls_of, run_of}
 use Rattle.lfs_device.specs.Runs.{Run}
@@ -17,7 +17,8 @@ pub returns-clause-few : goal.returns-clause-few
 returns-clause-few g c =
     let file = c.args.self.now.file in
     let same = ap (λ (run : Run). length run.sectors) file.same in
-    omega (arith, same, file.few, length_sectors SECTOR_LEN file.unsent.count file.unsent.bytes.items)
+    let places = drop (SECTOR_LEN * file.unsent.ahead) file.unsent.bytes.items in
+    omega (arith, same, file.few, length_sectors SECTOR_LEN file.unsent.count places)
 
 pub returns-clause-told : goal.returns-clause-told
 returns-clause-told g c = told_same (events_of c.args.self.now)
