@@ -373,8 +373,8 @@ class Made(WhereTheSystemFails):
                 while self.run_with(MAKE.format(how=how), fails, stops)[0] == 9:
                     empty += self.is_left_empty()
                     stops += 1
-                # It is cut and made longer; six sectors, and one of them again; three syncs; its name, and the folder.
-                self.assertGreaterEqual(stops, 14)
+                # It is cut and made longer; both slots, the chunk, and a slot again; three syncs; its name, and the folder.
+                self.assertGreaterEqual(stops, 10)
                 # Where a file can't have two names a stop may come between an empty file of the name and the rename.
                 self.assertEqual(empty, 1 if fails else 0)
                 self.clear()

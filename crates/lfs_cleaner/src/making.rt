@@ -7,12 +7,12 @@ ghost use Rattle.lfs_cleaner.specs.Making.{CleansQuarter, FailsPasses, FailsClea
 ghost use Rattle.lfs_log.specs.Saving.{commit_orders};
 
 use crate::passing::pass;
-use lfs_device::SectorUnits;
+use lfs_device::SectorDevice;
 use lfs_log::thresholds::{is_quarter_clean, most_passes};
 use lfs_log::{Log, LogFault};
 
 /// Whether a quarter of the segments is clean.
-pub fn has_quarter<D: SectorUnits>(log: &Log<D>) -> bool
+pub fn has_quarter<D: SectorDevice>(log: &Log<D>) -> bool
     ensures yes { IsTrue result → HasQuarter log.now }
     ensures no { IsFalse result → 4 * log.now.clean
         < log.now.segments }
@@ -27,7 +27,7 @@ pub fn has_quarter<D: SectorUnits>(log: &Log<D>) -> bool
 ///
 /// As those of `pass`, and `Full` where they don't suffice. With each the log map is the same, and
 /// what earlier passes did stays.
-fn pass_until_quarter<D: SectorUnits>(log: &mut Log<D>) -> Result<(), LogFault>
+fn pass_until_quarter<D: SectorDevice>(log: &mut Log<D>) -> Result<(), LogFault>
     requires running { log.old.halted ≡ false }
     requires nothing { AreAllSaved log.old }
     ensures done { OnOk result (Repeats D.SectorDevice.state log.old log.new
@@ -67,7 +67,7 @@ fn pass_until_quarter<D: SectorUnits>(log: &mut Log<D>) -> Result<(), LogFault>
 /// # Errors
 ///
 /// As those of `Log::commit`.
-pub(crate) fn commit_unsaved<D: SectorUnits>(log: &mut Log<D>) -> Result<(), LogFault>
+pub(crate) fn commit_unsaved<D: SectorDevice>(log: &mut Log<D>) -> Result<(), LogFault>
     requires { log.old.halted ≡ false }
     ensures done { OnOk result (IsReadied D.SectorDevice.state log.old log.new) }
     ensures totals { log.new.totals ≡ log.old.totals }
@@ -97,7 +97,7 @@ pub(crate) fn commit_unsaved<D: SectorUnits>(log: &mut Log<D>) -> Result<(), Log
 /// With the log map as it was: `Full` where a commit finds too few clean segments, or no pass gains
 /// one, `Device` where a call of the device failed before anything more was written. `Halted` where
 /// one failed later, or as the log was written before.
-pub fn make_clean<D: SectorUnits>(log: &mut Log<D>) -> Result<(), LogFault>
+pub fn make_clean<D: SectorDevice>(log: &mut Log<D>) -> Result<(), LogFault>
     ensures done { OnOk result (CleansQuarter D.SectorDevice.state log.old log.new) }
     ensures totals { log.new.totals ≡ log.old.totals }
     ensures full { IsErrOf result LogFault.Full

@@ -7,7 +7,7 @@ ghost use Rattle.lfs_cleaner.specs.Making.{FailsClean, HaltsLater, HasQuarter, L
 
 use crate::making::{commit_unsaved, has_quarter};
 use crate::passing::pass;
-use lfs_device::SectorUnits;
+use lfs_device::SectorDevice;
 use lfs_log::{Log, LogFault};
 
 /// One pass where fewer than a quarter of the segments is clean, and none else.
@@ -15,7 +15,7 @@ use lfs_log::{Log, LogFault};
 /// # Errors
 ///
 /// As those of `pass`.
-fn pass_where_due<D: SectorUnits>(log: &mut Log<D>) -> Result<(), LogFault>
+fn pass_where_due<D: SectorDevice>(log: &mut Log<D>) -> Result<(), LogFault>
     requires running { log.old.halted ≡ false }
     requires nothing { AreAllSaved log.old }
     ensures done { OnOk result (PassesWhereDue D.SectorDevice.state log.old log.new) }
@@ -46,7 +46,7 @@ fn pass_where_due<D: SectorUnits>(log: &mut Log<D>) -> Result<(), LogFault>
 /// With the log map as it was: `Full` where a commit finds too few clean segments, or no pass gains
 /// one, `Device` where a call of the device failed before anything more was written. `Halted` where
 /// one failed later, or as the log was written before.
-pub fn clean_once<D: SectorUnits>(log: &mut Log<D>) -> Result<(), LogFault>
+pub fn clean_once<D: SectorDevice>(log: &mut Log<D>) -> Result<(), LogFault>
     ensures done { OnOk result (MakesOnce D.SectorDevice.state log.old log.new) }
     ensures alone { log.old.saved ≡ true
         → OnOk result (PassesWhereDue D.SectorDevice.state log.old log.new) }

@@ -4,7 +4,7 @@ ghost use Rattle.lfs_log.specs.LogState.{Halts};
 ghost use Rattle.lfs_log.specs.Saving.{pass_orders};
 ghost use Rattle.lfs_cleaner.specs.Passing.{FailsPass, Passes, RefusesPass};
 
-use lfs_device::SectorUnits;
+use lfs_device::SectorDevice;
 use lfs_log::memory::segments::victims::victims;
 use lfs_log::thresholds::most_victims;
 use lfs_log::{Log, LogFault};
@@ -20,7 +20,7 @@ use lfs_log::{Log, LogFault};
 /// made (`CanPass`), it never answers so. `Device` where a call of the device failed before
 /// anything was written: nothing changed. `Halted` where one failed later, or as the log was
 /// written before.
-pub fn pass<D: SectorUnits>(log: &mut Log<D>) -> Result<(), LogFault>
+pub fn pass<D: SectorDevice>(log: &mut Log<D>) -> Result<(), LogFault>
     ensures done { OnOk result (Passes D.SectorDevice.state log.old log.new) }
     ensures totals { log.new.totals ≡ log.old.totals }
     ensures full { IsErrOf result LogFault.Full

@@ -108,7 +108,7 @@ fn change_in<Here: World, R: Files<File = File> + Clock, W: Write>(
     match image::mount_to_write::<Here, R>(rt, alloc, image) {
         Ok(mut fs) => {
             let done = change_by(&mut fs, change, words);
-            end_caused(end_change(&mut fs, done, output), fs.device())
+            end_caused(end_change(&mut fs, done, output), fs.device().device())
         }
         Err(refusal) => refuse(output, refusal),
     }

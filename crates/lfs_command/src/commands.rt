@@ -4,6 +4,7 @@ ghost use Rattle.std.specs.Io.KnownBytes.{Keeps};
 ghost use Rattle.lfs_model.specs.Device.{Carries, in_sectors};
 ghost use Rattle.lfs_device.specs.MemoryDevice.{device_state};
 ghost use Rattle.lfs_grammar.specs.Asking.{HasWord, IsStrict};
+ghost use Rattle.lfs_fs.specs.log.Mounting.{HasWholeUnits};
 ghost use Rattle.lfs_script.specs.Heard.{HearsTo};
 ghost use Rattle.lfs_command.specs.Playing.{PlaysToRefusal, Plays, PlaysStrictly, TellsSaved};
 ghost use Rattle.lfs_command.specs.Telling.{IsTold, IsToldPlainly, IsToldStrictly, TellsInput, outcome_of};
@@ -15,8 +16,8 @@ use crate::simulation;
 use crate::simulation::{Plan, read_plan};
 use crate::terminals::Terminals;
 use lfs_bad_lines::{LineKeeper, put_bad_line};
-use lfs_device::{FileDeviceIn, Left, MemDevice, SectorDevice, ThisWorld, World};
-use lfs_fs::Fs;
+use lfs_device::{FileDeviceIn, InSectors, Left, MemDevice, SectorDevice, ThisWorld, World};
+use lfs_fs::{Fs, InVolume};
 use lfs_grammar::{Action, Request, read_request};
 use lfs_host::fault::{Ending, Fault, Outcome, Refusal, Said};
 use lfs_host::image;
@@ -135,25 +136,26 @@ fn play<D: SectorDevice, I: Read, W: Write, S: Witness<D, W>>(
     output: &mut W,
     witness: &mut S,
 ) -> (Played<Ending>, D)
+    requires { HasWholeUnits (D.state device) }
     ensures plays { Plays result.0.end (I.remaining input.old) (I.remaining input.new)
-        (W.contents output.old) (W.contents output.new) (in_sectors D.state device)
-        (in_sectors D.state result.1)
+        (W.contents output.old) (W.contents output.new) (D.state device)
+        (D.state result.1)
         (S.glances witness.old) (S.glances witness.new) }
     ensures reads { TellsInput result.0.end (S.failures witness.old) (S.failures witness.new)
         (I.remaining input.old) (I.remaining input.new) }
     ensures saved { TellsSaved result.0.is_saved false (I.remaining input.old)
-        (I.remaining input.new) (W.contents output.old) (in_sectors D.state device)
-        (in_sectors D.state result.1)
+        (I.remaining input.new) (W.contents output.old) (D.state device)
+        (D.state result.1)
         (S.glances witness.old) (S.glances witness.new) }
     ensures heard { HearsTo (S.heard witness.old) (S.heard witness.new) (λ r r'.
         Plays result.0.end r r' (W.contents output.old) (W.contents output.new)
-        (in_sectors D.state device) (in_sectors D.state result.1)
+        (D.state device) (D.state result.1)
         (S.glances witness.old) (S.glances witness.new)
         × TellsInput result.0.end (S.failures witness.old) (S.failures witness.new) r r'
         × TellsSaved result.0.is_saved false r r' (W.contents output.old)
-        (in_sectors D.state device) (in_sectors D.state result.1)
+        (D.state device) (D.state result.1)
         (S.glances witness.old) (S.glances witness.new)) }
-    ensures carries { Carries (in_sectors D.state device) (in_sectors D.state result.1) }
+    ensures carries { Carries (D.state device) (D.state result.1) }
 {
     match use_volume_noted(alloc, false, input, output, witness, device) {
         (Ok(used), device) => {
@@ -208,7 +210,9 @@ fn run<Here: World, R: Files<File = File> + Clock, I: Read, W: Write>(
     match image::open_to_write::<Here, R>(rt, alloc, image) {
         Ok(device) => {
             let mut glances = Glances::new();
-            let (played, mut device) = play(alloc, device, input, output, &mut glances);
+            let device = InVolume::new(device);
+            let (played, device) = play(alloc, device, input, output, &mut glances);
+            let mut device = device.into_inner();
             Played {
                 end: explain_ending(played.end, &mut device),
                 is_saved: played.is_saved,
@@ -255,30 +259,31 @@ fn play_strict<D: SectorDevice, I: Read, W: Write, S: Witness<D, W>>(
     output: &mut W,
     witness: &mut S,
 ) -> (Played<Outcome>, D)
+    requires { HasWholeUnits (D.state device) }
     ensures plays { PlaysStrictly result.0.end (I.remaining input.old) (I.remaining input.new)
-        (W.contents output.old) (W.contents output.new) (in_sectors D.state device)
-        (in_sectors D.state result.1)
+        (W.contents output.old) (W.contents output.new) (D.state device)
+        (D.state result.1)
         (S.glances witness.old) (S.glances witness.new) }
     ensures refused { result.0.end ≡ Ok Outcome.CallRefused
         → PlaysToRefusal (I.remaining input.old) (I.remaining input.new) (W.contents output.old)
-        (W.contents output.new) (in_sectors D.state device) (in_sectors D.state result.1)
+        (W.contents output.new) (D.state device) (D.state result.1)
         (S.glances witness.old)
         (S.glances witness.new) }
     ensures reads { TellsInput result.0.end (S.failures witness.old) (S.failures witness.new)
         (I.remaining input.old) (I.remaining input.new) }
     ensures saved { TellsSaved result.0.is_saved true (I.remaining input.old)
-        (I.remaining input.new) (W.contents output.old) (in_sectors D.state device)
-        (in_sectors D.state result.1)
+        (I.remaining input.new) (W.contents output.old) (D.state device)
+        (D.state result.1)
         (S.glances witness.old) (S.glances witness.new) }
     ensures heard { HearsTo (S.heard witness.old) (S.heard witness.new) (λ r r'.
         PlaysStrictly result.0.end r r' (W.contents output.old) (W.contents output.new)
-        (in_sectors D.state device) (in_sectors D.state result.1)
+        (D.state device) (D.state result.1)
         (S.glances witness.old) (S.glances witness.new)
         × TellsInput result.0.end (S.failures witness.old) (S.failures witness.new) r r'
         × TellsSaved result.0.is_saved true r r' (W.contents output.old)
-        (in_sectors D.state device) (in_sectors D.state result.1)
+        (D.state device) (D.state result.1)
         (S.glances witness.old) (S.glances witness.new)) }
-    ensures carries { Carries (in_sectors D.state device) (in_sectors D.state result.1) }
+    ensures carries { Carries (D.state device) (D.state result.1) }
 {
     match use_volume_noted(alloc, true, input, output, witness, device) {
         (Ok(used), device) => {
@@ -304,7 +309,9 @@ fn run_strict<Here: World, R: Files<File = File> + Clock, I: Read, W: Write>(
     match image::open_to_write::<Here, R>(rt, alloc, image) {
         Ok(device) => {
             let mut glances = Glances::new();
-            let (played, mut device) = play_strict(alloc, device, input, output, &mut glances);
+            let device = InVolume::new(device);
+            let (played, device) = play_strict(alloc, device, input, output, &mut glances);
+            let mut device = device.into_inner();
             Played {
                 end: explain_outcome(played.end, &mut device),
                 is_saved: played.is_saved,
@@ -318,7 +325,7 @@ fn run_strict<Here: World, R: Files<File = File> + Clock, I: Read, W: Write>(
 }
 
 // As `play` on a device in memory, which stops then.
-fn play_and_stop<I: Read, W: Write, S: Witness<MemDevice, W>>(
+fn play_and_stop<I: Read, W: Write, S: Witness<InSectors<MemDevice>, W>>(
     alloc: Global,
     device: MemDevice,
     left: Left,

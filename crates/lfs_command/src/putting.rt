@@ -151,7 +151,7 @@ pub fn put_into<Here: World, R: Files<File = File> + Clock, I: Read, W: Write>(
         Ok(mut fs) => {
             let path = path.as_slice();
             let ending = put_from(rt, alloc, &mut fs, path, source.file, input, output);
-            end_caused(ending, fs.device())
+            end_caused(ending, fs.device().device())
         }
         Err(refusal) => refuse(output, refusal),
     }

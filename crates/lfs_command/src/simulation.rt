@@ -7,7 +7,7 @@ ghost use Rattle.lfs_device.specs.MemoryDevice.{bench_of, device_state};
 ghost use Rattle.lfs_device.specs.Units.{unit_from};
 
 use lfs_device::{Left, MemDevice};
-use lfs_fs::{Fs, FsError, format_version};
+use lfs_fs::{Fs, FsError, InVolume, format_version};
 use lfs_host::fault::{Fault, Refusal};
 use lfs_layout::is_segment_count;
 use lfs_words::{read_u32, read_u64};
@@ -100,8 +100,8 @@ pub fn start(alloc: Global, plan: Plan) -> Result<MemDevice, Refusal>
 }
 
 /// Mounts a device's volume.
-pub fn mount(alloc: Global, device: MemDevice) -> Result<Fs<MemDevice>, Refusal> {
-    match Fs::mount(alloc, device) {
+pub fn mount(alloc: Global, device: MemDevice) -> Result<Fs<InVolume<MemDevice>>, Refusal> {
+    match Fs::mount(alloc, InVolume::new(device)) {
         Ok(fs) => Ok(fs),
         Err((fault, _)) => Err(Refusal::from(fault)),
     }

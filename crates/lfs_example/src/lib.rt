@@ -3,7 +3,7 @@
 
 use anyhow::{Error, Result};
 use lfs_device::{FileDevice, FileFault, Left, MemDevice, SectorDevice};
-use lfs_fs::{Fs, FsError, format};
+use lfs_fs::{Fs, FsError, InVolume, format};
 use std::alloc::Global;
 use std::fs::File;
 use std::rt::Files;
@@ -45,8 +45,8 @@ fn refused(fault: FsError) -> Error {
 }
 
 /// The volume that a device holds.
-fn mounted<D: SectorDevice + Drop>(alloc: Global, device: D) -> Result<Fs<D>> {
-    match Fs::mount(alloc, device) {
+fn mounted<D: SectorDevice + Drop>(alloc: Global, device: D) -> Result<Fs<InVolume<D>>> {
+    match Fs::mount(alloc, InVolume::new(device)) {
         Ok(fs) => Ok(fs),
         Err((fault, _)) => Err(Error::msg(fault.name())),
     }
@@ -64,7 +64,7 @@ pub fn in_memory(alloc: Global) -> Result<Vec<u8>> {
     let mut fs = mounted(alloc, device)?;
     two_records(&mut fs).map_err(refused)?;
     // Each sector holds what it did at the last sync.
-    let mut device = fs.into_device();
+    let mut device = fs.into_device().into_inner();
     device.crash(Left::Old);
     let mut fs = mounted(alloc, device)?;
     records(&mut fs).map_err(refused)
@@ -94,6 +94,6 @@ pub fn in_a_file<R: Files<File = File>>(rt: &R, alloc: Global, path: &str) -> Re
     make(&mut device)?;
     let mut fs = mounted(alloc, device)?;
     append(&mut fs, b"three\n").map_err(refused)?;
-    let mut fs = mounted(alloc, fs.into_device())?;
+    let mut fs = mounted(alloc, fs.into_device().into_inner())?;
     records(&mut fs).map_err(refused)
 }

@@ -1,7 +1,7 @@
 mod Prelude
 mod Exits
-pub mod InSectors
 pub mod Bearing
+pub mod VolumeUnits
 mod calls
 mod volume
 mod paths
@@ -23,3 +23,4 @@ mod scripts
 pub mod ScriptRuns
 pub mod CallRuns
 pub mod Sessions
+pub use Rattle.lfs_store.proofs.of_log.WholeUnits as WholeUnits

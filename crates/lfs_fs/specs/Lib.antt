@@ -13,6 +13,7 @@ pub mod Reading
 pub mod Naming
 pub mod Scripts
 pub mod InARow
+pub mod VolumeUnits
 pub mod Drafted
 pub mod Renaming
 pub mod Upgrading

@@ -1,6 +1,5 @@
 //! The calls that clean, and whether cleaning is due.
 ghost use Rattle.std.specs.Prelude.{◌≡◌, ◌≤◌, ◌+◌, length, OnOk, IsTrue, IsFalse};
-ghost use Rattle.lfs_model.specs.Device.{in_sectors};
 ghost use Rattle.lfs_model.specs.Call.{Clean, Done};
 ghost use Rattle.lfs_store.specs.cleaner.Making.{CleansOnce, HasQuarter, once_orders, clean_orders};
 ghost use Rattle.lfs_fs.specs.Volume.{Serves, segments_of};
@@ -29,12 +28,12 @@ impl<D: SectorDevice> Fs<D> {
     /// `Worn` from checkpoint 2^62 on. `Device` where a call of the device failed before anything
     /// more was written, `Halted` where one failed later.
     pub fn clean(&mut self) -> Result<(), FsError>
-        ensures serves { Serves (in_sectors D.SectorDevice.state) (seen self.old) (seen self.new)
+        ensures serves { Serves D.SectorDevice.state (seen self.old) (seen self.new)
             Clean
             (answer_by (λ _. Done) result) }
         ensures enough { OnOk result (HasQuarter (seen self.new).log) }
-        ensures told { length (in_sectors D.state (seen self.new).log.device).told
-            ≤ length (in_sectors D.state (seen self.old).log.device).told
+        ensures told { length (D.state (seen self.new).log.device).told
+            ≤ length (D.state (seen self.old).log.device).told
             + clean_orders (segments_of (seen self.old)) }
         ensures quiet { HasQuarter (seen self.old).log → (seen self.new).log ≡ (seen self.old).log }
     {
@@ -53,13 +52,13 @@ impl<D: SectorDevice> Fs<D> {
     ///
     /// As those of `clean`.
     pub fn clean_once(&mut self) -> Result<(), FsError>
-        ensures serves { Serves (in_sectors D.SectorDevice.state) (seen self.old) (seen self.new)
+        ensures serves { Serves D.SectorDevice.state (seen self.old) (seen self.new)
             Clean
             (answer_by (λ _. Done) result) }
-        ensures once { OnOk result (CleansOnce (in_sectors D.SectorDevice.state) (seen self.old).log
+        ensures once { OnOk result (CleansOnce D.SectorDevice.state (seen self.old).log
             (seen self.new).log) }
-        ensures told { length (in_sectors D.state (seen self.new).log.device).told
-            ≤ length (in_sectors D.state (seen self.old).log.device).told
+        ensures told { length (D.state (seen self.new).log.device).told
+            ≤ length (D.state (seen self.old).log.device).told
             + once_orders (segments_of (seen self.old)) }
         ensures quiet { HasQuarter (seen self.old).log → (seen self.new).log ≡ (seen self.old).log }
     {

@@ -1,6 +1,5 @@
 //! The call that gives up a handle.
 ghost use Rattle.std.specs.Prelude.{◌≡◌, ◌≤◌, ◌<◌, ℕ, false, Some};
-ghost use Rattle.lfs_model.specs.Device.{in_sectors};
 ghost use Rattle.std.specs.FinMap.{find};
 ghost use Rattle.std.specs.Ordering.{nat_cmp};
 ghost use Rattle.lfs_model.specs.Call.{Close, Done};
@@ -24,7 +23,7 @@ impl<D: SectorDevice> Fs<D> {
     ///
     /// `BadHandle` where no such handle is open.
     pub fn close(&mut self, handle: u32) -> Result<(), FsError>
-        ensures { Serves (in_sectors D.SectorDevice.state) (seen self.old) (seen self.new)
+        ensures { Serves D.SectorDevice.state (seen self.old) (seen self.new)
             (Close handle)
             (answer_by (λ _. Done) result) }
     {
@@ -44,7 +43,7 @@ impl<D: SectorDevice> Fs<D> {
         requires counted { drafted_of self.old.store ≡ (seen self.old).log.totals }
         ensures { find nat_cmp handle self.old.handles ≡ Some number.value
             → opened (without nat_cmp handle self.old.handles) number.value ≡ 0
-            → Serves (in_sectors D.SectorDevice.state) (seen self.old) (seen self.new)
+            → Serves D.SectorDevice.state (seen self.old) (seen self.new)
             (Close handle)
             (answer_by (λ _. Done) result) }
     {

@@ -1,6 +1,5 @@
 //! What becomes of what a call drafted.
 ghost use Rattle.std.specs.Prelude.{◌≡◌, ◌≤◌, false, OnOk};
-ghost use Rattle.lfs_model.specs.Device.{in_sectors};
 ghost use Rattle.lfs_store.specs.StoreState.{asked_by, draft_of};
 ghost use Rattle.lfs_fs.specs.Seen.{seen};
 ghost use Rattle.lfs_fs.specs.Finishing.{Finishes};
@@ -15,7 +14,7 @@ impl<D: SectorDevice> Fs<D> {
     pub(crate) fn finish(&mut self, drafted: Result<(), EntryFault>) -> Result<(), FsError>
         requires running { (seen self.old).log.halted ≡ false }
         requires room { OnOk drafted (asked_by (draft_of self.old.store) ≤ 456) }
-        ensures ends { Finishes (in_sectors D.SectorDevice.state) self.old self.new drafted result }
+        ensures ends { Finishes D.SectorDevice.state self.old self.new drafted result }
         ensures rest { self.new.handles ≡ self.old.handles }
     {
         match drafted {

@@ -1,6 +1,5 @@
 //! A mounted volume, and what its calls have in common.
 ghost use Rattle.std.specs.Prelude.{◌≡◌, ◌≤◌, ◌<◌, ◌^◌, ◌+◌, ◌*◌, length, true, false, Some, IfOk, IfErr, OnOk, OnErr};
-ghost use Rattle.lfs_model.specs.Device.{in_sectors};
 ghost use Rattle.std.specs.FinMap.{find};
 ghost use Rattle.std.specs.Ordering.{nat_cmp};
 ghost use Rattle.lfs_model.specs.declared.limits.TheConstants.{MOST_HANDLES};
@@ -12,7 +11,7 @@ ghost use Rattle.lfs_fs.specs.Seen.{Begins, GivesNone, seen};
 use crate::error::FsError;
 use crate::handles::Handles;
 use crate::rows::Space;
-use lfs_device::{InSectors, SectorDevice};
+use lfs_device::SectorDevice;
 use lfs_model::FileNumber;
 use lfs_model::limits::{LEAST_NEED, NEED_OF_META, NEED_OF_SEGMENT};
 use lfs_store::{BlockTotals, Store};
@@ -25,7 +24,7 @@ const WORN: u64 = 1 << 62;
 #[derive(Drop)]
 pub struct Fs<D: SectorDevice> {
     pub(crate) alloc: Global,
-    pub(crate) store: Store<InSectors<D>>,
+    pub(crate) store: Store<D>,
     pub(crate) handles: Handles,
 }
 
@@ -90,14 +89,14 @@ impl<D: SectorDevice> Fs<D> {
     pub(crate) fn accept(&mut self) -> Result<(), FsError>
         requires running { (seen self.old).log.halted ≡ false }
         requires room { asked_by (draft_of self.old.store) ≤ 456 }
-        ensures done { OnOk result (StagesDraft (in_sectors D.SectorDevice.state) self.old self.new) }
-        ensures refused { IfErr result (TurnsDown (in_sectors D.SectorDevice.state) self.old
+        ensures done { OnOk result (StagesDraft D.SectorDevice.state self.old self.new) }
+        ensures refused { IfErr result (TurnsDown D.SectorDevice.state self.old
             self.new) }
         ensures fits { IfErr result (λ fault. fault ≡ FsError.NoMemory
             → ((seen self.old).log.saved ≡ true → IsAtRest (seen self.old).log) → ⊥) }
         ensures rest { self.new.handles ≡ self.old.handles }
-        ensures told { length (in_sectors D.state (seen self.new).log.device).told
-            ≤ length (in_sectors D.state (seen self.old).log.device).told
+        ensures told { length (D.state (seen self.new).log.device).told
+            ≤ length (D.state (seen self.old).log.device).told
             + clean_orders (seen self.old).log.segments }
     {
         let space = self.space_of(self.store.space());

@@ -1,6 +1,5 @@
 //! A further name of an object.
 ghost use Rattle.lfs_model.specs.Call.{Done, LinkTo};
-ghost use Rattle.lfs_model.specs.Device.{in_sectors};
 ghost use Rattle.lfs_fs.specs.Volume.{Serves};
 ghost use Rattle.lfs_fs.specs.Seen.{answer_by, seen};
 
@@ -20,7 +19,7 @@ impl<D: SectorDevice> Fs<D> {
     /// `Perm` for a directory; those of the second path; of the new name as those of `create`;
     /// `TooManyLinks` where the object has 1,000 names; `NoSpace`.
     pub fn link(&mut self, from: &[u8], to: &[u8]) -> Result<(), FsError>
-        ensures { Serves (in_sectors D.SectorDevice.state) (seen self.old) (seen self.new)
+        ensures { Serves D.SectorDevice.state (seen self.old) (seen self.new)
             (LinkTo from.now to.now) (answer_by (λ _. Done) result) }
     {
         let (directory, last) = self.begin_at(from, FsError::Perm)?;

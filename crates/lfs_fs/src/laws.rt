@@ -1,6 +1,5 @@
 //! What calls of a volume come to, one after the other, as laws: each is the contract of a function
 //! that does nothing.
-ghost use Rattle.lfs_model.specs.Device.{in_sectors};
 ghost use Rattle.lfs_fs.specs.InARow.{CallsAreKept, LeftIsMounted, MountsAreSaved};
 
 use lfs_device::SectorDevice;
@@ -9,16 +8,16 @@ use lfs_device::SectorDevice;
 /// stop at any moment leaves the state after some of them, and one since an answer the state after
 /// every call that was acknowledged by then, or a later one.
 pub fn calls_are_kept<D: SectorDevice>()
-    ensures { CallsAreKept (in_sectors D.SectorDevice.state) }
+    ensures { CallsAreKept D.SectorDevice.state }
 {}
 
 /// A mount is where they may begin: a stop behind it leaves the state that was found.
 pub fn mounts_are_saved<D: SectorDevice>()
-    ensures { MountsAreSaved (in_sectors D.SectorDevice.state) }
+    ensures { MountsAreSaved D.SectorDevice.state }
 {}
 
 /// What such a stop leaves is mounted again, and refused for memory alone by a device that keeps the
 /// model and bears two orders more.
 pub fn left_is_mounted<D: SectorDevice>()
-    ensures { LeftIsMounted (in_sectors D.SectorDevice.state) }
+    ensures { LeftIsMounted D.SectorDevice.state }
 {}

@@ -9,6 +9,7 @@ mod finishing;
 mod fs;
 mod handles;
 mod hard_links;
+mod in_volume;
 pub mod laws;
 mod linking;
 mod listing;
@@ -25,6 +26,7 @@ mod writing;
 
 pub use error::FsError;
 pub use fs::Fs;
+pub use in_volume::InVolume;
 pub use lfs_entries::{ListedEntry as Entry, TreeRow};
 pub use lfs_format::{FormatFault, Shape, format, format_version, format_with};
 pub use lfs_path as path;

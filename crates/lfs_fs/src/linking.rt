@@ -1,6 +1,5 @@
 //! Symbolic links, and how they are made.
 ghost use Rattle.std.specs.Prelude.{◌≡◌, None, Some, IfErr, OnOk};
-ghost use Rattle.lfs_model.specs.Device.{in_sectors};
 ghost use Rattle.lfs_model.specs.Call.{Done, Symlink};
 ghost use Rattle.lfs_model.specs.PathText.{text_refusal};
 ghost use Rattle.lfs_fs.specs.Refusals.{refusal_of};
@@ -23,7 +22,7 @@ impl<D: SectorDevice> Fs<D> {
     /// `Inval` where it has a zero byte; those of the path; of the new name as those of `create`;
     /// `NoNumber`; `NoSpace`.
     pub fn symlink(&mut self, text: &[u8], path: &[u8]) -> Result<(), FsError>
-        ensures { Serves (in_sectors D.SectorDevice.state) (seen self.old) (seen self.new)
+        ensures { Serves D.SectorDevice.state (seen self.old) (seen self.new)
             (Symlink text.now path.now) (answer_by (λ _. Done) result) }
     {
         self.begin()?;

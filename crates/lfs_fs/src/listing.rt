@@ -1,6 +1,5 @@
 //! The listing of one directory, and of all.
 ghost use Rattle.std.specs.Prelude.{◌≡◌, map, IfErr, IfOk, OnErr, OnOk};
-ghost use Rattle.lfs_model.specs.Device.{in_sectors};
 ghost use Rattle.lfs_model.specs.Call.{Entries, ListTree, Readdir, Rows};
 ghost use Rattle.lfs_entries.specs.Telling.{AsksOnly, FailsWhere, InEach};
 ghost use Rattle.lfs_fs.specs.Answers.{entry_of, row_of};
@@ -26,7 +25,7 @@ impl<D: SectorDevice> Fs<D> {
     ///
     /// Those of the path; `NotDir` where it gives no directory.
     pub fn readdir(&mut self, path: &[u8]) -> Result<Vec<Entry>, FsError>
-        ensures { Serves (in_sectors D.SectorDevice.state) (seen self.old) (seen self.new)
+        ensures { Serves D.SectorDevice.state (seen self.old) (seen self.new)
             (Readdir path.now)
             (answer_by (λ entries. Entries (map entry_of entries.items)) result) }
     {
@@ -44,7 +43,7 @@ impl<D: SectorDevice> Fs<D> {
     ///
     /// `NoMemory` and `Device` for their causes.
     pub fn tree(&mut self) -> Result<Vec<TreeRow>, FsError>
-        ensures { Serves (in_sectors D.SectorDevice.state) (seen self.old) (seen self.new) ListTree
+        ensures { Serves D.SectorDevice.state (seen self.old) (seen self.new) ListTree
             (answer_by (λ rows. Rows (map row_of rows.items)) result) }
     {
         self.begin()?;

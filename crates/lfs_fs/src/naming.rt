@@ -1,6 +1,5 @@
 //! Calls that find a file by its path, or make one.
 ghost use Rattle.std.specs.Prelude.{◌≡◌, IfErr, OnErr, OnOk};
-ghost use Rattle.lfs_model.specs.Device.{in_sectors};
 ghost use Rattle.lfs_model.specs.Call.{Open, Create, Done, Handle, Mkdir};
 ghost use Rattle.lfs_fs.specs.Volume.{Serves};
 ghost use Rattle.lfs_fs.specs.Seen.{answer_by, seen};
@@ -20,7 +19,7 @@ impl<D: SectorDevice> Fs<D> {
     ///
     /// In this order: those of the path; `IsDir`; `TooManyOpen` where 64 handles are open.
     pub fn open(&mut self, path: &[u8]) -> Result<u32, FsError>
-        ensures { Serves (in_sectors D.SectorDevice.state) (seen self.old) (seen self.new)
+        ensures { Serves D.SectorDevice.state (seen self.old) (seen self.new)
             (Open path.now)
             (answer_by Handle result) }
     {
@@ -43,7 +42,7 @@ impl<D: SectorDevice> Fs<D> {
     /// where a slash follows it, `DirFull`;
     /// `TooManyOpen`; `NoNumber`; `NoSpace`.
     pub fn create(&mut self, path: &[u8]) -> Result<u32, FsError>
-        ensures { Serves (in_sectors D.SectorDevice.state) (seen self.old) (seen self.new)
+        ensures { Serves D.SectorDevice.state (seen self.old) (seen self.new)
             (Create path.now)
             (answer_by Handle result) }
     {
@@ -70,7 +69,7 @@ impl<D: SectorDevice> Fs<D> {
     /// `DirFull`; `TooManyLinks` where the directory that is to have it has 1,000 links;
     /// `NoNumber`; `NoSpace`.
     pub fn mkdir(&mut self, path: &[u8]) -> Result<(), FsError>
-        ensures { Serves (in_sectors D.SectorDevice.state) (seen self.old) (seen self.new)
+        ensures { Serves D.SectorDevice.state (seen self.old) (seen self.new)
             (Mkdir path.now)
             (answer_by (λ _. Done) result) }
     {

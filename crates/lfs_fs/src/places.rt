@@ -1,6 +1,5 @@
 //! How a call comes to the object of a path, or to the path's last piece.
 ghost use Rattle.std.specs.Prelude.{IfErr, IfOk, Some};
-ghost use Rattle.lfs_model.specs.Device.{in_sectors};
 ghost use Rattle.lfs_fs.specs.Naming.{BeginsAt, BeginsNowhere, FindsPlace, LacksPlace};
 ghost use Rattle.lfs_fs.specs.Reading.{FindsObject, RefusesPath};
 ghost use Rattle.lfs_fs.specs.Seen.{OnlyReads};
@@ -19,10 +18,10 @@ impl<D: SectorDevice> Fs<D> {
     ///
     /// `Halted`; those of the path.
     pub(crate) fn begin_with(&mut self, path: &[u8], follow: bool) -> Result<FileNumber, FsError>
-        ensures found { IfOk result (λ number. FindsObject (in_sectors D.SectorDevice.state)
+        ensures found { IfOk result (λ number. FindsObject D.SectorDevice.state
             self.old self.new
             path.now follow number.value) }
-        ensures refused { IfErr result (RefusesPath (in_sectors D.SectorDevice.state) self.old
+        ensures refused { IfErr result (RefusesPath D.SectorDevice.state self.old
             self.new path.now
             follow) }
     {
@@ -41,10 +40,10 @@ impl<D: SectorDevice> Fs<D> {
         path: &'a [u8],
         nameless: FsError,
     ) -> Result<(FileNumber, Last<'a>), FsError>
-        ensures begun { IfOk result (λ place. BeginsAt (in_sectors D.SectorDevice.state) self.old
+        ensures begun { IfOk result (λ place. BeginsAt D.SectorDevice.state self.old
             self.new
             path.now place.0.value place.1) }
-        ensures refused { IfErr result (BeginsNowhere (in_sectors D.SectorDevice.state) self.old
+        ensures refused { IfErr result (BeginsNowhere D.SectorDevice.state self.old
             self.new
             path.now nameless) }
     {
@@ -63,11 +62,11 @@ impl<D: SectorDevice> Fs<D> {
         path: &'a [u8],
         nameless: FsError,
     ) -> Result<(FileNumber, Last<'a>), FsError>
-        ensures reads { OnlyReads (in_sectors D.SectorDevice.state) self.old self.new }
-        ensures found { IfOk result (λ place. FindsPlace (in_sectors D.SectorDevice.state) self.old
+        ensures reads { OnlyReads D.SectorDevice.state self.old self.new }
+        ensures found { IfOk result (λ place. FindsPlace D.SectorDevice.state self.old
             self.new
             path.now place.0.value (Some place.1)) }
-        ensures refused { IfErr result (LacksPlace (in_sectors D.SectorDevice.state) self.old
+        ensures refused { IfErr result (LacksPlace D.SectorDevice.state self.old
             self.new path.now
             nameless) }
     {

@@ -1,6 +1,5 @@
 //! Calls that read: bytes of a file, what is told of an object, and of the volume.
 ghost use Rattle.lfs_model.specs.Call as call;
-ghost use Rattle.lfs_model.specs.Device.{in_sectors};
 ghost use Rattle.lfs_model.specs.Call.{Data, FormatVersion, LstatOf, Pread, Readlink, StatOf, Status, Text};
 ghost use Rattle.lfs_fs.specs.Answers.{room_of, status_of};
 ghost use Rattle.lfs_fs.specs.Reading.{stat_call};
@@ -23,7 +22,7 @@ impl<D: SectorDevice> Fs<D> {
     ///
     /// `BadHandle`; `Inval` where `len` is above 65,536.
     pub fn pread(&mut self, handle: u32, offset: u64, len: u32) -> Result<Vec<u8>, FsError>
-        ensures { Serves (in_sectors D.SectorDevice.state) (seen self.old) (seen self.new)
+        ensures { Serves D.SectorDevice.state (seen self.old) (seen self.new)
             (Pread handle offset len) (answer_by (λ bytes. Data bytes.items) result) }
     {
         self.begin()?;
@@ -41,7 +40,7 @@ impl<D: SectorDevice> Fs<D> {
     ///
     /// Those of the path.
     pub fn stat(&mut self, path: &[u8]) -> Result<Stat, FsError>
-        ensures { Serves (in_sectors D.SectorDevice.state) (seen self.old) (seen self.new)
+        ensures { Serves D.SectorDevice.state (seen self.old) (seen self.new)
             (StatOf path.now)
             (answer_by (λ stat. Status (status_of stat)) result) }
     {
@@ -55,7 +54,7 @@ impl<D: SectorDevice> Fs<D> {
     ///
     /// Those of the path.
     pub fn lstat(&mut self, path: &[u8]) -> Result<Stat, FsError>
-        ensures { Serves (in_sectors D.SectorDevice.state) (seen self.old) (seen self.new)
+        ensures { Serves D.SectorDevice.state (seen self.old) (seen self.new)
             (LstatOf path.now)
             (answer_by (λ stat. Status (status_of stat)) result) }
     {
@@ -64,7 +63,7 @@ impl<D: SectorDevice> Fs<D> {
 
     /// What is told of the object of a path, whose last link is followed or not.
     fn status(&mut self, path: &[u8], follow: bool) -> Result<Stat, FsError>
-        ensures { Serves (in_sectors D.SectorDevice.state) (seen self.old) (seen self.new)
+        ensures { Serves D.SectorDevice.state (seen self.old) (seen self.new)
             (stat_call follow path.now) (answer_by (λ stat. Status (status_of stat)) result) }
     {
         let number = self.begin_with(path, follow)?;
@@ -83,7 +82,7 @@ impl<D: SectorDevice> Fs<D> {
     ///
     /// Those of the path; `Inval` where it gives no link.
     pub fn readlink(&mut self, path: &[u8]) -> Result<Vec<u8>, FsError>
-        ensures { Serves (in_sectors D.SectorDevice.state) (seen self.old) (seen self.new)
+        ensures { Serves D.SectorDevice.state (seen self.old) (seen self.new)
             (Readlink path.now)
             (answer_by (λ text. Text text.items) result) }
     {
@@ -98,7 +97,7 @@ impl<D: SectorDevice> Fs<D> {
     ///
     /// `Halted` alone.
     pub fn space(&mut self) -> Result<Space, FsError>
-        ensures { Serves (in_sectors D.SectorDevice.state) (seen self.old) (seen self.new)
+        ensures { Serves D.SectorDevice.state (seen self.old) (seen self.new)
             call.Space
             (answer_by room_of result) }
     {
@@ -112,7 +111,7 @@ impl<D: SectorDevice> Fs<D> {
     ///
     /// `Halted` alone.
     pub fn version(&mut self) -> Result<u32, FsError>
-        ensures { Serves (in_sectors D.SectorDevice.state) (seen self.old) (seen self.new)
+        ensures { Serves D.SectorDevice.state (seen self.old) (seen self.new)
             call.Version
             (answer_by FormatVersion result) }
     {

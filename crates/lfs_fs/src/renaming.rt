@@ -1,6 +1,5 @@
 //! The call that gives an object another name.
 ghost use Rattle.std.specs.Prelude.{◌≡◌, ℕ, List, IsFalse, IsTrue};
-ghost use Rattle.lfs_model.specs.Device.{in_sectors};
 ghost use Rattle.lfs_model.specs.Call.{Done, Rename};
 ghost use Rattle.lfs_fs.specs.Naming.{Reaches};
 ghost use Rattle.lfs_fs.specs.Renaming.{IsOpen, IsShut, ReachesBoth};
@@ -32,7 +31,7 @@ impl<D: SectorDevice> Fs<D> {
     /// `NotEmpty`; of another directory that gets a name more `DirFull`, and `TooManyLinks` where
     /// it has 1,000 links and gets a directory; `NoSpace`.
     pub fn rename(&mut self, from: &[u8], to: &[u8]) -> Result<(), FsError>
-        ensures { Serves (in_sectors D.SectorDevice.state) (seen self.old) (seen self.new)
+        ensures { Serves D.SectorDevice.state (seen self.old) (seen self.new)
             (Rename from.now to.now) (answer_by (λ _. Done) result) }
     {
         self.begin()?;
@@ -49,8 +48,8 @@ impl<D: SectorDevice> Fs<D> {
     ) -> Result<(), FsError>
         requires ready { IsReady self.old }
         ensures { (v : Mounted D) (from : List ℕ)
-            → Reaches (in_sectors D.SectorDevice.state) v self.old from directory.value last.entry
-            → Serves (in_sectors D.SectorDevice.state) v (seen self.new) (Rename from to.now)
+            → Reaches D.SectorDevice.state v self.old from directory.value last.entry
+            → Serves D.SectorDevice.state v (seen self.new) (Rename from to.now)
             (answer_by (λ _. Done) result) }
     {
         let place = parent(self.alloc, &mut self.store, to)?;
@@ -67,10 +66,10 @@ impl<D: SectorDevice> Fs<D> {
     ) -> Result<(), FsError>
         requires ready { IsReady self.old }
         ensures { (v : Mounted D) (a b : List ℕ)
-            → ReachesBoth (in_sectors D.SectorDevice.state) v self.old a directory.value from.entry
+            → ReachesBoth D.SectorDevice.state v self.old a directory.value from.entry
             b chain
             to.entry
-            → Serves (in_sectors D.SectorDevice.state) v (seen self.new) (Rename a b)
+            → Serves D.SectorDevice.state v (seen self.new) (Rename a b)
             (answer_by (λ _. Done) result) }
     {
         let Some(from) = from else {

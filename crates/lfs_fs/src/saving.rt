@@ -1,6 +1,5 @@
 //! The calls that save, and whether all is saved.
 ghost use Rattle.std.specs.Prelude.{◌≡◌, IsTrue};
-ghost use Rattle.lfs_model.specs.Device.{in_sectors};
 ghost use Rattle.lfs_model.specs.Call.{Fsync, Sync, Done};
 ghost use Rattle.lfs_fs.specs.Volume.{LeavesAll, Serves};
 ghost use Rattle.lfs_fs.specs.Seen.{seen, answer_by};
@@ -14,7 +13,7 @@ impl<D: SectorDevice> Fs<D> {
     /// A `sync` would write nothing.
     pub fn is_saved(&self) -> bool
         ensures value { result ≡ (seen self.now).log.saved }
-        ensures kept { IsTrue result → LeavesAll (in_sectors D.SectorDevice.state) (seen self.now) }
+        ensures kept { IsTrue result → LeavesAll D.SectorDevice.state (seen self.now) }
     {
         self.store.is_saved()
     }
@@ -26,7 +25,7 @@ impl<D: SectorDevice> Fs<D> {
     ///
     /// `Halted` where a call of the device failed.
     pub fn sync(&mut self) -> Result<(), FsError>
-        ensures { Serves (in_sectors D.SectorDevice.state) (seen self.old) (seen self.new) Sync
+        ensures { Serves D.SectorDevice.state (seen self.old) (seen self.new) Sync
             (answer_by (λ _. Done) result) }
     {
         self.begin()?;
@@ -40,7 +39,7 @@ impl<D: SectorDevice> Fs<D> {
     ///
     /// `BadHandle` where no such handle is open; else as those of `sync`.
     pub fn fsync(&mut self, handle: u32) -> Result<(), FsError>
-        ensures { Serves (in_sectors D.SectorDevice.state) (seen self.old) (seen self.new)
+        ensures { Serves D.SectorDevice.state (seen self.old) (seen self.new)
             (Fsync handle)
             (answer_by (λ _. Done) result) }
     {

@@ -1,6 +1,5 @@
 //! Calls that take names away.
 ghost use Rattle.lfs_model.specs.Call.{Done, Rmdir, Unlink};
-ghost use Rattle.lfs_model.specs.Device.{in_sectors};
 ghost use Rattle.lfs_fs.specs.Seen.{answer_by, seen};
 ghost use Rattle.lfs_fs.specs.Volume.{Serves};
 
@@ -19,7 +18,7 @@ impl<D: SectorDevice> Fs<D> {
     /// `NotDir` where a slash follows the name of what is no directory; `Perm` for a directory.
     /// Never `NoSpace`.
     pub fn unlink(&mut self, path: &[u8]) -> Result<(), FsError>
-        ensures { Serves (in_sectors D.SectorDevice.state) (seen self.old) (seen self.new)
+        ensures { Serves D.SectorDevice.state (seen self.old) (seen self.new)
             (Unlink path.now)
             (answer_by (λ _. Done) result) }
     {
@@ -38,7 +37,7 @@ impl<D: SectorDevice> Fs<D> {
     /// dot-dot; `NameTooLong`; `NoEntry`; `NotDir`, for a symbolic link too; `NotEmpty`. Never
     /// `NoSpace`.
     pub fn rmdir(&mut self, path: &[u8]) -> Result<(), FsError>
-        ensures { Serves (in_sectors D.SectorDevice.state) (seen self.old) (seen self.new)
+        ensures { Serves D.SectorDevice.state (seen self.old) (seen self.new)
             (Rmdir path.now)
             (answer_by (λ _. Done) result) }
     {

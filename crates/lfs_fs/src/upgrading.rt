@@ -1,7 +1,6 @@
 //! Calls by which an old volume moves over: its version is raised, and its directories take longer
 //! names.
 ghost use Rattle.std.specs.Prelude.{◌≡◌, ℕ, List, true, false};
-ghost use Rattle.lfs_model.specs.Device.{in_sectors};
 ghost use Rattle.lfs_model.specs.Call.{Done, Upgrade, Widen};
 ghost use Rattle.lfs_fs.specs.Reading.{ReachesObject};
 ghost use Rattle.lfs_fs.specs.Seen.{IsReady, answer_by, seen};
@@ -25,7 +24,7 @@ impl<D: SectorDevice> Fs<D> {
     ///
     /// Those alone that every change has: `NoMemory`, `Device`, `Halted`, `Worn`.
     pub fn upgrade(&mut self) -> Result<(), FsError>
-        ensures { Serves (in_sectors D.SectorDevice.state) (seen self.old) (seen self.new) Upgrade
+        ensures { Serves D.SectorDevice.state (seen self.old) (seen self.new) Upgrade
             (answer_by (λ _. Done) result) }
     {
         self.begin()?;
@@ -44,7 +43,7 @@ impl<D: SectorDevice> Fs<D> {
     /// In this order: those of the path; `NotDir`; `Inval` where the volume's version is 1;
     /// `NoSpace`.
     pub fn widen(&mut self, path: &[u8]) -> Result<(), FsError>
-        ensures { Serves (in_sectors D.SectorDevice.state) (seen self.old) (seen self.new)
+        ensures { Serves D.SectorDevice.state (seen self.old) (seen self.new)
             (Widen path.now)
             (answer_by (λ _. Done) result) }
     {
@@ -56,8 +55,8 @@ impl<D: SectorDevice> Fs<D> {
     fn widen_at(&mut self, number: FileNumber) -> Result<(), FsError>
         requires ready { IsReady self.old }
         ensures { (v : Mounted D) (path : List ℕ)
-            → ReachesObject (in_sectors D.SectorDevice.state) v self.old path true number.value
-            → Serves (in_sectors D.SectorDevice.state) v (seen self.new) (Widen path)
+            → ReachesObject D.SectorDevice.state v self.old path true number.value
+            → Serves D.SectorDevice.state v (seen self.new) (Widen path)
             (answer_by (λ _. Done) result) }
     {
         let header = header_of(&mut self.store, number)?;
@@ -77,8 +76,8 @@ impl<D: SectorDevice> Fs<D> {
     fn widen_directory(&mut self, number: FileNumber, header: Header) -> Result<(), FsError>
         requires ready { IsReady self.old }
         ensures { (v : Mounted D) (path : List ℕ)
-            → ReachesNarrow (in_sectors D.SectorDevice.state) v self.old path number.value header
-            → Serves (in_sectors D.SectorDevice.state) v (seen self.new) (Widen path)
+            → ReachesNarrow D.SectorDevice.state v self.old path number.value header
+            → Serves D.SectorDevice.state v (seen self.new) (Widen path)
             (answer_by (λ _. Done) result) }
     {
         let drafted = draft_wide(self.alloc, &mut self.store, number, header);

@@ -1,6 +1,5 @@
 //! Calls that change the bytes of a file.
 ghost use Rattle.std.specs.Prelude.{◌≡◌, ◌≤◌, ◌<◌, ◌+◌, ℕ, length, false, Some};
-ghost use Rattle.lfs_model.specs.Device.{in_sectors};
 ghost use Rattle.std.specs.FinMap.{find};
 ghost use Rattle.std.specs.Ordering.{nat_cmp};
 ghost use Rattle.lfs_model.specs.Call.{Pwrite, Truncate, Count, Done};
@@ -27,7 +26,7 @@ impl<D: SectorDevice> Fs<D> {
     /// In this order: `BadHandle`; `Inval` above 65,536 bytes; `FileTooBig` where they would end
     /// past 8,511,488; `NoSpace`.
     pub fn pwrite(&mut self, handle: u32, offset: u64, bytes: &[u8]) -> Result<u32, FsError>
-        ensures { Serves (in_sectors D.SectorDevice.state) (seen self.old) (seen self.new)
+        ensures { Serves D.SectorDevice.state (seen self.old) (seen self.new)
             (Pwrite handle offset bytes.now) (answer_by Count result) }
     {
         self.begin()?;
@@ -60,7 +59,7 @@ impl<D: SectorDevice> Fs<D> {
         requires most { length bytes.now ≤ LONGEST_TRANSFER }
         ensures { (handle : ℕ) → find nat_cmp handle self.old.handles ≡ Some number.value
             → length bytes.now ≤ LONGEST_TRANSFER
-            → Serves (in_sectors D.SectorDevice.state) (seen self.old) (seen self.new)
+            → Serves D.SectorDevice.state (seen self.old) (seen self.new)
             (Pwrite handle at bytes.now) (answer_by (λ _. Count (length bytes.now)) result) }
     {
         let drafted = draft_bytes(&mut self.store, number, at, bytes);
@@ -73,7 +72,7 @@ impl<D: SectorDevice> Fs<D> {
     ///
     /// In this order: `BadHandle`; `FileTooBig` above 8,511,488.
     pub fn truncate(&mut self, handle: u32, len: u64) -> Result<(), FsError>
-        ensures { Serves (in_sectors D.SectorDevice.state) (seen self.old) (seen self.new)
+        ensures { Serves D.SectorDevice.state (seen self.old) (seen self.new)
             (Truncate handle len)
             (answer_by (λ _. Done) result) }
     {
@@ -91,7 +90,7 @@ impl<D: SectorDevice> Fs<D> {
         requires ready { IsReady self.old }
         requires counted { drafted_of self.old.store ≡ (seen self.old).log.totals }
         ensures { (handle : ℕ) → find nat_cmp handle self.old.handles ≡ Some number.value
-            → Serves (in_sectors D.SectorDevice.state) (seen self.old) (seen self.new)
+            → Serves D.SectorDevice.state (seen self.old) (seen self.new)
             (Truncate handle len)
             (answer_by (λ _. Done) result) }
     {

@@ -4,7 +4,7 @@ ghost use Rattle.std.specs.Prelude.{◌≤◌, ◌<◌};
 use crate::steps::{Event, Row, Step, first_wrong};
 use crate::volume::{device_of, formatted, mounted};
 use lfs_device::{DeviceCall, Left, MemDevice};
-use lfs_fs::{Fs, FsError, Space, Stat};
+use lfs_fs::{Fs, FsError, InVolume, Space, Stat};
 use lfs_model::Kind;
 use std::alloc::Global;
 use std::test::Fail;
@@ -149,7 +149,7 @@ fn files_made(alloc: Global, segments: u32, count: u16, each: u16) -> Result<Mem
 }
 
 /// Makes the file of this number in a series.
-fn make_file(fs: &mut Fs<MemDevice>, file: u16) -> Result<(), FsError> {
+fn make_file(fs: &mut Fs<InVolume<MemDevice>>, file: u16) -> Result<(), FsError> {
     let [low, high] = file.to_le_bytes();
     match fs.create(&[b'a' + high % 4, b'a' + low / 16, b'a' + low % 16]) {
         Ok(_) => Ok(()),

@@ -1,7 +1,7 @@
 //! The root of a volume of version 2, full of names as long as one may be there.
 use crate::volume::{device_of, formatted_version, mounted};
 use lfs_device::{Left, MemDevice};
-use lfs_fs::{Fs, FsError};
+use lfs_fs::{Fs, FsError, InVolume};
 use std::alloc::Global;
 use std::test::Fail;
 
@@ -26,7 +26,7 @@ fn path_of(entry: u16) -> [u8; LONGEST_PATH] {
 }
 
 /// Whether the entry is made: the name of a new file, or one more of the last new one.
-fn makes(fs: &mut Fs<MemDevice>, entry: u16) -> bool {
+fn makes(fs: &mut Fs<InVolume<MemDevice>>, entry: u16) -> bool {
     let path = path_of(entry);
     let first = entry / MOST_LINKS * MOST_LINKS;
     if entry == first {
@@ -37,7 +37,7 @@ fn makes(fs: &mut Fs<MemDevice>, entry: u16) -> bool {
 }
 
 /// Whether these entries are all that the root has.
-fn has_entries(fs: &mut Fs<MemDevice>, count: u16) -> bool {
+fn has_entries(fs: &mut Fs<InVolume<MemDevice>>, count: u16) -> bool {
     let Ok(entries) = fs.readdir(b"/") else {
         return false;
     };
@@ -50,7 +50,7 @@ fn has_entries(fs: &mut Fs<MemDevice>, count: u16) -> bool {
 }
 
 /// Whether the root has so many bytes.
-fn has_size(fs: &mut Fs<MemDevice>, size: u64) -> bool {
+fn has_size(fs: &mut Fs<InVolume<MemDevice>>, size: u64) -> bool {
     match fs.stat(b"/") {
         Ok(stat) => stat.size == size,
         Err(_) => false,
@@ -58,14 +58,17 @@ fn has_size(fs: &mut Fs<MemDevice>, size: u64) -> bool {
 }
 
 /// The volume once its device has stopped.
-fn after_a_stop(alloc: Global, fs: Box<Fs<MemDevice>>) -> Result<Box<Fs<MemDevice>>, Fail> {
+fn after_a_stop(
+    alloc: Global,
+    fs: Box<Fs<InVolume<MemDevice>>>,
+) -> Result<Box<Fs<InVolume<MemDevice>>>, Fail> {
     let mut device = device_of(fs);
     device.crash(Left::Old);
     mounted(alloc, device)
 }
 
 /// Whether an empty root takes as many entries as a directory may have and no more, and lists them.
-fn is_filled(fs: &mut Fs<MemDevice>) -> bool {
+fn is_filled(fs: &mut Fs<InVolume<MemDevice>>) -> bool {
     for entry in 0..MOST_ENTRIES {
         if !makes(fs, entry) {
             return false;
@@ -78,7 +81,7 @@ fn is_filled(fs: &mut Fs<MemDevice>) -> bool {
 }
 
 /// Whether the root has all of them, and none once they are taken away from the first on.
-fn is_emptied(fs: &mut Fs<MemDevice>) -> bool {
+fn is_emptied(fs: &mut Fs<InVolume<MemDevice>>) -> bool {
     if !has_entries(fs, MOST_ENTRIES) {
         return false;
     }

@@ -1,7 +1,7 @@
 //! Calls of a volume, one after the other, with their answers.
 use crate::volume::{device_of, mounted};
 use lfs_device::{Left, MemDevice, SectorDevice};
-use lfs_fs::{Fs, FsError, Space, Stat, TreeRow};
+use lfs_fs::{Fs, FsError, InVolume, Space, Stat, TreeRow};
 use lfs_model::Kind;
 use std::alloc::Global;
 use std::test::Fail;
@@ -76,7 +76,7 @@ fn are_rows(entries: &[TreeRow], rows: &[Row]) -> bool {
 }
 
 /// Whether the tree is these files.
-fn has_rows(fs: &mut Fs<MemDevice>, rows: &[Row]) -> bool {
+fn has_rows(fs: &mut Fs<InVolume<MemDevice>>, rows: &[Row]) -> bool {
     match fs.tree() {
         Ok(entries) => are_rows(&entries, rows),
         Err(_) => false,
@@ -84,7 +84,7 @@ fn has_rows(fs: &mut Fs<MemDevice>, rows: &[Row]) -> bool {
 }
 
 /// Whether the tree has so many entries.
-fn has_entries(fs: &mut Fs<MemDevice>, count: usize) -> bool {
+fn has_entries(fs: &mut Fs<InVolume<MemDevice>>, count: usize) -> bool {
     match fs.tree() {
         Ok(entries) => entries.len() == count,
         Err(_) => false,
@@ -93,7 +93,7 @@ fn has_entries(fs: &mut Fs<MemDevice>, count: usize) -> bool {
 
 /// Whether a read gives these bytes, or is refused so.
 fn reads(
-    fs: &mut Fs<MemDevice>,
+    fs: &mut Fs<InVolume<MemDevice>>,
     handle: u32,
     offset: u64,
     len: u32,
@@ -107,7 +107,7 @@ fn reads(
 }
 
 /// Whether a path is opened as each handle from this one on, as the last one of 64.
-fn opens_rest(fs: &mut Fs<MemDevice>, path: &[u8], first: u32) -> bool {
+fn opens_rest(fs: &mut Fs<InVolume<MemDevice>>, path: &[u8], first: u32) -> bool {
     for handle in first..64 {
         if fs.open(path) != Ok(handle) {
             return false;
@@ -117,7 +117,7 @@ fn opens_rest(fs: &mut Fs<MemDevice>, path: &[u8], first: u32) -> bool {
 }
 
 /// Whether a call answers what the step says.
-fn is_well(fs: &mut Fs<MemDevice>, step: Step) -> bool {
+fn is_well(fs: &mut Fs<InVolume<MemDevice>>, step: Step) -> bool {
     match step {
         Step::Create(path, want) => fs.create(path) == want,
         Step::Open(path, want) => fs.open(path) == want,

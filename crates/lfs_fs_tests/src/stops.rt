@@ -1,12 +1,12 @@
 //! A device that stops within a commit.
 use crate::volume::{device_of, formatted, mounted};
 use lfs_device::{Left, MemDevice};
-use lfs_fs::{Fs, FsError};
+use lfs_fs::{Fs, FsError, InVolume};
 use std::alloc::Global;
 use std::test::Fail;
 
 /// Makes `/a`: whether it is saved.
-fn saves_a(fs: &mut Fs<MemDevice>) -> Result<bool, FsError> {
+fn saves_a(fs: &mut Fs<InVolume<MemDevice>>) -> Result<bool, FsError> {
     fs.create(b"/a")?;
     Ok(fs.sync().is_ok())
 }

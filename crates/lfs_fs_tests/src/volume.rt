@@ -6,7 +6,7 @@ use lfs_device::{InSectors, MemDevice};
 use lfs_fs::path::WalkFault;
 use lfs_fs::path::dirs::add;
 use lfs_fs::store::{Header, Store};
-use lfs_fs::{Fs, format_version};
+use lfs_fs::{Fs, InVolume, format_version};
 use lfs_layout::is_name;
 use lfs_model::{FileNumber, Kind};
 use std::alloc::Global;
@@ -35,16 +35,16 @@ pub fn formatted(alloc: Global, segments: u32) -> Result<MemDevice, Fail>
 }
 
 /// The volume of a device, on the heap, where each end of a test drops it by one call.
-pub fn mounted(alloc: Global, device: MemDevice) -> Result<Box<Fs<MemDevice>>, Fail> {
-    match Fs::mount(alloc, device) {
+pub fn mounted(alloc: Global, device: MemDevice) -> Result<Box<Fs<InVolume<MemDevice>>>, Fail> {
+    match Fs::mount(alloc, InVolume::new(device)) {
         Ok(fs) => Ok(Box::new(alloc, fs)?),
         Err((fault, _)) => Err(Fail::from(fault)),
     }
 }
 
 /// The device that a volume is handed back with.
-pub fn device_of(fs: Box<Fs<MemDevice>>) -> MemDevice {
-    Box::into_inner(fs).into_device()
+pub fn device_of(fs: Box<Fs<InVolume<MemDevice>>>) -> MemDevice {
+    Box::into_inner(fs).into_device().into_inner()
 }
 
 /// The header of a root of this form and of so many slots, to which one can be added.

@@ -3,7 +3,7 @@ use crate::fault::{Grouped, Refusal};
 use crate::foreign::explained;
 use crate::image::device_of_copy;
 use lfs_device::{FileDeviceIn, World};
-use lfs_fs::{Fs, FsError, MountFault, TreeRow};
+use lfs_fs::{Fs, FsError, InVolume, MountFault, TreeRow};
 use lfs_model::Kind;
 use std::alloc::{AllocError, Global};
 use std::fmt;
@@ -85,7 +85,7 @@ fn count_files(alloc: Global, rows: &[TreeRow]) -> Result<u64, AllocError> {
 // What a mounted volume seems to be.
 fn of_volume<Here: World>(
     alloc: Global,
-    fs: &mut Fs<FileDeviceIn<Here>>,
+    fs: &mut Fs<InVolume<FileDeviceIn<Here>>>,
 ) -> Result<Seeming, Refusal> {
     let rows = match fs.tree() {
         Ok(rows) => rows,
@@ -109,14 +109,18 @@ fn of_refused(refusal: Refusal, len: u64) -> Result<Seeming, Refusal> {
 
 // What a file of so many bytes seems to be. Nothing is written.
 fn seeming_of<Here: World>(alloc: Global, file: &File, len: u64) -> Result<Seeming, Refusal> {
-    match Fs::mount(alloc, device_of_copy::<Here>(alloc, file)?) {
+    let device = device_of_copy::<Here>(alloc, file)?;
+    match Fs::mount(alloc, InVolume::new(device)) {
         Ok(mut fs) => {
             let seeming = of_volume(alloc, &mut fs);
             // Who gives the device back has dropped the rest of the volume.
             drop(fs.into_device());
             seeming
         }
-        Err((fault, mut device)) => of_refused(explained(fault, &mut device), len),
+        Err((fault, device)) => {
+            let mut device = device.into_inner();
+            of_refused(explained(fault, &mut device), len)
+        }
     }
 }
 

@@ -7,7 +7,7 @@ use crate::fault::{Ending, Fault, ImageFault, Refusal};
 use crate::foreign::explained;
 use crate::new_image::make_new;
 use lfs_device::{FileDeviceIn, FileFault, World};
-use lfs_fs::{Fs, FsError, MountFault, format_version};
+use lfs_fs::{Fs, FsError, InVolume, MountFault, format_version};
 use lfs_layout::{is_sector_version, is_segment_count};
 use lfs_model::limits::{CHECKPOINT_SLOTS, SECTOR_LEN, SEGMENT_SECTORS};
 use std::alloc::Global;
@@ -453,10 +453,13 @@ pub fn unmounted<Here: World>(fault: MountFault, device: &mut FileDeviceIn<Here>
 pub fn mount<Here: World>(
     alloc: Global,
     device: FileDeviceIn<Here>,
-) -> Result<Fs<FileDeviceIn<Here>>, Refusal> {
-    match Fs::mount(alloc, device) {
+) -> Result<Fs<InVolume<FileDeviceIn<Here>>>, Refusal> {
+    match Fs::mount(alloc, InVolume::new(device)) {
         Ok(fs) => Ok(fs),
-        Err((fault, mut device)) => Err(unmounted(fault, &mut device)),
+        Err((fault, device)) => {
+            let mut device = device.into_inner();
+            Err(unmounted(fault, &mut device))
+        }
     }
 }
 
@@ -465,6 +468,6 @@ pub fn mount_to_write<Here: World, R: Files<File = File> + Clock>(
     rt: &R,
     alloc: Global,
     image: &str,
-) -> Result<Fs<FileDeviceIn<Here>>, Refusal> {
+) -> Result<Fs<InVolume<FileDeviceIn<Here>>>, Refusal> {
     mount(alloc, open_to_write(rt, alloc, image)?)
 }

@@ -8,6 +8,7 @@ pub mod PublishSteps
 pub mod Saves
 pub mod SavedBlocks
 pub mod Opens
+pub mod WholeUnits
 pub mod Linked
 pub mod Volumes
 pub mod StoredBlocks

@@ -3,12 +3,11 @@ use Rattle.std.proofs.Common.{◌≡◌, ◌<◌, ◌≤◌, ⊎_elim, ◌⊎◌
 use Rattle.std.proofs.Common.{true, None, refl, sym, ◌∙◌, ap, subst, arith}
 use Rattle.std.proofs.lemmas.Bool.{cases_lt}
 use Rattle.std.proofs.lemmas.List.{get_or_past}
-use Rattle.lfs_model.specs.Checkpoint.{CheckpointValue, FitsCheckpoint, layout_version, unit_sectors}
+use Rattle.lfs_model.specs.Checkpoint.{CheckpointValue, FitsCheckpoint, layout_version}
 use Rattle.lfs_model.specs.Content.{Content, block, newest}
 use Rattle.lfs_model.specs.Committing.{IsMountedTables}
 use Rattle.std.specs.Prelude.{Result, Ok, Err}
-use Rattle.lfs_model.specs.Device.{AreSectors, DeviceState, IsLawful, Only}
-use Rattle.lfs_model.specs.UnitLaws.{unit_by}
+use Rattle.lfs_model.specs.Device.{DeviceState, IsLawful, Only}
 use Rattle.lfs_model.specs.Entry.{Entry, Data, Leaf, Double, Inode, Map, Usage, word}
 use Rattle.lfs_model.specs.Memory.{parent}
 use Rattle.lfs_model.specs.Reach.{address, view, map_block, inode_address}
@@ -38,7 +37,7 @@ use Rattle.lfs_verify.specs.Verified.{HasLogMap, IsRefusedLog}
 use Rattle.lfs_log.specs.LogState.{LogState, AreAllSaved}
 use Rattle.lfs_log.specs.Held.{Held, seen, IsPassMemory, IsReadyToPass}
 use Rattle.lfs_log.proofs.Volumes.{mounts}
-use Rattle.lfs_log.specs.Mounting.{OpenedLog, OpensLog}
+use Rattle.lfs_log.specs.Mounting.{HasWholeUnits, OpenedLog, OpensLog}
 use Rattle.lfs_log.specs.Opening.{CountsOpened, IsOpened, Opens}
 use Rattle.lfs_memory.specs.segments.Early.{AreUntaken}
 use Rattle.lfs_memory.proofs.Opened.{closed_segment, closed_chunk, as_chunk}
@@ -129,7 +128,7 @@ module _ {c : Content} {k : CheckpointValue} (fits : FitsCheckpoint k) {m : LogM
 
 -- ---- the log
 module _ {D : Type 0} (state : D → DeviceState) (h : Held D) (lawful : IsLawful (state h.device))
-    (sectors : AreSectors (state h.device).unit)
+    (whole : HasWholeUnits (state h.device))
     (durable : (state h.device).keeps_model → Only (state h.device).content (state h.device)) {t : Tables}
     (loaded : IsLoaded t (state h.device).size) (has : (state h.device).keeps_model → HasTables (state h.device).content t)
     (is : IsOpened h.memory (state h.device).size) (usage : h.memory.usage ≡ t.usage) (map : h.memory.map ≡ t.map) where
@@ -173,7 +172,7 @@ module _ {D : Type 0} (state : D → DeviceState) (h : Held D) (lawful : IsLawfu
 
         settled : IsSettled d k m
         settled = record {
-          units = λ i j same. ap (unit_by (unit_sectors k)) (sectors i j same);
+          units = whole k (has keeps).held.newest;
           newest = (has keeps).held.newest;
           stands = st;
           each = λ c left. rw (durable keeps c left) (keeps_itself d.content k (has keeps).held.newest);

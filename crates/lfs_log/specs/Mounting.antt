@@ -1,6 +1,9 @@
 -- What a mount gives, and why it gives none.
-use Rattle.std.specs.Prelude.{◌≡◌, ◌≤◌, ◌*◌, true, Result, IfOk, IfErr, MatchResult}
-use Rattle.lfs_model.specs.Device.{DeviceState, Only, IsUntouched, Carries, LeavesOnly}
+use Rattle.std.specs.Prelude.{◌≡◌, ◌≤◌, ◌*◌, true, Some, Result, IfOk, IfErr, MatchResult}
+use Rattle.lfs_model.specs.Checkpoint.{CheckpointValue, unit_sectors}
+use Rattle.lfs_model.specs.Content.{newest}
+use Rattle.lfs_model.specs.Device.{DeviceState, LieWithin, Only, IsUntouched, Carries, LeavesOnly}
+use Rattle.lfs_model.specs.UnitLaws.{unit_by}
 use Rattle.lfs_memory.specs.segments.Early.{AreUntaken}
 use Rattle.lfs_verify.specs.declared.fault.MountFault.{MountFault}
 use Rattle.lfs_verify.specs.declared.fault.MountFault.TheVariants as fault
@@ -8,6 +11,10 @@ use Rattle.lfs_verify.specs.Faults.{IsOpenFault}
 use Rattle.lfs_verify.specs.Verified.{HasLogMap, IsRefusedLog}
 use Rattle.lfs_log.specs.LogState.{LogState, Mounts, AreAllSaved}
 use Rattle.lfs_log.specs.Opening.{CountsOpened}
+
+-- the device's units lie within those of the volume that its newest checkpoint names
+abbrev pub HasWholeUnits : DeviceState → Type 0
+HasWholeUnits d = (k : CheckpointValue) → newest d.content ≡ Some k → LieWithin d.unit (unit_by (unit_sectors k))
 
 module _ {D : Type 0} (state : D → DeviceState) (d : D) where
   -- The log of a volume that is mounted: it holds the log map that the device stands for, all of it saved, and knows its totals.

@@ -10,7 +10,7 @@ ghost use Rattle.lfs_log.specs.Relocating.{EndsRelocating, IsAmong, VacatesAll};
 use crate::relocating::{are_in_order, relocate_segment};
 use crate::thresholds::{is_eighth_clean, most_victims};
 use lfs_cache::CachedDevice;
-use lfs_device::SectorUnits;
+use lfs_device::SectorDevice;
 use lfs_memory::LogMemory;
 use lfs_memory::changing::tighten;
 use lfs_memory::lifting::LiftFault;
@@ -23,7 +23,7 @@ use std::mem::swap;
 /// # Errors
 ///
 /// As those of `relocate_segment`.
-fn relocate_all<D: SectorUnits>(
+fn relocate_all<D: SectorDevice>(
     device: &mut CachedDevice<D>,
     memory: &mut LogMemory,
     victims: &[u16],
@@ -84,7 +84,7 @@ fn are_emptied(usage: &Usage, victims: &[u16]) -> bool
 /// # Errors
 ///
 /// As those of `relocate_all`.
-fn empty_segments<D: SectorUnits>(
+fn empty_segments<D: SectorDevice>(
     device: &mut CachedDevice<D>,
     memory: &mut LogMemory,
     victims: &[u16],
@@ -120,7 +120,7 @@ fn empty_segments<D: SectorUnits>(
 /// # Errors
 ///
 /// `Full` where more blocks would come, `Device` where a call of the device failed.
-pub fn relocate<D: SectorUnits>(
+pub fn relocate<D: SectorDevice>(
     device: &mut CachedDevice<D>,
     memory: &LogMemory,
     pass: &mut LogMemory,

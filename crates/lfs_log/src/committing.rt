@@ -15,12 +15,12 @@ use crate::mapping::save_map;
 use crate::placing::{save_files, seal};
 use crate::publishing::publish;
 use crate::settling::{fill_usage, settle_usage};
-use lfs_device::{DeviceFault, SectorUnits};
+use lfs_device::{DeviceFault, SectorDevice};
 use lfs_memory::LogMemory;
 use lfs_model::limits::{MAP_BLOCKS, OPEN_CHUNK_BLOCKS, TABLE_BLOCKS};
 
 /// All that is to be saved gets its place, each block before those that point to it.
-fn place_all<D: SectorUnits>(
+fn place_all<D: SectorDevice>(
     device: &mut D,
     memory: &mut LogMemory,
     age: u32,
@@ -55,7 +55,7 @@ fn pad_rest(memory: &mut LogMemory)
 }
 
 /// Ends the chunk that is being written, if there is one, on a unit.
-pub fn seal_rest<D: SectorUnits>(device: &mut D, memory: &mut LogMemory) -> Result<(), DeviceFault>
+pub fn seal_rest<D: SectorDevice>(device: &mut D, memory: &mut LogMemory) -> Result<(), DeviceFault>
     requires memory { IsMemory memory.old }
     requires size { HoldsVolume (D.state device.old) memory.old }
     ensures done { OnOk result (Goes (D.state device.old) (D.state device.new) memory.old memory.new
@@ -74,7 +74,7 @@ pub fn seal_rest<D: SectorUnits>(device: &mut D, memory: &mut LogMemory) -> Resu
 }
 
 /// Writes all that changed to segments that were clean.
-fn write_out<D: SectorUnits>(
+fn write_out<D: SectorDevice>(
     device: &mut D,
     memory: &mut LogMemory,
     age: u32,
@@ -108,7 +108,7 @@ fn write_out<D: SectorUnits>(
 /// # Errors
 ///
 /// The device's fault: a stop leaves what was acknowledged or what was to be saved.
-pub fn save<D: SectorUnits>(
+pub fn save<D: SectorDevice>(
     device: &mut D,
     memory: &mut LogMemory,
     version: LayoutVersion,

@@ -12,12 +12,12 @@ ghost use Rattle.lfs_log.specs.Early.{WritesChunks, blocks_due};
 use crate::committing::seal_rest;
 use crate::placing::save_block;
 use crate::thresholds::exceeds_reserve;
-use lfs_device::{DeviceFault, SectorUnits};
+use lfs_device::{DeviceFault, SectorDevice};
 use lfs_memory::LogMemory;
 use lfs_model::limits::{CHUNK_BLOCKS, OPEN_CHUNK_BLOCKS};
 
 /// Writes a chunk of data blocks, those of the least keys, to a clean segment, and its summary.
-fn write_chunk<D: SectorUnits>(
+fn write_chunk<D: SectorDevice>(
     device: &mut D,
     memory: &mut LogMemory,
     age: u32,
@@ -65,7 +65,7 @@ pub fn age_after(number: u64) -> u32 {
 /// # Errors
 ///
 /// The device's fault: a stop leaves what was acknowledged.
-pub fn write_chunks<D: SectorUnits>(
+pub fn write_chunks<D: SectorDevice>(
     device: &mut D,
     memory: &mut LogMemory,
     age: u32,

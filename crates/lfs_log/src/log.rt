@@ -14,7 +14,7 @@ use crate::layout_version::{LayoutVersion, is_raised_after, unsaved_by, version_
 use crate::opening::open_memory;
 use crate::thresholds::has_reserve;
 use lfs_cache::{CachedDevice, DEFAULT_SECTORS, MOST_SECTORS};
-use lfs_device::{SectorDevice, SectorUnits, TendedDevice};
+use lfs_device::{SectorDevice, TendedDevice};
 use lfs_memory::counting::SegmentCounts;
 use lfs_memory::lifting::LiftFault;
 use lfs_memory::pointers::{count_blocks, find_block, read_block};
@@ -80,12 +80,12 @@ impl<D: SectorDevice> Model for Log<D> {
         × WaitsForPass l.memory l.pass l.relocated };
 }
 
-impl<D: SectorUnits> Log<D> {
+impl<D: SectorDevice> Log<D> {
     ghost use Rattle.lfs_log.specs.Cleaning.{ArePacked, HaltsRelocated, IsRelocated, MayClean, MayPass, Overfills, SavesRelocated, most_brought};
     ghost use Rattle.lfs_log.specs.Saving.{commit_orders, orders_for, pass_orders};
     ghost use Rattle.lfs_log.specs.Early.{full_chunk};
     ghost use Rattle.lfs_log.specs.Thresholds.{HasReserve, LacksReserve, reserve_of};
-    ghost use Rattle.lfs_log.specs.Mounting.{OpenedLog, OpensLog};
+    ghost use Rattle.lfs_log.specs.Mounting.{HasWholeUnits, OpenedLog, OpensLog};
     ghost use Rattle.lfs_log.specs.LogState.{Saves, Halts, Reads, ReadsHeader, ReadsBlock, TellsBlock, TellsLeaf, TellsDouble, CountsBlocks, IsReadFault, IsFull, IsVacant, HasAll, IsStaged, IsRefused, IsStageFault, IsRemoved, IsKept, IsWhole, HoldsOne, AreAllSaved, WritesEarly, ReadsLog, unsaved_by};
 
     /// The volume that the newest checkpoint of the device leads to, with the totals of its files;
@@ -99,6 +99,7 @@ impl<D: SectorUnits> Log<D> {
     /// device holds no log map: it is too small, holds no checkpoint, or the first stage that fails
     /// is named, one of the stages 1 to 9, or 15 where too few segments are clean.
     pub fn open(alloc: Global, device: D) -> Result<Log<D>, (MountFault, D)>
+        requires { HasWholeUnits (D.state device) }
         ensures { OpensLog D.SectorDevice.state device result }
     {
         match Log::open_with(alloc, device, DEFAULT_SECTORS) {
@@ -115,6 +116,7 @@ impl<D: SectorUnits> Log<D> {
     pub fn open_with(alloc: Global, device: D, capacity: u32) -> Result<Log<D>, (MountFault, D)>
         requires some { 1 ≤ capacity }
         requires most { capacity ≤ MOST_SECTORS }
+        requires units { HasWholeUnits (D.state device) }
         ensures { OpensLog D.SectorDevice.state device result }
     {
         let mut device = match CachedDevice::new(alloc, device, capacity) {
@@ -147,6 +149,7 @@ impl<D: SectorUnits> Log<D> {
             → HasTables (D.state device).content tables }
         requires durable { (D.state device).keeps_model
             → Only (D.state device).content (D.state device) }
+        requires units { HasWholeUnits (D.state device) }
         ensures opened { IfOk result (λ log. OpenedLog D.SectorDevice.state device log) }
         ensures refused { IfErr result (λ e. e.0 ≡ MountFault.NoMemory) }
         ensures same { MatchResult result (λ log. log.device ≡ device) (λ e. e.1 ≡ device) }

@@ -10,7 +10,7 @@ ghost use Rattle.lfs_log.specs.Placing.{EndsSaving, WritesNext};
 ghost use Rattle.lfs_memory.specs.Memory.{IsMemory, AreMapsOut, HoldsVolume, IsBlockAt, room_of};
 
 use crate::placing::seal_full;
-use lfs_device::{DeviceFault, SectorUnits};
+use lfs_device::{DeviceFault, SectorDevice};
 use lfs_layout::BlockName;
 use lfs_memory::LogMemory;
 use lfs_memory::segments::write;
@@ -18,7 +18,7 @@ use lfs_model::BlockKind;
 use lfs_model::limits::{CHECKPOINT_SLOTS, MAP_BLOCKS};
 
 /// Writes a block of the inode map to the next place.
-fn write_map_block<D: SectorUnits>(
+fn write_map_block<D: SectorDevice>(
     device: &mut D,
     memory: &mut LogMemory,
     index: u32,
@@ -53,7 +53,7 @@ fn write_map_block<D: SectorUnits>(
 }
 
 /// Saves a block of the inode map that is to be written. One that would show no inode isn't stored.
-fn save_map_block<D: SectorUnits>(
+fn save_map_block<D: SectorDevice>(
     device: &mut D,
     memory: &mut LogMemory,
     index: u32,
@@ -84,7 +84,7 @@ fn save_map_block<D: SectorUnits>(
 }
 
 /// Saves the blocks of the inode map that are to be written.
-pub fn save_map<D: SectorUnits>(
+pub fn save_map<D: SectorDevice>(
     device: &mut D,
     memory: &mut LogMemory,
     age: u32,

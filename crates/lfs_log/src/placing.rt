@@ -12,14 +12,14 @@ ghost use Rattle.lfs_log.specs.Early.{GoesEarly, IsBegunFresh, IsFresh};
 ghost use Rattle.lfs_log.specs.Keeping.{OnlyChunk};
 ghost use Rattle.lfs_log.specs.Placing.{EndsSaving, WritesNext};
 
-use lfs_device::{DeviceFault, SectorUnits};
+use lfs_device::{DeviceFault, SectorDevice};
 use lfs_memory::LogMemory;
 use lfs_memory::inodes::BlockKey;
 use lfs_memory::segments::write;
 use lfs_model::limits::CHUNK_BLOCKS;
 
 /// Writes the summary of the chunk, which ends on a unit.
-pub fn seal<D: SectorUnits>(device: &mut D, memory: &mut LogMemory) -> Result<(), DeviceFault>
+pub fn seal<D: SectorDevice>(device: &mut D, memory: &mut LogMemory) -> Result<(), DeviceFault>
     requires begun { 0 < length memory.old.chunk.names }
     requires ends { EndsUnit memory.old }
     requires memory { IsMemoryUpTo CHUNK_BLOCKS memory.old }
@@ -38,7 +38,7 @@ pub fn seal<D: SectorUnits>(device: &mut D, memory: &mut LogMemory) -> Result<()
 }
 
 /// Writes the summary of a chunk that is full.
-pub fn seal_full<D: SectorUnits>(device: &mut D, memory: &mut LogMemory) -> Result<(), DeviceFault>
+pub fn seal_full<D: SectorDevice>(device: &mut D, memory: &mut LogMemory) -> Result<(), DeviceFault>
     requires memory { IsMemoryUpTo CHUNK_BLOCKS memory.old }
     requires size { HoldsVolume (D.state device.old) memory.old }
     ensures saves { EndsSaving (D.state device.old) (D.state device.new) memory.old memory.new 0 0
@@ -54,7 +54,7 @@ pub fn seal_full<D: SectorUnits>(device: &mut D, memory: &mut LogMemory) -> Resu
 
 /// Writes a block of a file to the next place. What points to it, its parent in memory or the inode
 /// map, points there from then on.
-fn write_block<D: SectorUnits>(
+fn write_block<D: SectorDevice>(
     device: &mut D,
     memory: &mut LogMemory,
     key: BlockKey,
@@ -86,7 +86,7 @@ fn write_block<D: SectorUnits>(
 }
 
 /// Saves a block of a file: it goes to the next place, and a chunk that is full with it is sealed.
-pub fn save_block<D: SectorUnits>(
+pub fn save_block<D: SectorDevice>(
     device: &mut D,
     memory: &mut LogMemory,
     key: BlockKey,
@@ -111,7 +111,7 @@ pub fn save_block<D: SectorUnits>(
 }
 
 /// Saves all blocks of files that are in memory, each before the blocks that point to it.
-pub fn save_files<D: SectorUnits>(
+pub fn save_files<D: SectorDevice>(
     device: &mut D,
     memory: &mut LogMemory,
     age: u32,

@@ -9,7 +9,7 @@ ghost use Rattle.lfs_log.specs.Versions.{number_of};
 ghost use Rattle.lfs_log.specs.Publishing.{IsAllOut, IsNext, LeavesEither, Publishes, PublishFails, Syncs};
 
 use crate::layout_version::LayoutVersion;
-use lfs_device::{DeviceFault, SectorUnits};
+use lfs_device::{DeviceFault, SectorDevice};
 use lfs_layout::{Checkpoint, most_unit_power};
 use lfs_memory::LogMemory;
 use lfs_memory::segments::Usage;
@@ -55,7 +55,7 @@ fn next_checkpoint(memory: &LogMemory, version: LayoutVersion, number: u64) -> C
 }
 
 /// Makes all that was written durable.
-fn make_durable<D: SectorUnits>(device: &mut D) -> Result<(), DeviceFault>
+fn make_durable<D: SectorDevice>(device: &mut D) -> Result<(), DeviceFault>
     ensures looks { Syncs (D.state device.old) (D.state device.new) }
     ensures durable { OnOk result ((D.state device.new).keeps_model
         → Only (D.state device.new).content (D.state device.new)) }
@@ -75,7 +75,7 @@ fn make_durable<D: SectorUnits>(device: &mut D) -> Result<(), DeviceFault>
 /// # Errors
 ///
 /// The device's fault: a stop leaves the one or the other.
-pub fn publish<D: SectorUnits>(
+pub fn publish<D: SectorDevice>(
     device: &mut D,
     memory: &mut LogMemory,
     version: LayoutVersion,

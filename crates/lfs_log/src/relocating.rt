@@ -15,7 +15,7 @@ ghost use Rattle.lfs_memory.specs.segments.Table.{address_of};
 ghost use Rattle.lfs_log.specs.Relocating.{BringsOne, BringsWay, EndsBringing, EndsRelocating, HasLeft, IsBetween, IsInOrder, IsInSegment, IsUsageLost, LacksOnWay, LeavesNames, UsageLeaves, UsageLeavesIn, Vacates};
 
 use lfs_cache::CachedDevice;
-use lfs_device::{DeviceFault, SectorDevice, SectorUnits};
+use lfs_device::{DeviceFault, SectorDevice};
 use lfs_layout::{BlockName, SummaryView, segment_of};
 use lfs_memory::LogMemory;
 use lfs_memory::inodes::{BlockKey, IN_MEMORY};
@@ -39,7 +39,7 @@ pub fn are_in_order(memory: &LogMemory)
 /// # Errors
 ///
 /// As those of `lift`.
-fn bring_inode<D: SectorUnits>(
+fn bring_inode<D: SectorDevice>(
     device: &mut CachedDevice<D>,
     memory: &mut LogMemory,
     key: BlockKey,
@@ -71,7 +71,7 @@ fn bring_inode<D: SectorUnits>(
 /// # Errors
 ///
 /// As those of `lift`.
-fn bring_child<D: SectorUnits>(
+fn bring_child<D: SectorDevice>(
     device: &mut CachedDevice<D>,
     memory: &mut LogMemory,
     key: BlockKey,
@@ -104,7 +104,7 @@ fn bring_child<D: SectorUnits>(
 /// # Errors
 ///
 /// As those of `lift`.
-fn bring_block<D: SectorUnits>(
+fn bring_block<D: SectorDevice>(
     device: &mut CachedDevice<D>,
     memory: &mut LogMemory,
     key: BlockKey,
@@ -131,7 +131,7 @@ fn bring_block<D: SectorUnits>(
 /// # Errors
 ///
 /// As those of `lift`.
-fn relocate_file_block<D: SectorUnits>(
+fn relocate_file_block<D: SectorDevice>(
     device: &mut CachedDevice<D>,
     memory: &mut LogMemory,
     key: BlockKey,
@@ -241,7 +241,7 @@ fn key_of(name: BlockName) -> BlockKey
 ///
 /// As those of `lift`, and where the block isn't counted there.
 #[tactic(auto, unfolding(lfs_model::specs::Summary::IsPlaced))]
-fn relocate_block<D: SectorUnits>(
+fn relocate_block<D: SectorDevice>(
     device: &mut CachedDevice<D>,
     memory: &mut LogMemory,
     name: BlockName,
@@ -273,7 +273,7 @@ fn relocate_block<D: SectorUnits>(
 /// # Errors
 ///
 /// As those of `relocate_block`.
-fn relocate_chunk<D: SectorUnits>(
+fn relocate_chunk<D: SectorDevice>(
     device: &mut CachedDevice<D>,
     memory: &mut LogMemory,
     names: &SummaryView<'_>,
@@ -299,7 +299,7 @@ fn relocate_chunk<D: SectorUnits>(
 /// # Errors
 ///
 /// Where it can't be read, or a call of the device failed.
-fn read_sector<D: SectorUnits>(
+fn read_sector<D: SectorDevice>(
     device: &mut CachedDevice<D>,
     address: u32,
     out: &mut [u8; 512],
@@ -326,7 +326,7 @@ fn read_sector<D: SectorUnits>(
 /// # Errors
 ///
 /// As those of `relocate_block`, and where the segment's used part isn't whole chunks.
-pub fn relocate_segment<D: SectorUnits>(
+pub fn relocate_segment<D: SectorDevice>(
     device: &mut CachedDevice<D>,
     memory: &mut LogMemory,
     segment: u32,

@@ -9,7 +9,7 @@ ghost use Rattle.lfs_log.specs.Placing.{EndsSaving};
 ghost use Rattle.lfs_log.specs.Settling.{IsNowhere, Leaves, Resettles, IsResettled, IsAnew, AreAnew, IsFilled, blocks_in};
 
 use crate::placing::seal_full;
-use lfs_device::{DeviceFault, SectorUnits};
+use lfs_device::{DeviceFault, SectorDevice};
 use lfs_layout::{BlockName, place_in_segment, segment_of};
 use lfs_memory::LogMemory;
 use lfs_memory::inodes::IN_MEMORY;
@@ -75,7 +75,7 @@ fn resettle(memory: &mut LogMemory, index: u32, age: u32) -> Result<(), DeviceFa
 /// # Errors
 ///
 /// The device's fault.
-pub fn settle_block<D: SectorUnits>(
+pub fn settle_block<D: SectorDevice>(
     device: &mut D,
     memory: &mut LogMemory,
     index: u32,
@@ -140,7 +140,7 @@ fn next_out(usage: &Usage) -> Option<u32>
 /// # Errors
 ///
 /// The device's fault.
-pub fn settle_usage<D: SectorUnits>(
+pub fn settle_usage<D: SectorDevice>(
     device: &mut D,
     memory: &mut LogMemory,
     age: u32,
@@ -163,7 +163,7 @@ pub fn settle_usage<D: SectorUnits>(
 }
 
 /// A usage block is written where it stands, if it changed.
-fn fill_block<D: SectorUnits>(
+fn fill_block<D: SectorDevice>(
     device: &mut D,
     memory: &mut LogMemory,
     index: u32,
@@ -195,7 +195,10 @@ fn fill_block<D: SectorUnits>(
 /// # Errors
 ///
 /// The device's fault.
-pub fn fill_usage<D: SectorUnits>(device: &mut D, memory: &mut LogMemory) -> Result<(), DeviceFault>
+pub fn fill_usage<D: SectorDevice>(
+    device: &mut D,
+    memory: &mut LogMemory,
+) -> Result<(), DeviceFault>
     requires anew { AreAnew memory.old.usage }
     requires closed { memory.old.chunk.names ≡ [] }
     requires memory { IsMemory memory.old }

@@ -4,7 +4,7 @@ ghost use Rattle.std.specs.Prelude.{◌≡◌, ◌<◌, ◌≤◌};
 use crate::devices::{Probe, is_probe_well};
 use crate::volume::{Wrong, new_volume};
 use lfs_cache::{DEFAULT_SECTORS, MOST_SECTORS};
-use lfs_device::{InSectors, MemDevice, SectorDevice, SectorUnits};
+use lfs_device::{InSectors, MemDevice, SectorDevice};
 use lfs_model::Kind;
 use lfs_store::volume_log::{Changes, Cut, Header, LastLink, Log, LogFault, Loss};
 use std::alloc::Global;
@@ -199,7 +199,7 @@ fn carry_out(log: &mut MemoryLog, alloc: Global, act: Act) -> Result<(), LogFaul
 }
 
 /// Whether a block of a file is filled with this byte: 0 where it isn't stored.
-pub fn reads<D: SectorUnits>(log: &mut Log<D>, file: u16, index: u32, byte: u8) -> bool {
+pub fn reads<D: SectorDevice>(log: &mut Log<D>, file: u16, index: u32, byte: u8) -> bool {
     let mut bytes = [255; 512];
     log.block(file % 4_096, index, &mut bytes) == Ok(byte != 0) && bytes == [byte; 512]
 }

@@ -2,7 +2,7 @@
 ghost use Rattle.std.specs.Prelude.{◌<◌, ◌≤◌};
 
 use crate::log_steps::reads;
-use lfs_device::SectorUnits;
+use lfs_device::SectorDevice;
 use lfs_store::volume_log::{Header, Log};
 
 /// The index of a block that the plain map has: beside the ends of the inode, of its leaves and of
@@ -138,7 +138,7 @@ impl PlainMap {
     }
 
     /// Whether it is what a log holds.
-    pub fn is_held<D: SectorUnits>(&self, log: &mut Log<D>) -> bool {
+    pub fn is_held<D: SectorDevice>(&self, log: &mut Log<D>) -> bool {
         for file in 0..6usize {
             if !is_file(log, number_of(file), &self.files[file]) {
                 return false;
@@ -149,7 +149,7 @@ impl PlainMap {
 }
 
 /// Whether a file of the log is the plain one.
-fn is_file<D: SectorUnits>(log: &mut Log<D>, number: u16, plain: &PlainFile) -> bool {
+fn is_file<D: SectorDevice>(log: &mut Log<D>, number: u16, plain: &PlainFile) -> bool {
     if log.header(number % 4_096) != Ok(plain.header) {
         return false;
     }

@@ -1,6 +1,5 @@
 //! Changes that are saved at once: each is a call, and then one sync where the call was done.
 ghost use Rattle.std.specs.Prelude.{[], ◌∷◌};
-ghost use Rattle.lfs_model.specs.Device.{in_sectors};
 ghost use Rattle.lfs_model.specs.Call.{Clean, Done, Mkdir, Rename, Sync, Upgrade};
 ghost use Rattle.lfs_fs.specs.Seen.{answer_by, seen};
 ghost use Rattle.lfs_fs.specs.Volume.{Serves};
@@ -12,7 +11,7 @@ use lfs_model::Kind;
 
 // Saves what a call changed, where it was done.
 fn save<D: SectorDevice>(fs: &mut Fs<D>, done: Result<(), FsError>) -> Result<(), FsError>
-    ensures { SavesBehind (in_sectors D.SectorDevice.state) (seen fs.old) (seen fs.new) done result }
+    ensures { SavesBehind D.SectorDevice.state (seen fs.old) (seen fs.new) done result }
 {
     match done {
         Ok(()) => fs.sync(),
@@ -22,7 +21,7 @@ fn save<D: SectorDevice>(fs: &mut Fs<D>, done: Result<(), FsError>) -> Result<()
 
 // Takes away what stands at a path, which is of this kind.
 fn take_away<D: SectorDevice>(fs: &mut Fs<D>, kind: Kind, path: &[u8]) -> Result<(), FsError>
-    ensures { Serves (in_sectors D.SectorDevice.state) (seen fs.old) (seen fs.new)
+    ensures { Serves D.SectorDevice.state (seen fs.old) (seen fs.new)
         (removal kind path.now)
         (answer_by (λ done. Done) result) }
 {
@@ -35,7 +34,7 @@ fn take_away<D: SectorDevice>(fs: &mut Fs<D>, kind: Kind, path: &[u8]) -> Result
 
 // Takes away what stands at a path, which is of this kind, and saves that.
 fn remove_kind<D: SectorDevice>(fs: &mut Fs<D>, kind: Kind, path: &[u8]) -> Result<(), FsError>
-    ensures { MakesInOrder (in_sectors D.SectorDevice.state) (seen fs.old) (seen fs.new)
+    ensures { MakesInOrder D.SectorDevice.state (seen fs.old) (seen fs.new)
         (removal kind path.now ∷ Sync ∷ []) result }
 {
     let removed = take_away(fs, kind, path);
@@ -49,7 +48,7 @@ fn remove_kind<D: SectorDevice>(fs: &mut Fs<D>, kind: Kind, path: &[u8]) -> Resu
 ///
 /// Those of `lstat`; of a directory those of `rmdir`, else those of `unlink`; those of `sync`.
 pub fn remove<D: SectorDevice>(fs: &mut Fs<D>, path: &[u8]) -> Result<(), FsError>
-    ensures { Removes (in_sectors D.SectorDevice.state) (seen fs.old) (seen fs.new) path.now result }
+    ensures { Removes D.SectorDevice.state (seen fs.old) (seen fs.new) path.now result }
 {
     match fs.lstat(path) {
         Ok(stat) => remove_kind(fs, stat.kind, path),
@@ -63,7 +62,7 @@ pub fn remove<D: SectorDevice>(fs: &mut Fs<D>, path: &[u8]) -> Result<(), FsErro
 ///
 /// Those of `rename` and of `sync`.
 pub fn rename<D: SectorDevice>(fs: &mut Fs<D>, from: &[u8], to: &[u8]) -> Result<(), FsError>
-    ensures { MakesInOrder (in_sectors D.SectorDevice.state) (seen fs.old) (seen fs.new)
+    ensures { MakesInOrder D.SectorDevice.state (seen fs.old) (seen fs.new)
         (Rename from.now to.now ∷ Sync ∷ []) result }
 {
     let renamed = fs.rename(from, to);
@@ -76,7 +75,7 @@ pub fn rename<D: SectorDevice>(fs: &mut Fs<D>, from: &[u8], to: &[u8]) -> Result
 ///
 /// Those of `mkdir` and of `sync`.
 pub fn make_directory<D: SectorDevice>(fs: &mut Fs<D>, path: &[u8]) -> Result<(), FsError>
-    ensures { MakesInOrder (in_sectors D.SectorDevice.state) (seen fs.old) (seen fs.new)
+    ensures { MakesInOrder D.SectorDevice.state (seen fs.old) (seen fs.new)
         (Mkdir path.now ∷ Sync ∷ []) result }
 {
     let made = fs.mkdir(path);
@@ -89,7 +88,7 @@ pub fn make_directory<D: SectorDevice>(fs: &mut Fs<D>, path: &[u8]) -> Result<()
 ///
 /// Those of `clean` and of `sync`.
 pub fn clean<D: SectorDevice>(fs: &mut Fs<D>) -> Result<(), FsError>
-    ensures { MakesInOrder (in_sectors D.SectorDevice.state) (seen fs.old) (seen fs.new)
+    ensures { MakesInOrder D.SectorDevice.state (seen fs.old) (seen fs.new)
         (Clean ∷ Sync ∷ []) result }
 {
     let cleaned = fs.clean();
@@ -98,7 +97,7 @@ pub fn clean<D: SectorDevice>(fs: &mut Fs<D>) -> Result<(), FsError>
 
 // Makes passes of the cleaner, so many at most, while fewer than a quarter of the segments is clean.
 fn make_passes<D: SectorDevice>(fs: &mut Fs<D>, most: u32) -> Result<(), FsError>
-    ensures { MakesPasses (in_sectors D.SectorDevice.state) (seen fs.old) (seen fs.new) most result }
+    ensures { MakesPasses D.SectorDevice.state (seen fs.old) (seen fs.new) most result }
 {
     for _ in 0..most {
         if !fs.is_cleaning_due() {
@@ -116,7 +115,7 @@ fn make_passes<D: SectorDevice>(fs: &mut Fs<D>, most: u32) -> Result<(), FsError
 ///
 /// Those of `clean_once` and of `sync`.
 pub fn clean_some<D: SectorDevice>(fs: &mut Fs<D>, most: u32) -> Result<(), FsError>
-    ensures { CleansSome (in_sectors D.SectorDevice.state) (seen fs.old) (seen fs.new) most result }
+    ensures { CleansSome D.SectorDevice.state (seen fs.old) (seen fs.new) most result }
 {
     let cleaned = make_passes(fs, most);
     save(fs, cleaned)
@@ -128,7 +127,7 @@ pub fn clean_some<D: SectorDevice>(fs: &mut Fs<D>, most: u32) -> Result<(), FsEr
 ///
 /// Those of `upgrade` and of `sync`.
 pub fn upgrade<D: SectorDevice>(fs: &mut Fs<D>) -> Result<(), FsError>
-    ensures { MakesInOrder (in_sectors D.SectorDevice.state) (seen fs.old) (seen fs.new)
+    ensures { MakesInOrder D.SectorDevice.state (seen fs.old) (seen fs.new)
         (Upgrade ∷ Sync ∷ []) result }
 {
     let upgraded = fs.upgrade();

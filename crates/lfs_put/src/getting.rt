@@ -1,6 +1,5 @@
 //! The bytes of a file, out of a volume.
 ghost use Rattle.std.specs.Prelude.{◌≡◌, ◌⊎◌};
-ghost use Rattle.lfs_model.specs.Device.{in_sectors};
 ghost use Rattle.lfs_fs.specs.Seen.{seen};
 ghost use Rattle.lfs_put.specs.Getting.{CopiesOut, GetsFile, SendsPart};
 
@@ -45,7 +44,7 @@ fn send_part<D: SectorDevice, W: Write>(
     offset: u64,
     output: &mut W,
 ) -> Result<usize, GetFault>
-    ensures { SendsPart (in_sectors D.SectorDevice.state) (seen fs.old) (seen fs.new) handle offset
+    ensures { SendsPart D.SectorDevice.state (seen fs.old) (seen fs.new) handle offset
         (W.contents output.old) (W.contents output.new) result }
 {
     let bytes = match fs.pread(handle, offset, LONGEST_TRANSFER) {
@@ -64,7 +63,7 @@ fn copy_out<D: SectorDevice, W: Write>(
     handle: u32,
     output: &mut W,
 ) -> Result<u64, GetFault>
-    ensures { CopiesOut (in_sectors D.SectorDevice.state) (seen fs.old) (seen fs.new) handle
+    ensures { CopiesOut D.SectorDevice.state (seen fs.old) (seen fs.new) handle
         (W.contents output.old) (W.contents output.new) result }
 {
     let mut offset: u64 = 0;
@@ -94,7 +93,7 @@ pub fn get<D: SectorDevice, W: Write>(
     path: &[u8],
     output: &mut W,
 ) -> Result<u64, GetFault>
-    ensures { GetsFile (in_sectors D.SectorDevice.state) (seen fs.old) (seen fs.new) path.now
+    ensures { GetsFile D.SectorDevice.state (seen fs.old) (seen fs.new) path.now
         (W.contents output.old) (W.contents output.new) result }
 {
     let handle = match fs.open(path) {

@@ -1,7 +1,6 @@
 //! The command that puts a file into a volume. Its bytes stand under another name until they are
 //! whole and synced: so the old file or the new one is there after any stop.
 ghost use Rattle.std.specs.Prelude.{◌≡◌, ◌≢◌, ◌≤◌, ◌<◌, ◌⊎◌, ◌-◌, IfErr, IfOk, OnOk, None, Some, ℕ, false, codes, length, slice_index};
-ghost use Rattle.lfs_model.specs.Device.{in_sectors};
 ghost use Rattle.lfs_model.specs.PathText.{text_refusal};
 ghost use Rattle.lfs_fs.specs.Refusals.{refusal_of};
 ghost use Rattle.lfs_fs.specs.Seen.{seen};
@@ -153,7 +152,7 @@ fn pass_missing(refused: FsError) -> Result<(), PutFault>
 
 // Refuses a directory. A link at the end of the path is none.
 fn refuse_directory<D: SectorDevice>(fs: &mut Fs<D>, path: &[u8]) -> Result<(), PutFault>
-    ensures { LooksFor (in_sectors D.SectorDevice.state) (seen fs.old) (seen fs.new) path.now
+    ensures { LooksFor D.SectorDevice.state (seen fs.old) (seen fs.new) path.now
         result }
 {
     match fs.lstat(path) {
@@ -174,7 +173,7 @@ fn directory_of(path: &[u8]) -> &[u8]
 
 // Refuses a path that leads to no directory.
 fn want_directory<D: SectorDevice>(fs: &mut Fs<D>, path: &[u8]) -> Result<(), PutFault>
-    ensures { WantsDirectory (in_sectors D.SectorDevice.state) (seen fs.old) (seen fs.new) path.now
+    ensures { WantsDirectory D.SectorDevice.state (seen fs.old) (seen fs.new) path.now
         result }
 {
     match fs.stat(path) {
@@ -193,7 +192,7 @@ fn look_for_place<D: SectorDevice>(
     path: &[u8],
     above: &[u8],
 ) -> Result<(), PutFault>
-    ensures { Sees (in_sectors D.SectorDevice.state) (seen fs.old) (seen fs.new) path.now above.now
+    ensures { Sees D.SectorDevice.state (seen fs.old) (seen fs.new) path.now above.now
         result }
 {
     refuse_directory(fs, path)?;
@@ -216,7 +215,7 @@ pub fn check_place<D: SectorDevice>(
     fs: &mut Fs<D>,
     path: &[u8],
 ) -> Result<(), PutFault>
-    ensures { OnlyLooks (in_sectors D.SectorDevice.state) (seen fs.old) (seen fs.new) path.now
+    ensures { OnlyLooks D.SectorDevice.state (seen fs.old) (seen fs.new) path.now
         result }
 {
     unfinished_path(alloc, path)?;
@@ -225,7 +224,7 @@ pub fn check_place<D: SectorDevice>(
 
 // Removes what a stop left.
 fn remove_left<D: SectorDevice>(fs: &mut Fs<D>, unfinished: &[u8]) -> Result<(), PutFault>
-    ensures { Clears (in_sectors D.SectorDevice.state) (seen fs.old) (seen fs.new) unfinished.now
+    ensures { Clears D.SectorDevice.state (seen fs.old) (seen fs.new) unfinished.now
         result }
 {
     match fs.unlink(unfinished) {
@@ -242,7 +241,7 @@ fn copy_in<D: SectorDevice, I: Read>(
     buffer: &mut [u8],
 ) -> Result<u64, PutFault>
     requires { 0 < length buffer.old }
-    ensures { Copies (in_sectors D.SectorDevice.state) (seen fs.old) (seen fs.new) handle
+    ensures { Copies D.SectorDevice.state (seen fs.old) (seen fs.new) handle
         (I.remaining input.old) (I.remaining input.new) result }
 {
     let mut offset: u64 = 0;
@@ -270,7 +269,7 @@ fn make_file<D: SectorDevice, I: Read>(
     buffer: &mut [u8],
 ) -> Result<u64, PutFault>
     requires { 0 < length buffer.old }
-    ensures { MakesFile (in_sectors D.SectorDevice.state) (seen fs.old) (seen fs.new) unfinished.now
+    ensures { MakesFile D.SectorDevice.state (seen fs.old) (seen fs.new) unfinished.now
         (I.remaining input.old) (I.remaining input.new) result }
 {
     let handle = fs.create(unfinished)?;
@@ -287,7 +286,7 @@ fn rename_file<D: SectorDevice>(
     unfinished: &[u8],
     path: &[u8],
 ) -> Result<(), PutFault>
-    ensures { RenamesFile (in_sectors D.SectorDevice.state) (seen fs.old) (seen fs.new)
+    ensures { RenamesFile D.SectorDevice.state (seen fs.old) (seen fs.new)
         unfinished.now path.now
         result }
 {
@@ -306,7 +305,7 @@ fn replace<D: SectorDevice, I: Read>(
     buffer: &mut [u8],
 ) -> Result<u64, PutFault>
     requires { 0 < length buffer.old }
-    ensures { Replaces (in_sectors D.SectorDevice.state) (seen fs.old) (seen fs.new) unfinished.now
+    ensures { Replaces D.SectorDevice.state (seen fs.old) (seen fs.new) unfinished.now
         path.now
         (I.remaining input.old) (I.remaining input.new) result }
 {
@@ -317,7 +316,7 @@ fn replace<D: SectorDevice, I: Read>(
 
 // Removes what isn't whole, as far as the volume lets it.
 fn give_up<D: SectorDevice>(fs: &mut Fs<D>, unfinished: &[u8])
-    ensures { GivesUp (in_sectors D.SectorDevice.state) (seen fs.old) (seen fs.new) unfinished.now }
+    ensures { GivesUp D.SectorDevice.state (seen fs.old) (seen fs.new) unfinished.now }
 {
     let _ = fs.unlink(unfinished);
     let _ = fs.sync();
@@ -333,7 +332,7 @@ fn put_by<D: SectorDevice, I: Read>(
 ) -> Result<u64, PutFault>
     requires some { 0 < length buffer.old }
     requires beside { IsBeside path.now unfinished.now }
-    ensures { PutsFile (in_sectors D.SectorDevice.state) (seen fs.old) (seen fs.new) path.now
+    ensures { PutsFile D.SectorDevice.state (seen fs.old) (seen fs.new) path.now
         (I.remaining input.old) (I.remaining input.new) result }
 {
     refuse_directory(fs, path)?;
@@ -364,7 +363,7 @@ pub fn put<D: SectorDevice, I: Read>(
     path: &[u8],
     input: &mut I,
 ) -> Result<u64, PutFault>
-    ensures { PutsFile (in_sectors D.SectorDevice.state) (seen fs.old) (seen fs.new) path.now
+    ensures { PutsFile D.SectorDevice.state (seen fs.old) (seen fs.new) path.now
         (I.remaining input.old) (I.remaining input.new) result }
 {
     let Ok(mut buffer) = vec![in alloc; 0; MOST_BYTES] else {

@@ -1,6 +1,5 @@
 //! What a volume tells of the room for a new file.
 ghost use Rattle.std.specs.Prelude.{◌≡◌, ◌<◌, ◌≤◌, ℕ, false, get_or, length, ◌==◌};
-ghost use Rattle.lfs_model.specs.Device.{in_sectors};
 ghost use Rattle.std.specs.Bool.{OnFalse, OnTrue};
 ghost use Rattle.std.specs.List.{list_any};
 ghost use Rattle.lfs_model.specs.declared.limits.TheConstants.{FILE_NUMBERS};
@@ -45,7 +44,7 @@ fn has_free(rows: &[TreeRow]) -> bool
 
 // So many bytes, where a number is free for a new object, else none.
 fn by_tree<D: SectorDevice>(fs: &mut Fs<D>, bytes: u64) -> Result<u64, FsError>
-    ensures { TellsByTree (in_sectors D.SectorDevice.state) (seen fs.old) (seen fs.new) bytes result }
+    ensures { TellsByTree D.SectorDevice.state (seen fs.old) (seen fs.new) bytes result }
 {
     match fs.tree() {
         Ok(rows) => {
@@ -61,7 +60,7 @@ fn by_tree<D: SectorDevice>(fs: &mut Fs<D>, bytes: u64) -> Result<u64, FsError>
 
 // How many entries the root has.
 fn count_entries<D: SectorDevice>(fs: &mut Fs<D>) -> Result<u64, FsError>
-    ensures { TellsEntries (in_sectors D.SectorDevice.state) (seen fs.old) (seen fs.new) result }
+    ensures { TellsEntries D.SectorDevice.state (seen fs.old) (seen fs.new) result }
 {
     match fs.readdir(b"/") {
         Ok(entries) => Ok(entries.len() as u64),
@@ -93,7 +92,7 @@ fn slot_of(size: u64, entries: u64) -> u64
 ///
 /// Those of `space`, of `stat` and `readdir` of the root, and of `tree`.
 pub fn largest_new_file<D: SectorDevice>(fs: &mut Fs<D>) -> Result<u64, FsError>
-    ensures { TellsLargest (in_sectors D.SectorDevice.state) (seen fs.old) (seen fs.new) result }
+    ensures { TellsLargest D.SectorDevice.state (seen fs.old) (seen fs.new) result }
 {
     let space = fs.space()?;
     let root = fs.stat(b"/")?;

@@ -8,7 +8,7 @@ use Rattle.lfs_model.specs.Script.{Line}
 use Rattle.lfs_model.specs.Call.{Answer, Call}
 use Rattle.lfs_model.specs.Since.{AreKeptSince}
 use Rattle.lfs_model.specs.Use.{UsesVolume}
-use Rattle.lfs_model.proofs.Moments.{goes_on, same_orders}
+use Rattle.lfs_model.proofs.Moments.{carries_then, goes_on, same_orders}
 use Rattle.lfs_model.proofs.UnitStates.{units_carry, units_elapse, units_only}
 use Rattle.lfs_device.specs.MemoryDevice.{IsStopped, device_state}
 use Rattle.lfs_device.specs.declared.memory.MemDevice.{MemDevice}
@@ -277,6 +277,38 @@ module _ {mid new : MemDevice} {choices : List Left} {rest : Left} (stop : IsSto
       → IsUnused r r' w w' d (in_sectors device_state mid) fault → IsUnused r r' w w' d (in_sectors device_state new) fault
   unused_in_memory unused =
       still_unused counts_in_sectors stop_carries (units_elapse (λ k. k) stop.carries stop.time) stop.same_failures left_in_sectors unused
+
+-- such a stop of a device that a use gave back out of the wrapper that it was put in
+module _ {d0 d mid0 mid new : MemDevice} {choices : List Left} {rest : Left} (same : d0 ≡ d) (back : mid ≡ mid0)
+    (stop : IsStopped choices rest mid new) where
+  pub stopped_behind : {end : ScriptEnd} (r : Option (List ℕ)) {r' : Option (List ℕ)} (w : Option (List ℕ)) {w' : Option (List ℕ)}
+      → Session end r r' w w' (in_sectors device_state d0) (in_sectors device_state mid0)
+      → Session end r r' w w' (in_sectors device_state d) (in_sectors device_state new)
+  stopped_behind {end} r {r'} w {w'} session = stopped_in_memory stop r w (
+      subst (λ (x : MemDevice). Session end r r' w w' (in_sectors device_state x) (in_sectors device_state mid)) same
+      (subst (λ (x : MemDevice). Session end r r' w w' (in_sectors device_state d0) (in_sectors device_state x)) (sym back) session))
+
+  pub told_behind : {strict : Bool} {end : StrictEnd} (r : Option (List ℕ)) {r' : Option (List ℕ)} (w : Option (List ℕ))
+      {w' : Option (List ℕ)} (s : List Glance) {s' : List Glance}
+      → SessionNoted strict end r r' w w' (in_sectors device_state d0) (in_sectors device_state mid0) s s'
+      → SessionNoted strict end r r' w w' (in_sectors device_state d) (in_sectors device_state new) s s'
+  told_behind {strict} {end} r {r'} w {w'} s {s'} session = told_in_memory stop r w s (
+      subst (λ (x : MemDevice). SessionNoted strict end r r' w w' (in_sectors device_state x) (in_sectors device_state mid) s s') same
+      (subst (λ (x : MemDevice). SessionNoted strict end r r' w w' (in_sectors device_state d0) (in_sectors device_state x) s s') (sym back)
+      session))
+
+  pub unused_behind : {R W : Type 0} {fault : MountFault} {r r' : R} {w w' : W}
+      → IsUnused r r' w w' (in_sectors device_state d0) (in_sectors device_state mid0) fault
+      → IsUnused r r' w w' (in_sectors device_state d) (in_sectors device_state new) fault
+  unused_behind {fault} {r} {r'} {w} {w'} unused = unused_in_memory stop (
+      subst (λ (x : MemDevice). IsUnused r r' w w' (in_sectors device_state x) (in_sectors device_state mid) fault) same
+      (subst (λ (x : MemDevice). IsUnused r r' w w' (in_sectors device_state d0) (in_sectors device_state x) fault) (sym back) unused))
+
+  pub carries_behind : Carries (in_sectors device_state d0) (in_sectors device_state mid0)
+      → Carries (in_sectors device_state d) (in_sectors device_state new)
+  carries_behind carries = carries_then (
+      subst (λ (x : MemDevice). Carries (in_sectors device_state x) (in_sectors device_state mid)) same
+      (subst (λ (x : MemDevice). Carries (in_sectors device_state d0) (in_sectors device_state x)) (sym back) carries)) (stop_carries stop)
 
 -- A device in memory that keeps its model in sectors keeps it: its units stay.
 pub keeps_in_memory : (d d' : MemDevice) → Carries (in_sectors device_state d) (in_sectors device_state d')

@@ -1,6 +1,5 @@
 // The answer of a call.
 ghost use Rattle.std.specs.Prelude.{◌≡◌, IfOk, min, replicate};
-ghost use Rattle.lfs_model.specs.Device.{in_sectors};
 ghost use Rattle.lfs_model.specs.Call.{Count, Pwrite};
 ghost use Rattle.lfs_model.specs.Script.{call_of};
 ghost use Rattle.lfs_fs.specs.Seen.{answer_by, seen};
@@ -35,7 +34,7 @@ fn fill<D: SectorDevice>(
     len: u32,
     byte: u8,
 ) -> Result<u32, FsError>
-    ensures { Serves (in_sectors D.SectorDevice.state) (seen fs.old) (seen fs.new)
+    ensures { Serves D.SectorDevice.state (seen fs.old) (seen fs.new)
         (Pwrite handle offset (replicate len byte)) (answer_by Count result) }
 {
     match filled(alloc, len, byte) {
@@ -50,7 +49,7 @@ fn fill<D: SectorDevice>(
 
 /// Makes the call.
 pub fn make<D: SectorDevice>(alloc: Global, fs: &mut Fs<D>, call: &Call) -> Result<Answer, FsError>
-    ensures { Serves (in_sectors D.SectorDevice.state) (seen fs.old) (seen fs.new)
+    ensures { Serves D.SectorDevice.state (seen fs.old) (seen fs.new)
         (call_of (line_for call.now))
         (result_of result) }
 {

@@ -1,6 +1,5 @@
 //! Laws of whole uses of a volume, each the contract of a function that does nothing.
 ghost use Rattle.std.specs.Prelude.{ℕ};
-ghost use Rattle.lfs_model.specs.Device.{in_sectors};
 ghost use Rattle.lfs_script.specs.OfSectors.{SessionsOfSectors};
 ghost use Rattle.lfs_model.specs.UseLaws.{BeginsNew, NewIsPending, UsesArePlain};
 
@@ -12,15 +11,15 @@ use lfs_device::SectorDevice;
 /// it, which is the premise on which a use goes on.
 pub fn new_volumes_begin_empty<D: SectorDevice>(device: &D, used: &D)
     ensures begins { (version N p : ℕ)
-        → BeginsNew version N p (in_sectors D.state device.now) (in_sectors D.state used.now) }
+        → BeginsNew version N p (D.state device.now) (D.state used.now) }
     ensures pending { (version N p : ℕ)
-        → NewIsPending version N p (in_sectors D.state device.now) }
+        → NewIsPending version N p (D.state device.now) }
 {}
 
 /// Where no call of the device failed in a use, each answer is the model's, but for want of
 /// memory.
 pub fn uses_are_plain<D: SectorDevice>(device: &D, used: &D)
-    ensures { UsesArePlain (in_sectors D.state device.now) (in_sectors D.state used.now) }
+    ensures { UsesArePlain (D.state device.now) (D.state used.now) }
 {}
 
 /// Where each sector of a memory device is a unit before a use, what is said of it in sectors is said

@@ -2,6 +2,7 @@
 ghost use Rattle.std.specs.Prelude.{◌≡◌, IfOk, IfErr, OnOk, OnErr};
 ghost use Rattle.lfs_model.specs.Device.{Carries, IsUntouched, Only, in_sectors};
 ghost use Rattle.lfs_device.specs.MemoryDevice.{device_state};
+ghost use Rattle.lfs_fs.specs.log.Mounting.{HasWholeUnits};
 ghost use Rattle.lfs_script.specs.Heard.{HearsTo};
 ghost use Rattle.lfs_script.specs.Saved.{SessionSaved};
 ghost use Rattle.lfs_script.specs.Series.{FromAny, texts_of};
@@ -13,7 +14,7 @@ ghost use Rattle.lfs_script.specs.Unused.{IsUnused};
 use crate::script::{StrictEnd, run_noted};
 use crate::session::StoppedScript;
 use crate::witness::Witness;
-use lfs_device::{Left, MemDevice, SectorDevice};
+use lfs_device::{InSectors, Left, MemDevice, SectorDevice};
 use lfs_fs::{Fs, MountFault};
 use std::alloc::Global;
 use std::io::{Read, Write};
@@ -37,28 +38,29 @@ pub fn use_volume_noted<R: Read, W: Write, D: SectorDevice, S: Witness<D, W>>(
     witness: &mut S,
     device: D,
 ) -> (Result<UseEnd, MountFault>, D)
+    requires { HasWholeUnits (D.state device) }
     ensures ran { IfOk result.0 (λ end. SessionNoted strict end.script (R.remaining reader.old)
         (R.remaining reader.new) (W.contents writer.old) (W.contents writer.new)
-        (in_sectors D.state device)
-        (in_sectors D.state result.1) (S.glances witness.old) (S.glances witness.new)) }
+        (D.state device)
+        (D.state result.1) (S.glances witness.old) (S.glances witness.new)) }
     ensures saved { IfOk result.0 (λ end. SessionSaved end.is_saved strict end.script
         (R.remaining reader.old) (R.remaining reader.new) (W.contents writer.old)
-        (W.contents writer.new) (in_sectors D.state device) (in_sectors D.state result.1)
+        (W.contents writer.new) (D.state device) (D.state result.1)
         (S.glances witness.old)
         (S.glances witness.new)) }
     ensures reads { IfOk result.0 (λ end. ReadsTo end.script (S.failures witness.old)
         (S.failures witness.new) (R.remaining reader.old) (R.remaining reader.new)) }
     ensures heard { IfOk result.0 (λ end. HearsTo (S.heard witness.old) (S.heard witness.new)
         (λ r r'. SessionSaved end.is_saved strict end.script r r' (W.contents writer.old)
-        (W.contents writer.new) (in_sectors D.state device) (in_sectors D.state result.1)
+        (W.contents writer.new) (D.state device) (D.state result.1)
         (S.glances witness.old) (S.glances witness.new)
         × ReadsTo end.script (S.failures witness.old) (S.failures witness.new) r r')) }
     ensures refused { IfErr result.0 (IsUnused reader.old reader.new writer.old writer.new
-        (in_sectors D.state device) (in_sectors D.state result.1)) }
-    ensures untouched { OnErr result.0 (IsUntouched (in_sectors D.state device) (in_sectors D.state
+        (D.state device) (D.state result.1)) }
+    ensures untouched { OnErr result.0 (IsUntouched (D.state device) (D.state
         result.1)) }
     ensures unseen { OnErr result.0 (witness.new ≡ witness.old) }
-    ensures carries { Carries (in_sectors D.state device) (in_sectors D.state result.1) }
+    ensures carries { Carries (D.state device) (D.state result.1) }
 {
     match Fs::mount(alloc, device) {
         Ok(fs) => {
@@ -73,7 +75,7 @@ pub fn use_volume_noted<R: Read, W: Write, D: SectorDevice, S: Witness<D, W>>(
 
 /// As `use_volume_noted` on a device in memory, which stops then: `left` is what it leaves of each
 /// sector that wasn't synced.
-pub fn use_and_stop_noted<R: Read, W: Write, S: Witness<MemDevice, W>>(
+pub fn use_and_stop_noted<R: Read, W: Write, S: Witness<InSectors<MemDevice>, W>>(
     alloc: Global,
     strict: bool,
     reader: &mut R,
@@ -99,8 +101,15 @@ pub fn use_and_stop_noted<R: Read, W: Write, S: Witness<MemDevice, W>>(
     ensures alone { Only (device_state result.1).content (device_state result.1) }
     ensures carries { Carries (in_sectors device_state device) (in_sectors device_state result.1) }
 {
-    let (end, used) = use_volume_noted(alloc, strict, reader, writer, witness, device);
-    let mut stopped = used;
+    let (end, used) = use_volume_noted(
+        alloc,
+        strict,
+        reader,
+        writer,
+        witness,
+        InSectors::new(device),
+    );
+    let mut stopped = used.into_inner();
     stopped.crash(left);
     match end {
         Ok(end) => (Ok(end.script), stopped),
@@ -110,7 +119,7 @@ pub fn use_and_stop_noted<R: Read, W: Write, S: Witness<MemDevice, W>>(
 
 /// As `use_each`, before a witness: in each use a stop at any moment since a reply went out leaves
 /// every call of it that was acknowledged by then, and the next begins with what the last stop left.
-pub fn use_each_noted<W: Write, S: Witness<MemDevice, W>>(
+pub fn use_each_noted<W: Write, S: Witness<InSectors<MemDevice>, W>>(
     alloc: Global,
     strict: bool,
     scripts: &[StoppedScript],

@@ -1,6 +1,5 @@
 // A script from its first line to its end.
 ghost use Rattle.std.specs.Prelude.{◌≡◌, ◌≤◌, length, option_map, true};
-ghost use Rattle.lfs_model.specs.Device.{in_sectors};
 ghost use Rattle.lfs_fs.specs.Seen.{seen};
 ghost use Rattle.lfs_replies.specs.Answers.{result_of};
 ghost use Rattle.lfs_script.specs.Heard.{HearsTo};
@@ -61,7 +60,7 @@ fn answer_line<D: SectorDevice>(
     line: &[u8],
 ) -> Option<Result<Answer, FsError>>
     requires short { length line.now ≤ LONGEST_LINE }
-    ensures { AnswersText (in_sectors D.SectorDevice.state) (option_map result_of result)
+    ensures { AnswersText D.SectorDevice.state (option_map result_of result)
         (seen fs.old)
         (seen fs.new) line.now }
 {
@@ -93,9 +92,9 @@ fn turn<W: Write, D: SectorDevice, S: Witness<D, W>>(
     count: u64,
 ) -> Option<StrictEnd>
     requires short { length line.now ≤ LONGEST_LINE }
-    ensures turns { Turns (in_sectors D.SectorDevice.state) strict result (W.contents writer.old)
+    ensures turns { Turns D.SectorDevice.state strict result (W.contents writer.old)
         (W.contents writer.new) (seen fs.old) (seen fs.new) line.now count }
-    ensures glances { GlancesBeforeReply (in_sectors D.SectorDevice.state) (seen fs.new)
+    ensures glances { GlancesBeforeReply D.SectorDevice.state (seen fs.new)
         (W.contents writer.old)
         line.now (S.glances witness.old) (S.glances witness.new) }
     ensures counted { S.failures witness.new ≡ S.failures witness.old }
@@ -122,7 +121,7 @@ fn finish<W: Write, D: SectorDevice, S: Witness<D, W>>(
     count: u64,
 ) -> StrictEnd
     requires short { length line.now ≤ LONGEST_LINE }
-    ensures finishes { Finishes (in_sectors D.SectorDevice.state) strict result
+    ensures finishes { Finishes D.SectorDevice.state strict result
         (W.contents writer.old)
         (W.contents writer.new) (seen fs.old) (seen fs.new) line.now count (S.glances witness.old)
         (S.glances witness.new) }
@@ -146,7 +145,7 @@ pub fn run<R: Read, W: Write, D: SectorDevice>(
     writer: &mut W,
     fs: &mut Fs<D>,
 ) -> ScriptEnd
-    ensures { Ends (in_sectors D.SectorDevice.state) result (R.remaining reader.old)
+    ensures { Ends D.SectorDevice.state result (R.remaining reader.old)
         (R.remaining reader.new)
         (W.contents writer.old) (W.contents writer.new) (seen fs.old) (seen fs.new) }
 {
@@ -164,7 +163,7 @@ pub fn run_strict<R: Read, W: Write, D: SectorDevice>(
     writer: &mut W,
     fs: &mut Fs<D>,
 ) -> StrictEnd
-    ensures { EndsBy (in_sectors D.SectorDevice.state) true result (R.remaining reader.old)
+    ensures { EndsBy D.SectorDevice.state true result (R.remaining reader.old)
         (R.remaining reader.new) (W.contents writer.old) (W.contents writer.new) (seen fs.old)
         (seen fs.new) }
 {
@@ -183,13 +182,13 @@ pub fn run_noted<R: Read, W: Write, D: SectorDevice, S: Witness<D, W>>(
     witness: &mut S,
     fs: &mut Fs<D>,
 ) -> StrictEnd
-    ensures ends { EndsNoted (in_sectors D.SectorDevice.state) strict result (R.remaining reader.old)
+    ensures ends { EndsNoted D.SectorDevice.state strict result (R.remaining reader.old)
         (R.remaining reader.new) (W.contents writer.old) (W.contents writer.new) (seen fs.old)
         (seen fs.new) (S.glances witness.old) (S.glances witness.new) }
     ensures reads { ReadsTo result (S.failures witness.old) (S.failures witness.new)
         (R.remaining reader.old) (R.remaining reader.new) }
     ensures heard { HearsTo (S.heard witness.old) (S.heard witness.new) (λ r r'.
-        EndsNoted (in_sectors D.SectorDevice.state) strict result r r' (W.contents writer.old)
+        EndsNoted D.SectorDevice.state strict result r r' (W.contents writer.old)
         (W.contents writer.new) (seen fs.old) (seen fs.new) (S.glances witness.old)
         (S.glances witness.new)
         × ReadsTo result (S.failures witness.old) (S.failures witness.new) r r') }

@@ -2,33 +2,36 @@
 ghost use Rattle.std.specs.Prelude.{IfOk, IfErr, OnOk, OnErr};
 ghost use Rattle.lfs_model.specs.Device.{Carries, IsUntouched, Only, in_sectors};
 ghost use Rattle.lfs_device.specs.MemoryDevice.{device_state};
+ghost use Rattle.lfs_fs.specs.log.Mounting.{HasWholeUnits};
 ghost use Rattle.lfs_script.specs.Series.{FromAny, StopsAtMount, UsesInTurn, texts_of};
 ghost use Rattle.lfs_script.specs.Session.{Session};
 ghost use Rattle.lfs_script.specs.Unused.{IsUnused};
 
 use crate::script::{ScriptEnd, run};
-use lfs_device::{Left, MemDevice, SectorDevice};
+use lfs_device::{InSectors, Left, MemDevice, SectorDevice};
 use lfs_fs::{Fs, MountFault};
 use std::alloc::Global;
 use std::io::{Read, Write};
 
 /// Mounts what a stop may have left, runs a script on it, and gives the device back. What wasn't
-/// saved is gone.
+/// saved is gone. The units of the device lie within those of its volume: `InVolume` makes any
+/// device such a one.
 pub fn use_volume<R: Read, W: Write, D: SectorDevice>(
     alloc: Global,
     reader: &mut R,
     writer: &mut W,
     device: D,
 ) -> (Result<ScriptEnd, MountFault>, D)
+    requires { HasWholeUnits (D.state device) }
     ensures ran { IfOk result.0 (λ end. Session end (R.remaining reader.old)
         (R.remaining reader.new) (W.contents writer.old) (W.contents writer.new)
-        (in_sectors D.state device)
-        (in_sectors D.state result.1)) }
+        (D.state device)
+        (D.state result.1)) }
     ensures refused { IfErr result.0 (IsUnused reader.old reader.new writer.old writer.new
-        (in_sectors D.state device) (in_sectors D.state result.1)) }
-    ensures untouched { OnErr result.0 (IsUntouched (in_sectors D.state device) (in_sectors D.state
+        (D.state device) (D.state result.1)) }
+    ensures untouched { OnErr result.0 (IsUntouched (D.state device) (D.state
         result.1)) }
-    ensures carries { Carries (in_sectors D.state device) (in_sectors D.state result.1) }
+    ensures carries { Carries (D.state device) (D.state result.1) }
 {
     match Fs::mount(alloc, device) {
         Ok(fs) => {
@@ -57,8 +60,8 @@ pub fn use_and_stop<R: Read, W: Write>(
     ensures alone { Only (device_state result.1).content (device_state result.1) }
     ensures carries { Carries (in_sectors device_state device) (in_sectors device_state result.1) }
 {
-    let (end, used) = use_volume(alloc, reader, writer, device);
-    let mut stopped = used;
+    let (end, used) = use_volume(alloc, reader, writer, InSectors::new(device));
+    let mut stopped = used.into_inner();
     stopped.crash(left);
     (end, stopped)
 }

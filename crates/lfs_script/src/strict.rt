@@ -1,6 +1,7 @@
 // A whole use of a volume by a script that ends at the first refusal.
 ghost use Rattle.std.specs.Prelude.{IfOk, IfErr, OnErr};
-ghost use Rattle.lfs_model.specs.Device.{Carries, IsUntouched, in_sectors};
+ghost use Rattle.lfs_model.specs.Device.{Carries, IsUntouched};
+ghost use Rattle.lfs_fs.specs.log.Mounting.{HasWholeUnits};
 ghost use Rattle.lfs_script.specs.Strict.{StrictSession};
 ghost use Rattle.lfs_script.specs.Unused.{IsUnused};
 
@@ -17,15 +18,16 @@ pub fn use_volume_strict<R: Read, W: Write, D: SectorDevice>(
     writer: &mut W,
     device: D,
 ) -> (Result<StrictEnd, MountFault>, D)
+    requires { HasWholeUnits (D.state device) }
     ensures ran { IfOk result.0 (λ end. StrictSession end (R.remaining reader.old)
         (R.remaining reader.new) (W.contents writer.old) (W.contents writer.new)
-        (in_sectors D.state device)
-        (in_sectors D.state result.1)) }
+        (D.state device)
+        (D.state result.1)) }
     ensures refused { IfErr result.0 (IsUnused reader.old reader.new writer.old writer.new
-        (in_sectors D.state device) (in_sectors D.state result.1)) }
-    ensures untouched { OnErr result.0 (IsUntouched (in_sectors D.state device) (in_sectors D.state
+        (D.state device) (D.state result.1)) }
+    ensures untouched { OnErr result.0 (IsUntouched (D.state device) (D.state
         result.1)) }
-    ensures carries { Carries (in_sectors D.state device) (in_sectors D.state result.1) }
+    ensures carries { Carries (D.state device) (D.state result.1) }
 {
     match Fs::mount(alloc, device) {
         Ok(fs) => {

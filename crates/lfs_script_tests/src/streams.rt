@@ -1,7 +1,7 @@
 //! Readers that give little or fail, and writers that take little or fail.
 use crate::volume::{answered, new_volume};
 use lfs_device::MemDevice;
-use lfs_script::fs::Fs;
+use lfs_script::fs::{Fs, InVolume};
 use lfs_script::{ScriptEnd, run};
 use std::alloc::{AllocError, Global};
 use std::io;
@@ -145,7 +145,7 @@ impl Write for Marked {
 
 // What a writer is given as a script is read a byte at a time: a flush before each read, whatever
 // it answers.
-fn is_flushed(alloc: Global, fs: &mut Fs<MemDevice>, fails: bool) -> bool {
+fn is_flushed(alloc: Global, fs: &mut Fs<InVolume<MemDevice>>, fails: bool) -> bool {
     let mut input = Trickle {
         rest: b"space\nspace\n",
         fails: false,
@@ -170,7 +170,7 @@ fn a_writer_is_flushed_before_each_read(rt: HostRuntime) -> Result<(), Fail> {
 }
 
 // Whether a reader that fails within the second line ends a run behind the first reply.
-fn fails_to_read(alloc: Global, fs: &mut Fs<MemDevice>) -> bool {
+fn fails_to_read(alloc: Global, fs: &mut Fs<InVolume<MemDevice>>) -> bool {
     let mut input = Trickle {
         rest: b"space\nspace",
         fails: true,
@@ -181,7 +181,7 @@ fn fails_to_read(alloc: Global, fs: &mut Fs<MemDevice>) -> bool {
 }
 
 // How a run of two lines, whose replies have 32 bytes, ends where the writer has so much room.
-fn end_within(alloc: Global, fs: &mut Fs<MemDevice>, room: usize) -> ScriptEnd {
+fn end_within(alloc: Global, fs: &mut Fs<InVolume<MemDevice>>, room: usize) -> ScriptEnd {
     let mut input = b"space\nspace\n".as_slice();
     run(alloc, &mut input, &mut Full(room), fs)
 }

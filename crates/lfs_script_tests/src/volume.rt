@@ -1,6 +1,6 @@
 //! Volumes of 64 segments in memory.
 use lfs_device::MemDevice;
-use lfs_script::fs::{Fs, format};
+use lfs_script::fs::{Fs, InVolume, format};
 use lfs_script::{ScriptEnd, run};
 use std::alloc::Global;
 use std::io::Read;
@@ -16,8 +16,8 @@ pub fn new_device(alloc: Global) -> Result<MemDevice, Fail> {
 }
 
 /// An empty volume, on the heap, where each end of a function drops it by one call.
-pub fn new_volume(alloc: Global) -> Result<Box<Fs<MemDevice>>, Fail> {
-    match Fs::mount(alloc, new_device(alloc)?) {
+pub fn new_volume(alloc: Global) -> Result<Box<Fs<InVolume<MemDevice>>>, Fail> {
+    match Fs::mount(alloc, InVolume::new(new_device(alloc)?)) {
         Ok(fs) => Ok(Box::new(alloc, fs)?),
         Err(_) => Err(Fail::from("not mounted")),
     }

@@ -13,7 +13,7 @@ use lfs_cache::CachedDevice;
 use lfs_cleaner::volume_log::verify::Tables;
 use lfs_cleaner::volume_log::{Log, LogFault, MountFault};
 use lfs_cleaner::{clean_once, has_quarter, make_clean};
-use lfs_device::SectorUnits;
+use lfs_device::SectorDevice;
 use lfs_files::StoreFault;
 use lfs_model::limits::MOST_UNSAVED;
 use std::alloc::Global;
@@ -24,8 +24,9 @@ const MOST_HEADERS: usize = 4;
 /// The most blocks that one call changes: those of a full directory that gets the second form.
 const MOST_BLOCKS: usize = 256;
 
-impl<D: SectorUnits> Store<D> {
+impl<D: SectorDevice> Store<D> {
     ghost use Rattle.lfs_cleaner.specs.log.LogState.{AreAllSaved, Halts, IsFull, Mounts, WritesEarly};
+    ghost use Rattle.lfs_cleaner.specs.log.Mounting.{HasWholeUnits};
     ghost use Rattle.lfs_cleaner.specs.log.Saving.{commit_orders, orders_for};
     ghost use Rattle.lfs_cleaner.specs.log.Thresholds.{LacksReserve};
     ghost use Rattle.lfs_cleaner.specs.Making.{CleansOnce, HasQuarter, once_orders, passes_orders, clean_orders};
@@ -44,6 +45,7 @@ impl<D: SectorUnits> Store<D> {
     /// device holds no log map: it is too small, holds no checkpoint, or the first stage that fails
     /// is named, one of the stages 1 to 9, or 15 where too few segments are clean.
     pub fn open(alloc: Global, device: D) -> Result<Store<D>, (MountFault, D)>
+        requires { HasWholeUnits (D.state device) }
         ensures stores { IfOk result (λ s. Mounts D.SectorDevice.state device s.log) }
         ensures counts { IfOk result (λ s. MountsTotals D.SectorDevice.state device s.log
             s.log.totals) }
@@ -96,6 +98,7 @@ impl<D: SectorUnits> Store<D> {
             → HasTables (D.state device).content tables }
         requires durable { (D.state device).keeps_model
             → Only (D.state device).content (D.state device) }
+        requires units { HasWholeUnits (D.state device) }
         ensures stores { IfOk result (λ s. Mounts D.SectorDevice.state device s.log) }
         ensures counts { IfOk result (λ s. MountsTotals D.SectorDevice.state device s.log
             s.log.totals) }

@@ -1,11 +1,11 @@
 //! A store as the files that the layers above see.
 use crate::store::Store;
-use lfs_device::SectorUnits;
+use lfs_device::SectorDevice;
 use lfs_files::{Files, Header, LogFault, StoreFault};
 use lfs_model::{FileNumber, Kind};
 use std::alloc::Global;
 
-impl<D: SectorUnits> Files for Store<D> {
+impl<D: SectorDevice> Files for Store<D> {
     ghost use Rattle.lfs_store.specs.declared.draft.Draft.{Draft};
     ghost use Rattle.lfs_store.specs.Seen.{StagedLog, files_of};
 

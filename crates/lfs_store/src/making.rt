@@ -12,7 +12,7 @@ use crate::recounting::recounted;
 use crate::store::Store;
 use crate::totals::{Measure, NO_BLOCK};
 use lfs_cleaner::volume_log::{Header, LastLink, LogFault, Loss, Removal};
-use lfs_device::SectorUnits;
+use lfs_device::SectorDevice;
 use lfs_files::{FIRST_FORM, StoreFault};
 use lfs_model::limits::{FILE_BLOCKS, LARGEST_FILE, LONGEST_PATH};
 use lfs_model::{FileNumber, Kind};
@@ -27,7 +27,7 @@ fn first_links(kind: Kind) -> u32
     }
 }
 
-impl<D: SectorUnits> Store<D> {
+impl<D: SectorDevice> Store<D> {
     ghost use Rattle.lfs_cleaner.specs.log.LogState.{IsReadFault, IsVacant, HasAll, IsRemoved, IsKept};
     ghost use Rattle.lfs_store.specs.Accepting.{Forgets};
     ghost use Rattle.lfs_store.specs.Keeping.{DraftsUncounted, OnlyDrafts};

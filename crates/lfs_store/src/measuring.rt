@@ -10,14 +10,14 @@ use crate::losing::takes_block;
 use crate::store::Store;
 use crate::totals::Measure;
 use lfs_cleaner::volume_log::{BlockEdit, Log, LogFault, Loss};
-use lfs_device::SectorUnits;
+use lfs_device::SectorDevice;
 use lfs_layout::is_zero;
 use lfs_model::FileNumber;
 use lfs_model::limits::{
     BLOCK_POINTERS, DIRECT_BLOCKS, FILE_BLOCKS, FILE_LEAVES, FIRST_DOUBLE, LAST_LEAF,
 };
 
-impl<D: SectorUnits> Store<D> {
+impl<D: SectorDevice> Store<D> {
     ghost use Rattle.lfs_store.specs.Measuring.{Measures};
     ghost use Rattle.lfs_store.specs.Reading.{ReadsStore};
 
@@ -60,7 +60,7 @@ impl<D: SectorUnits> Store<D> {
 }
 
 /// Whether a block of a file is stored. It reads no block of data.
-fn is_stored<D: SectorUnits>(
+fn is_stored<D: SectorDevice>(
     log: &mut Log<D>,
     draft: &Draft,
     number: FileNumber,
@@ -79,7 +79,7 @@ fn is_stored<D: SectorUnits>(
 /// Whether a leaf of pointers of a file is stored, since a block below it is. Where the draft
 /// stores one, nothing is read; where it changes one, it looks at each block below, until one is
 /// stored.
-fn has_leaf<D: SectorUnits>(
+fn has_leaf<D: SectorDevice>(
     log: &mut Log<D>,
     draft: &Draft,
     number: FileNumber,
@@ -108,7 +108,7 @@ fn has_leaf<D: SectorUnits>(
 /// How many blocks of a file are stored at the indices from one on to another. Where they are more
 /// than one, and the draft changes none of them, they are counted by their blocks of pointers; else
 /// it looks at each.
-fn count_stored<D: SectorUnits>(
+fn count_stored<D: SectorDevice>(
     log: &mut Log<D>,
     draft: &Draft,
     number: FileNumber,
@@ -132,7 +132,7 @@ fn count_stored<D: SectorUnits>(
 }
 
 /// How many leaves of pointers of a file are stored, from one on to another.
-fn count_leaves<D: SectorUnits>(
+fn count_leaves<D: SectorDevice>(
     log: &mut Log<D>,
     draft: &Draft,
     number: FileNumber,
@@ -155,7 +155,7 @@ fn count_leaves<D: SectorUnits>(
 
 /// Whether the double root of pointers of a file of this size is stored, since a leaf below it is.
 /// Where the draft changes a block there, it looks at each leaf below, until one is stored.
-fn has_double<D: SectorUnits>(
+fn has_double<D: SectorDevice>(
     log: &mut Log<D>,
     draft: &Draft,
     number: FileNumber,
@@ -199,7 +199,7 @@ fn leaf_range(size: u32, from: u32, to: u32) -> (u32, u32)
 
 /// How many blocks of pointers a file of this size has: leaves with a block at the indices from one
 /// on to another, and the double root.
-fn count_pointers<D: SectorUnits>(
+fn count_pointers<D: SectorDevice>(
     log: &mut Log<D>,
     draft: &Draft,
     number: FileNumber,

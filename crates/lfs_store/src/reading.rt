@@ -8,13 +8,13 @@ ghost use Rattle.lfs_store.specs.Reading.{ReadsStore, ReadsBlock, ReadsPart, App
 use crate::draft::Draft;
 use crate::store::Store;
 use lfs_cleaner::volume_log::{Log, LogFault};
-use lfs_device::SectorUnits;
+use lfs_device::SectorDevice;
 use lfs_files::StoreFault;
 use lfs_model::FileNumber;
 use lfs_model::limits::SECTOR_LEN;
 use std::alloc::Global;
 
-impl<D: SectorUnits> Store<D> {
+impl<D: SectorDevice> Store<D> {
     /// The bytes of a file between two places, both at most its size.
     ///
     /// # Errors
@@ -47,7 +47,7 @@ impl<D: SectorUnits> Store<D> {
 /// # Errors
 ///
 /// As those of `Store::header`.
-pub fn read_block<D: SectorUnits>(
+pub fn read_block<D: SectorDevice>(
     log: &mut Log<D>,
     draft: &Draft,
     number: FileNumber,
@@ -66,7 +66,7 @@ pub fn read_block<D: SectorUnits>(
 }
 
 /// The bytes of a file between two places, both at most its size, as it is with a draft.
-fn read_part<D: SectorUnits>(
+fn read_part<D: SectorDevice>(
     alloc: Global,
     log: &mut Log<D>,
     draft: &Draft,
@@ -97,7 +97,7 @@ fn read_part<D: SectorUnits>(
 }
 
 /// Reads bytes of one block of a file, behind those that are there.
-fn append<D: SectorUnits>(
+fn append<D: SectorDevice>(
     log: &mut Log<D>,
     draft: &Draft,
     number: FileNumber,

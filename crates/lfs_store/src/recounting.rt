@@ -5,7 +5,7 @@ ghost use Rattle.lfs_store.specs.Recounting.{Replaces, Recounts};
 use crate::store::Store;
 use crate::totals::Measure;
 use lfs_cleaner::volume_log::{BlockTotals, LogFault};
-use lfs_device::SectorUnits;
+use lfs_device::SectorDevice;
 use lfs_model::FileNumber;
 use lfs_model::limits::FILE_BLOCKS;
 
@@ -28,7 +28,7 @@ pub fn recounted(totals: BlockTotals, before: Measure, after: Measure) -> BlockT
     }
 }
 
-impl<D: SectorUnits> Store<D> {
+impl<D: SectorDevice> Store<D> {
     ghost use Rattle.lfs_cleaner.specs.log.LogState.{IsReadFault};
     ghost use Rattle.lfs_store.specs.Keeping.{OnlyCounts};
     ghost use Rattle.lfs_store.specs.Recounting.{Remeasures};

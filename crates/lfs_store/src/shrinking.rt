@@ -5,12 +5,12 @@ ghost use Rattle.lfs_cleaner.specs.log.LogState.{IsReadFault};
 use crate::pieces::cut_tail;
 use crate::store::Store;
 use lfs_cleaner::volume_log::{Header, LogFault};
-use lfs_device::SectorUnits;
+use lfs_device::SectorDevice;
 use lfs_files::StoreFault;
 use lfs_model::FileNumber;
 use lfs_model::limits::{LARGEST_FILE, SECTOR_LEN};
 
-impl<D: SectorUnits> Store<D> {
+impl<D: SectorDevice> Store<D> {
     ghost use Rattle.lfs_store.specs.Keeping.{RedraftsUncounted};
     ghost use Rattle.lfs_store.specs.Recounting.{ChangesOnly};
     ghost use Rattle.lfs_store.specs.Seen.{files_of};

@@ -5,7 +5,7 @@ ghost use Rattle.lfs_model.specs.Fields.{zeros};
 use crate::draft::Draft;
 use crate::reading::read_block;
 use lfs_cleaner::volume_log::{BlockTotals, Header, Log, LogFault};
-use lfs_device::{SectorDevice, SectorUnits};
+use lfs_device::SectorDevice;
 use lfs_model::FileNumber;
 use lfs_model::limits::SECTOR_LEN;
 
@@ -18,7 +18,7 @@ pub struct Store<D: SectorDevice> {
     pub(crate) drafted: BlockTotals,
 }
 
-impl<D: SectorUnits> Store<D> {
+impl<D: SectorDevice> Store<D> {
     ghost use Rattle.lfs_cleaner.specs.log.LogState.{IsReadFault};
     ghost use Rattle.lfs_store.specs.Reading.{ReadsStore, ReadsHeader, ReadsBlock};
 

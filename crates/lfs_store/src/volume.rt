@@ -5,9 +5,9 @@ ghost use Rattle.lfs_store.specs.StoreState.{volume_of};
 
 use crate::store::Store;
 use lfs_cleaner::volume_log::memory::segments::Usage;
-use lfs_device::{SectorUnits, TendedDevice};
+use lfs_device::{SectorDevice, TendedDevice};
 
-impl<D: SectorUnits> Store<D> {
+impl<D: SectorDevice> Store<D> {
     /// Whether a write of the volume failed.
     pub fn is_halted(&self) -> bool
         ensures { result ≡ (volume_of self.now).halted }

@@ -15,7 +15,7 @@ use crate::pieces::{cut_tail, overlay};
 use crate::reading::read_block;
 use crate::store::Store;
 use lfs_cleaner::volume_log::{Cut, Header, Log, LogFault, Loss};
-use lfs_device::SectorUnits;
+use lfs_device::SectorDevice;
 use lfs_files::StoreFault;
 use lfs_model::FileNumber;
 use lfs_model::limits::{FILE_BLOCKS, LARGEST_FILE, LAST_BLOCK, LONGEST_TRANSFER, SECTOR_LEN};
@@ -31,7 +31,7 @@ fn covers(at: u32, bytes: &[u8], index: u32) -> bool
 
 /// What the bytes that lie in one block are laid over: the block as it is, which isn't read where
 /// they cover it whole.
-fn block_beneath<D: SectorUnits>(
+fn block_beneath<D: SectorDevice>(
     log: &mut Log<D>,
     draft: &Draft,
     number: FileNumber,
@@ -53,7 +53,7 @@ fn block_beneath<D: SectorUnits>(
     Ok(())
 }
 
-impl<D: SectorUnits> Store<D> {
+impl<D: SectorDevice> Store<D> {
     ghost use Rattle.lfs_store.specs.Keeping.{DraftsUncounted, RedraftsUncounted};
     ghost use Rattle.lfs_store.specs.Seen.{files_of};
     ghost use Rattle.lfs_files.specs.Files.{Counts, CountsReformed, IsFault, IsLoneWrite, Redrafts, Reforms, SetsLen, Writes};

@@ -3,6 +3,7 @@ use crate::device::{calls_left, device_of, new_device, stop};
 use crate::order::{Order, read_order};
 use anyhow::{Context, Result};
 use lfs_device::MemDevice;
+use lfs_script::fs::InVolume;
 use lfs_script::use_volume;
 use std::alloc::{AllocError, Global};
 
@@ -21,12 +22,13 @@ fn used(
     script: &str,
     said: &mut Vec<u8>,
 ) -> (Result<String, AllocError>, MemDevice) {
+    let device = InVolume::new(device);
     let (end, device) = use_volume(alloc, &mut script.as_bytes(), said, device);
     let line = match end {
         Ok(end) => format!(in alloc; "! {end:?}\n"),
         Err(fault) => format!(in alloc; "! not mounted: {fault:?}\n"),
     };
-    (line, device)
+    (line, device.into_inner())
 }
 
 impl Talk {

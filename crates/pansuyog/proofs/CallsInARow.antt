@@ -5,7 +5,7 @@ use Rattle.lfs_model.specs.Call.{Answer, Call}
 use Rattle.lfs_model.specs.Device.{IsLawful, in_sectors}
 use Rattle.lfs_model.proofs.Walks.{Some-injective}
 use Rattle.lfs_fs.proofs.CallRuns as runs
-use Rattle.lfs_fs.proofs.InSectors.{lawful_in_sectors}
+use Rattle.lfs_model.proofs.UnitStates.{lawful_in_sectors}
 use Rattle.lfs_fs.specs.InARow as volume
 use Rattle.lfs_fs.specs.InARow.{IsTended, ServesInARow}
 use Rattle.lfs_fs.specs.Seen.{seen}
@@ -82,7 +82,7 @@ in_a_row last {old} (is_carried_out new code done rest) fs is =
 pub calls_are_kept : CallsAreKept
 calls_are_kept old new calls codes clocks row fs is first saved =
     let those = in_a_row new row fs is in
-    let kept = runs.calls_are_kept {state = in_sectors queue_state} (lawful_in_sectors lawful) (seen fs) (seen those.last) calls
+    let kept = runs.calls_are_kept {state = in_sectors queue_state} (lawful_in_sectors queue_state lawful) (seen fs) (seen those.last) calls
     those.answers clocks those.row ((λ j k same. same), tt) first saved in (
       those.last,
       those.mounted,

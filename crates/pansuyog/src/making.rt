@@ -14,6 +14,7 @@ ghost use Rattle.pansuyog.specs.Serving.{KeepsListing};
 ghost use Rattle.pansuyog.specs.declared.handle.Source.TheVariants as source_of;
 
 use crate::handle::{Handle, Source, Volume};
+use lfs_device::InSectors;
 use lfs_fs::{FormatFault, Fs, MountFault, format_version};
 use lfs_queue::QueueDevice;
 use pansuyog_calls::codes::{
@@ -102,13 +103,13 @@ fn mount_on(alloc: Global, volume: &mut Volume, device: QueueDevice) -> i32
     ensures mounts { MountsOn device volume.new.fs volume.new.source result }
     ensures listing { KeepsListing volume.old volume.new }
 {
-    match Fs::mount(alloc, device) {
+    match Fs::mount(alloc, InSectors::new(device)) {
         Ok(fs) => {
             volume.fs = Some(fs);
             0
         }
         Err((fault, device)) => {
-            volume.source = Source::Device(device);
+            volume.source = Source::Device(device.into_inner());
             code_of(fault)
         }
     }
@@ -138,7 +139,7 @@ pub extern "C" fn pansuyog_unmount(volume: &mut Handle) -> i32
     let volume = volume.volume();
     match volume.fs.take() {
         Some(fs) => {
-            volume.source = Source::Device(fs.into_device());
+            volume.source = Source::Device(fs.into_device().into_inner());
             0
         }
         None => NOT_MOUNTED,

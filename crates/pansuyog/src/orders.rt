@@ -18,7 +18,7 @@ fn device_of(volume: &Volume) -> Option<&QueueDevice>
     ensures none { IfNone result (device_in volume.now ≡ None) }
 {
     match &volume.fs {
-        Some(fs) => Some(fs.device()),
+        Some(fs) => Some(fs.device().device()),
         None => match &volume.source {
             Source::Device(device) => Some(device),
             Source::Image(_) => None,

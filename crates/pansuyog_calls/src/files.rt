@@ -7,11 +7,11 @@ ghost use Rattle.pansuyog_calls.specs.Serving.{Answers, ServesBytes, ServesCall,
 use crate::access::Access;
 use crate::bytes::put;
 use crate::codes::{NOT_MOUNTED, READ_ONLY, code_of, counted, done};
-use lfs_device::SectorDevice;
+use lfs_device::{InSectors, SectorDevice};
 use lfs_fs::Fs;
 
 /// Opens the file of a path: a handle on it.
-pub fn open<D: SectorDevice>(fs: &mut Option<Fs<D>>, path: &[u8]) -> i32
+pub fn open<D: SectorDevice>(fs: &mut Option<Fs<InSectors<D>>>, path: &[u8]) -> i32
     ensures serves { ServesCall (in_sectors D.state) fs.old fs.new (Open path.now) result }
 {
     match fs {
@@ -21,7 +21,11 @@ pub fn open<D: SectorDevice>(fs: &mut Option<Fs<D>>, path: &[u8]) -> i32
 }
 
 /// Makes an empty file: a handle on it.
-pub fn create<D: SectorDevice>(fs: &mut Option<Fs<D>>, access: Access, path: &[u8]) -> i32
+pub fn create<D: SectorDevice>(
+    fs: &mut Option<Fs<InSectors<D>>>,
+    access: Access,
+    path: &[u8],
+) -> i32
     ensures serves { ServesChange (in_sectors D.state) access fs.old fs.new (Create path.now) result }
 {
     match (fs, access) {
@@ -32,7 +36,7 @@ pub fn create<D: SectorDevice>(fs: &mut Option<Fs<D>>, access: Access, path: &[u
 }
 
 /// Gives up the handle of a file.
-pub fn close<D: SectorDevice>(fs: &mut Option<Fs<D>>, file: u32) -> i32
+pub fn close<D: SectorDevice>(fs: &mut Option<Fs<InSectors<D>>>, file: u32) -> i32
     ensures serves { ServesCall (in_sectors D.state) fs.old fs.new (Close file) result }
 {
     match fs {
@@ -42,7 +46,7 @@ pub fn close<D: SectorDevice>(fs: &mut Option<Fs<D>>, file: u32) -> i32
 }
 
 /// Reads a file into C's memory.
-fn read<D: SectorDevice>(fs: &mut Fs<D>, file: u32, offset: u64, out: &mut [u8]) -> i32
+fn read<D: SectorDevice>(fs: &mut Fs<InSectors<D>>, file: u32, offset: u64, out: &mut [u8]) -> i32
     ensures { Answers (in_sectors D.state) fs.old fs.new
         (Pread file offset (min (length out.old) (2 ^ 32 - 1)))
         (TellsBytes result out.old out.new) }
@@ -55,7 +59,12 @@ fn read<D: SectorDevice>(fs: &mut Fs<D>, file: u32, offset: u64, out: &mut [u8])
 }
 
 /// Reads the bytes of a file from an offset on: their number.
-pub fn pread<D: SectorDevice>(fs: &mut Option<Fs<D>>, file: u32, offset: u64, out: &mut [u8]) -> i32
+pub fn pread<D: SectorDevice>(
+    fs: &mut Option<Fs<InSectors<D>>>,
+    file: u32,
+    offset: u64,
+    out: &mut [u8],
+) -> i32
     ensures serves { ServesBytes (in_sectors D.state) fs.old fs.new
         (Pread file offset (min (length out.old) (2 ^ 32 - 1))) result out.old out.new }
 {
@@ -67,7 +76,7 @@ pub fn pread<D: SectorDevice>(fs: &mut Option<Fs<D>>, file: u32, offset: u64, ou
 
 /// Writes bytes into a file at an offset, all or none: their number.
 pub fn pwrite<D: SectorDevice>(
-    fs: &mut Option<Fs<D>>,
+    fs: &mut Option<Fs<InSectors<D>>>,
     access: Access,
     file: u32,
     offset: u64,
@@ -85,7 +94,12 @@ pub fn pwrite<D: SectorDevice>(
 }
 
 /// Cuts a file to a length, or makes it longer with zeros.
-pub fn truncate<D: SectorDevice>(fs: &mut Option<Fs<D>>, access: Access, file: u32, len: u64) -> i32
+pub fn truncate<D: SectorDevice>(
+    fs: &mut Option<Fs<InSectors<D>>>,
+    access: Access,
+    file: u32,
+    len: u64,
+) -> i32
     ensures serves { ServesChange (in_sectors D.state) access fs.old fs.new (Truncate file len)
         result }
 {

@@ -10,11 +10,15 @@ use crate::bytes::put;
 use crate::codes::{NOT_MOUNTED, code_of};
 use crate::rows::Entry;
 use crate::status::kind_in_c;
-use lfs_device::SectorDevice;
+use lfs_device::{InSectors, SectorDevice};
 use lfs_fs::Fs;
 
 /// Lists a directory: how many names it has.
-fn list_names<D: SectorDevice>(fs: &mut Fs<D>, path: &[u8], listing: &mut Vec<lfs_fs::Entry>) -> i32
+fn list_names<D: SectorDevice>(
+    fs: &mut Fs<InSectors<D>>,
+    path: &[u8],
+    listing: &mut Vec<lfs_fs::Entry>,
+) -> i32
     ensures { Answers (in_sectors D.state) fs.old fs.new (Readdir path.now)
         (TellsListing result listing.old.items listing.new.items) }
 {
@@ -30,7 +34,7 @@ fn list_names<D: SectorDevice>(fs: &mut Fs<D>, path: &[u8], listing: &mut Vec<lf
 
 /// Lists the directory of a path: how many names it has. They are kept until the next is listed.
 pub fn list<D: SectorDevice>(
-    fs: &mut Option<Fs<D>>,
+    fs: &mut Option<Fs<InSectors<D>>>,
     path: &[u8],
     listing: &mut Vec<lfs_fs::Entry>,
 ) -> i32

@@ -9,7 +9,7 @@ use crate::codes::{
     ALREADY_MOUNTED, DEVICE, INVAL, NOT_MOUNTED, READ_ONLY, TOO_SMALL, code_of_mount,
 };
 use crate::volume::VolumeIn;
-use lfs_device::SectorDevice;
+use lfs_device::{InSectors, SectorDevice};
 use lfs_fs::{FormatFault, Fs, format_version};
 use std::alloc::Global;
 
@@ -47,13 +47,13 @@ fn mount_on<D: SectorDevice + Drop>(alloc: Global, volume: &mut VolumeIn<D>, dev
     ensures mounts { MountsDevice (in_sectors D.state) device volume.new.fs volume.new.device result }
     ensures rest { KeepsListingAndAccess volume.old volume.new }
 {
-    match Fs::mount(alloc, device) {
+    match Fs::mount(alloc, InSectors::new(device)) {
         Ok(fs) => {
             volume.fs = Some(fs);
             0
         }
         Err((fault, device)) => {
-            volume.device = Some(device);
+            volume.device = Some(device.into_inner());
             code_of_mount(fault)
         }
     }
@@ -78,7 +78,7 @@ pub fn unmount<D: SectorDevice + Drop>(volume: &mut VolumeIn<D>) -> i32
 {
     match volume.fs.take() {
         Some(fs) => {
-            volume.device = Some(fs.into_device());
+            volume.device = Some(fs.into_device().into_inner());
             0
         }
         None => NOT_MOUNTED,

@@ -6,11 +6,11 @@ ghost use Rattle.pansuyog_calls.specs.Serving.{ServesChange};
 
 use crate::access::Access;
 use crate::codes::{NOT_MOUNTED, READ_ONLY, done};
-use lfs_device::SectorDevice;
+use lfs_device::{InSectors, SectorDevice};
 use lfs_fs::Fs;
 
 /// Makes an empty directory.
-pub fn mkdir<D: SectorDevice>(fs: &mut Option<Fs<D>>, access: Access, path: &[u8]) -> i32
+pub fn mkdir<D: SectorDevice>(fs: &mut Option<Fs<InSectors<D>>>, access: Access, path: &[u8]) -> i32
     ensures serves { ServesChange (in_sectors D.state) access fs.old fs.new (Mkdir path.now) result }
 {
     match (fs, access) {
@@ -21,7 +21,12 @@ pub fn mkdir<D: SectorDevice>(fs: &mut Option<Fs<D>>, access: Access, path: &[u8
 }
 
 /// Gives an object a further name.
-pub fn link<D: SectorDevice>(fs: &mut Option<Fs<D>>, access: Access, from: &[u8], to: &[u8]) -> i32
+pub fn link<D: SectorDevice>(
+    fs: &mut Option<Fs<InSectors<D>>>,
+    access: Access,
+    from: &[u8],
+    to: &[u8],
+) -> i32
     ensures serves { ServesChange (in_sectors D.state) access fs.old fs.new (LinkTo from.now to.now)
         result }
 {
@@ -34,7 +39,7 @@ pub fn link<D: SectorDevice>(fs: &mut Option<Fs<D>>, access: Access, from: &[u8]
 
 /// Makes a symbolic link with a text.
 pub fn symlink<D: SectorDevice>(
-    fs: &mut Option<Fs<D>>,
+    fs: &mut Option<Fs<InSectors<D>>>,
     access: Access,
     text: &[u8],
     path: &[u8],
@@ -50,7 +55,11 @@ pub fn symlink<D: SectorDevice>(
 }
 
 /// Takes the name of a file or a link away.
-pub fn unlink<D: SectorDevice>(fs: &mut Option<Fs<D>>, access: Access, path: &[u8]) -> i32
+pub fn unlink<D: SectorDevice>(
+    fs: &mut Option<Fs<InSectors<D>>>,
+    access: Access,
+    path: &[u8],
+) -> i32
     ensures serves { ServesChange (in_sectors D.state) access fs.old fs.new (Unlink path.now) result }
 {
     match (fs, access) {
@@ -61,7 +70,7 @@ pub fn unlink<D: SectorDevice>(fs: &mut Option<Fs<D>>, access: Access, path: &[u
 }
 
 /// Takes an empty directory away.
-pub fn rmdir<D: SectorDevice>(fs: &mut Option<Fs<D>>, access: Access, path: &[u8]) -> i32
+pub fn rmdir<D: SectorDevice>(fs: &mut Option<Fs<InSectors<D>>>, access: Access, path: &[u8]) -> i32
     ensures serves { ServesChange (in_sectors D.state) access fs.old fs.new (Rmdir path.now) result }
 {
     match (fs, access) {
@@ -73,7 +82,7 @@ pub fn rmdir<D: SectorDevice>(fs: &mut Option<Fs<D>>, access: Access, path: &[u8
 
 /// Gives an object another name, in one change.
 pub fn rename<D: SectorDevice>(
-    fs: &mut Option<Fs<D>>,
+    fs: &mut Option<Fs<InSectors<D>>>,
     access: Access,
     from: &[u8],
     to: &[u8],
@@ -89,7 +98,7 @@ pub fn rename<D: SectorDevice>(
 }
 
 /// Gives a directory the form that takes names of up to 123 bytes.
-pub fn widen<D: SectorDevice>(fs: &mut Option<Fs<D>>, access: Access, path: &[u8]) -> i32
+pub fn widen<D: SectorDevice>(fs: &mut Option<Fs<InSectors<D>>>, access: Access, path: &[u8]) -> i32
     ensures serves { ServesChange (in_sectors D.state) access fs.old fs.new (Widen path.now) result }
 {
     match (fs, access) {

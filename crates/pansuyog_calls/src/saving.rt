@@ -6,11 +6,11 @@ ghost use Rattle.pansuyog_calls.specs.Serving.{ServesCall, ServesChange};
 
 use crate::access::Access;
 use crate::codes::{NOT_MOUNTED, READ_ONLY, counted, done};
-use lfs_device::SectorDevice;
+use lfs_device::{InSectors, SectorDevice};
 use lfs_fs::Fs;
 
 /// Saves the whole volume, with the file of a handle.
-pub fn fsync<D: SectorDevice>(fs: &mut Option<Fs<D>>, access: Access, file: u32) -> i32
+pub fn fsync<D: SectorDevice>(fs: &mut Option<Fs<InSectors<D>>>, access: Access, file: u32) -> i32
     ensures serves { ServesChange (in_sectors D.state) access fs.old fs.new (Fsync file) result }
 {
     match (fs, access) {
@@ -22,7 +22,7 @@ pub fn fsync<D: SectorDevice>(fs: &mut Option<Fs<D>>, access: Access, file: u32)
 
 /// Saves the whole volume: behind `0` every call before survives a stop, once the device did what it
 /// was told.
-pub fn sync<D: SectorDevice>(fs: &mut Option<Fs<D>>, access: Access) -> i32
+pub fn sync<D: SectorDevice>(fs: &mut Option<Fs<InSectors<D>>>, access: Access) -> i32
     ensures serves { ServesChange (in_sectors D.state) access fs.old fs.new Sync result }
 {
     match (fs, access) {
@@ -33,7 +33,7 @@ pub fn sync<D: SectorDevice>(fs: &mut Option<Fs<D>>, access: Access) -> i32
 }
 
 /// Cleans segments until a quarter of them is clean.
-pub fn clean<D: SectorDevice>(fs: &mut Option<Fs<D>>, access: Access) -> i32
+pub fn clean<D: SectorDevice>(fs: &mut Option<Fs<InSectors<D>>>, access: Access) -> i32
     ensures serves { ServesChange (in_sectors D.state) access fs.old fs.new Clean result }
 {
     match (fs, access) {
@@ -45,7 +45,7 @@ pub fn clean<D: SectorDevice>(fs: &mut Option<Fs<D>>, access: Access) -> i32
 
 /// 1 where fewer than a quarter of the segments is clean, so that a cleaning has something to do;
 /// else 0.
-pub fn is_cleaning_due<D: SectorDevice>(fs: &Option<Fs<D>>) -> i32
+pub fn is_cleaning_due<D: SectorDevice>(fs: &Option<Fs<InSectors<D>>>) -> i32
     ensures { TellsDue fs.now result }
 {
     match fs {
@@ -56,7 +56,7 @@ pub fn is_cleaning_due<D: SectorDevice>(fs: &Option<Fs<D>>) -> i32
 
 /// One pass of the cleaner where that is so, and none else. What isn't saved is saved before it. The
 /// device is told at most 520 orders, and 8 more for each segment.
-pub fn clean_once<D: SectorDevice>(fs: &mut Option<Fs<D>>, access: Access) -> i32
+pub fn clean_once<D: SectorDevice>(fs: &mut Option<Fs<InSectors<D>>>, access: Access) -> i32
     ensures serves { ServesChange (in_sectors D.state) access fs.old fs.new Clean result }
     ensures once { CleansOnceIn (in_sectors D.state) fs.old fs.new result }
 {
@@ -68,7 +68,7 @@ pub fn clean_once<D: SectorDevice>(fs: &mut Option<Fs<D>>, access: Access) -> i3
 }
 
 /// The version of the volume's layout: 1 or 2.
-pub fn version<D: SectorDevice>(fs: &mut Option<Fs<D>>) -> i32
+pub fn version<D: SectorDevice>(fs: &mut Option<Fs<InSectors<D>>>) -> i32
     ensures serves { ServesCall (in_sectors D.state) fs.old fs.new Version result }
 {
     match fs {
@@ -78,7 +78,7 @@ pub fn version<D: SectorDevice>(fs: &mut Option<Fs<D>>) -> i32
 }
 
 /// Raises the version of the volume's layout to 2.
-pub fn upgrade<D: SectorDevice>(fs: &mut Option<Fs<D>>, access: Access) -> i32
+pub fn upgrade<D: SectorDevice>(fs: &mut Option<Fs<InSectors<D>>>, access: Access) -> i32
     ensures serves { ServesChange (in_sectors D.state) access fs.old fs.new Upgrade result }
 {
     match (fs, access) {

@@ -12,7 +12,7 @@ ghost use Rattle.pansuyog_calls.specs.Telling.{IsStat, ServesSpace, ServesStat, 
 use crate::bytes::put;
 use crate::codes::{NOT_MOUNTED, code_of};
 use crate::rows::{Space, Stat};
-use lfs_device::SectorDevice;
+use lfs_device::{InSectors, SectorDevice};
 use lfs_fs::{Fs, FsError};
 use lfs_model::Kind;
 
@@ -54,7 +54,7 @@ fn tell(found: Result<lfs_fs::Stat, FsError>, out: &mut Stat) -> i32
 }
 
 /// What is told of the object of a path.
-pub fn stat<D: SectorDevice>(fs: &mut Option<Fs<D>>, path: &[u8], out: &mut Stat) -> i32
+pub fn stat<D: SectorDevice>(fs: &mut Option<Fs<InSectors<D>>>, path: &[u8], out: &mut Stat) -> i32
     ensures serves { ServesStat (in_sectors D.state) fs.old fs.new (StatOf path.now) result
         out.old out.new }
 {
@@ -65,7 +65,7 @@ pub fn stat<D: SectorDevice>(fs: &mut Option<Fs<D>>, path: &[u8], out: &mut Stat
 }
 
 /// The same, where the last piece of the path may be a link that isn't followed.
-pub fn lstat<D: SectorDevice>(fs: &mut Option<Fs<D>>, path: &[u8], out: &mut Stat) -> i32
+pub fn lstat<D: SectorDevice>(fs: &mut Option<Fs<InSectors<D>>>, path: &[u8], out: &mut Stat) -> i32
     ensures serves { ServesStat (in_sectors D.state) fs.old fs.new (LstatOf path.now) result
         out.old out.new }
 {
@@ -76,7 +76,7 @@ pub fn lstat<D: SectorDevice>(fs: &mut Option<Fs<D>>, path: &[u8], out: &mut Sta
 }
 
 /// Reads the text of a link into C's memory.
-fn read_link<D: SectorDevice>(fs: &mut Fs<D>, path: &[u8], out: &mut [u8]) -> i32
+fn read_link<D: SectorDevice>(fs: &mut Fs<InSectors<D>>, path: &[u8], out: &mut [u8]) -> i32
     ensures { Answers (in_sectors D.state) fs.old fs.new (Readlink path.now)
         (TellsBytes result out.old out.new) }
 {
@@ -87,7 +87,11 @@ fn read_link<D: SectorDevice>(fs: &mut Fs<D>, path: &[u8], out: &mut [u8]) -> i3
 }
 
 /// The text of the link of a path, as much as there is room for: its whole length.
-pub fn readlink<D: SectorDevice>(fs: &mut Option<Fs<D>>, path: &[u8], out: &mut [u8]) -> i32
+pub fn readlink<D: SectorDevice>(
+    fs: &mut Option<Fs<InSectors<D>>>,
+    path: &[u8],
+    out: &mut [u8],
+) -> i32
     ensures serves { ServesBytes (in_sectors D.state) fs.old fs.new (Readlink path.now) result
         out.old out.new }
 {
@@ -98,7 +102,7 @@ pub fn readlink<D: SectorDevice>(fs: &mut Option<Fs<D>>, path: &[u8], out: &mut 
 }
 
 /// Tells C what the tree needs.
-fn measure<D: SectorDevice>(fs: &mut Fs<D>, out: &mut Space) -> i32
+fn measure<D: SectorDevice>(fs: &mut Fs<InSectors<D>>, out: &mut Space) -> i32
     ensures { Answers (in_sectors D.state) fs.old fs.new call.Space
         (TellsSpace result out.old out.new) }
 {
@@ -117,7 +121,7 @@ fn measure<D: SectorDevice>(fs: &mut Fs<D>, out: &mut Space) -> i32
 }
 
 /// What the tree needs, and the most that it may need.
-pub fn space<D: SectorDevice>(fs: &mut Option<Fs<D>>, out: &mut Space) -> i32
+pub fn space<D: SectorDevice>(fs: &mut Option<Fs<InSectors<D>>>, out: &mut Space) -> i32
     ensures serves { ServesSpace (in_sectors D.state) fs.old fs.new result out.old out.new }
 {
     match fs {

@@ -57,7 +57,7 @@ pub fn take<W: World>(
 /// The system's number (`errno`) of the newest call of the file that failed, or 0.
 pub fn last_error<W: World>(volume: &VolumeIn<FileDeviceIn<W>>) -> i32 {
     let found = match &volume.fs {
-        Some(fs) => fs.device().last_error(),
+        Some(fs) => fs.device().device().last_error(),
         None => match &volume.device {
             Some(device) => device.last_error(),
             None => None,

@@ -1,6 +1,5 @@
 use Rattle.lfs_fs.proofs.CallRuns.{calls_are_kept}
-use Rattle.lfs_fs.proofs.InSectors.{lawful_in_sectors}
 use Rattle.lfs_fs.proofs.laws.calls_are_kept.Goals as goal
 
 pub returns : goal.returns
-returns g c = calls_are_kept (lawful_in_sectors g.met.D.SectorDevice.lawful)
+returns g c = calls_are_kept g.met.D.SectorDevice.lawful

@@ -1,6 +1,5 @@
-use Rattle.lfs_model.specs.Device.{in_sectors}
 use Rattle.lfs_fs.proofs.CallRuns.{left_is_mounted}
 use Rattle.lfs_fs.proofs.laws.left_is_mounted.Goals as goal
 
 pub returns : goal.returns
-returns g c = left_is_mounted (in_sectors g.D.SectorDevice.state)
+returns g c = left_is_mounted g.D.SectorDevice.state

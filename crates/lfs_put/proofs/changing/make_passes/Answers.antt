@@ -2,7 +2,6 @@ use Rattle.std.proofs.lemmas.Result.{err_from_is_err_and}
 use Rattle.std.proofs.Common.{rules, ℕ, inl, inr, refl, sym, subst, add-one, arith}
 use Rattle.lfs_fs.specs.Seen.{seen}
 use Rattle.lfs_put.specs.Changing.{PassesOn}
-use Rattle.lfs_model.specs.Device.{in_sectors}
 use Rattle.lfs_put.proofs.changing.make_passes.Goals as goal
 
 pub loop-init : goal.loop-init
@@ -10,7 +9,7 @@ loop-init g c = refl
 
 pub loop-preserved : goal.loop-preserved
 loop-preserved g c =
-    subst (λ (n : ℕ). PassesOn (in_sectors g.D.SectorDevice.state) n (seen c.args.fs.now) (seen c.clean_once.new.self))
+    subst (λ (n : ℕ). PassesOn g.D.SectorDevice.state n (seen c.args.fs.now) (seen c.clean_once.new.self))
     (sym (add-one c.loop.counter))
     (seen c.loop.fs, c.loop.invariant, c.in_ok-clean_once.ensures.serves, c.in_ok-clean_once.ensures.once)
 

@@ -1,19 +1,18 @@
 use Rattle.std.proofs.Common.{refl}
 use Rattle.lfs_script.proofs.HeardBytes.{hears_more}
 use Rattle.lfs_script.proofs.Used.{used_saved, used_told}
-use Rattle.lfs_fs.proofs.InSectors.{lawful_in_sectors}
 use Rattle.lfs_script.proofs.noted.use_volume_noted.Goals as goal
 
 pub returns-in-Ok-clause-ran : goal.returns-in-Ok-clause-ran
 returns-in-Ok-clause-ran g c =
     rw c.into_device.ensures (used_told c.args.device _ _ c.in-Ok.fs _ _
-    (lawful_in_sectors g.met.D.SectorDevice.lawful) c.in-Ok.ensures.only c.in-Ok.ensures.durable
+    g.met.D.SectorDevice.lawful c.in-Ok.ensures.only c.in-Ok.ensures.durable
     c.in-Ok.ensures.untouched c.in-Ok.ensures.carries c.in-Ok.ensures.any_moment c.in-Ok.ensures.no_failure c.run_noted-script.ensures.ends)
 
 pub returns-in-Ok-clause-saved : goal.returns-in-Ok-clause-saved
 returns-in-Ok-clause-saved g c =
     rw c.into_device.ensures (used_saved c.args.device _ _ c.in-Ok.fs _ _
-    (lawful_in_sectors g.met.D.SectorDevice.lawful) c.in-Ok.ensures.only c.in-Ok.ensures.durable
+    g.met.D.SectorDevice.lawful c.in-Ok.ensures.only c.in-Ok.ensures.durable
     c.in-Ok.ensures.untouched c.in-Ok.ensures.carries c.in-Ok.ensures.any_moment c.in-Ok.ensures.no_failure c.run_noted-script.ensures.ends
     c.is_saved-is_saved.ensures.kept)
 
@@ -21,7 +20,7 @@ pub returns-in-Ok-clause-heard : goal.returns-in-Ok-clause-heard
 returns-in-Ok-clause-heard g c =
     rw c.into_device.ensures (hears_more _ _ _ _ (λ r r' ended. (
       used_saved c.args.device _ _ c.in-Ok.fs _ _
-          (lawful_in_sectors g.met.D.SectorDevice.lawful) c.in-Ok.ensures.only c.in-Ok.ensures.durable
+          g.met.D.SectorDevice.lawful c.in-Ok.ensures.only c.in-Ok.ensures.durable
           c.in-Ok.ensures.untouched c.in-Ok.ensures.carries c.in-Ok.ensures.any_moment c.in-Ok.ensures.no_failure ended.0
           c.is_saved-is_saved.ensures.kept,
       ended.1,

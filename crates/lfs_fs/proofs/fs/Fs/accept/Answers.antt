@@ -1,12 +1,11 @@
 use Rattle.std.proofs.Common.{ap, Err}
 use Rattle.lfs_fs.proofs.write.Ends.{turned_down}
 use Rattle.lfs_fs.proofs.calls.DraftSizes.{never_large}
-use Rattle.lfs_model.specs.Device.{in_sectors}
 use Rattle.lfs_fs.proofs.fs.Fs.accept.Goals as goal
 
 pub returns-in-Err-accept-clause-refused : goal.returns-in-Err-accept-clause-refused
 returns-in-Err-accept-clause-refused g c =
-    turned_down (in_sectors g.D.SectorDevice.state) c.args.self.now record {
+    turned_down g.D.SectorDevice.state c.args.self.now record {
       alloc = c.args.self.now.alloc;
       store = c.accept.new.self;
       handles = c.args.self.now.handles;

@@ -2,7 +2,6 @@ use Rattle.lfs_fs.proofs.Prelude.{refl}
 use Rattle.lfs_fs.proofs.paths.Steps.{readlink_refused}
 use Rattle.lfs_fs.proofs.read.Calls.{readlink_fails, readlink_gives}
 use Rattle.lfs_fs.proofs.Exits.{asked_fails, returned}
-use Rattle.lfs_fs.proofs.InSectors.{lawful_in_sectors}
 use Rattle.lfs_fs.proofs.fs.Fs.readlink.Goals as goal
 
 pub returns-in_err-number : goal.returns-in_err-number
@@ -14,10 +13,10 @@ pub returns-in_err-text : goal.returns-in_err-text
 returns-in_err-text g c =
     rw (returned c.from_residual-in_err-text.ensures)
     (let read = c.in_err-text.ensures in
-    asked_fails (readlink_fails (lawful_in_sectors g.met.D.SectorDevice.lawful) c.in_ok-number.ensures.found _ read.only.reads) read.only
+    asked_fails (readlink_fails g.met.D.SectorDevice.lawful c.in_ok-number.ensures.found _ read.only.reads) read.only
     read.refused)
 
 pub returns : goal.returns
 returns g c =
     let read = c.in_ok-text.ensures in
-    readlink_gives (lawful_in_sectors g.met.D.SectorDevice.lawful) c.in_ok-number.ensures.found _ read.only.reads read.answer
+    readlink_gives g.met.D.SectorDevice.lawful c.in_ok-number.ensures.found _ read.only.reads read.answer

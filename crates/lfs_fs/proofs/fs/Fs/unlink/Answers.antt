@@ -4,15 +4,14 @@ use Rattle.lfs_fs.proofs.paths.Places.{nowhere_serves}
 use Rattle.lfs_fs.proofs.unlink.Ends.{unlink_ends}
 use Rattle.lfs_steps.proofs.unlink.Steps.{unlink_call, unlink_refused}
 use Rattle.lfs_fs.proofs.Exits.{asked_fails, entry_fits, returned}
-use Rattle.lfs_fs.proofs.InSectors.{lawful_in_sectors}
 use Rattle.lfs_fs.proofs.fs.Fs.unlink.Goals as goal
 
 -- the path is refused, or has no piece
 pub returns-in_err-directory : goal.returns-in_err-directory
 returns-in_err-directory g c =
     rw (returned c.from_residual.ensures)
-    (nowhere_serves (lawful_in_sectors g.met.D.SectorDevice.lawful) _ _ _ _ refl refl refl (λ k m0 m s keeps is. unlink_refused _ s _)
-    _ _ c.in_err-directory.ensures.refused (λ d. no_piece_perm (lawful_in_sectors g.met.D.SectorDevice.lawful) (unlink_call _ _ d) refl))
+    (nowhere_serves g.met.D.SectorDevice.lawful _ _ _ _ refl refl refl (λ k m0 m s keeps is. unlink_refused _ s _)
+    _ _ c.in_err-directory.ensures.refused (λ d. no_piece_perm g.met.D.SectorDevice.lawful (unlink_call _ _ d) refl))
 
 -- the rule takes no entry
 pub returns-in_err-entry : goal.returns-in_err-entry
@@ -20,24 +19,24 @@ returns-in_err-entry g c =
     let begun = c.in_ok-directory.ensures.begun in
     let why = c.in_err-entry.ensures in
     rw (returned c.from_residual-in_err-entry.ensures)
-    (asked_fails (entry_refused (lawful_in_sectors g.met.D.SectorDevice.lawful) (unlink_call _ _ _) refl begun.reached begun.ready _
+    (asked_fails (entry_refused g.met.D.SectorDevice.lawful (unlink_call _ _ _) refl begun.reached begun.ready _
     why.only.reads)
     why.only why.refused)
 
 pub finish-requires-clause-room : goal.finish-requires-clause-room
 finish-requires-clause-room g c =
     let draft = c.drop_entry-drafted.ensures in
-    entry_fits (lawful_in_sectors g.met.D.SectorDevice.lawful) c.in_ok-directory.ensures.begun c.in_ok-entry.ensures.only
+    entry_fits g.met.D.SectorDevice.lawful c.in_ok-directory.ensures.begun c.in_ok-entry.ensures.only
     draft.only 4 2 (omega arith) draft.small
 
 pub returns : goal.returns
 returns g c =
     let begun = c.in_ok-directory.ensures.begun in
     let drops = c.drop_entry-drafted.ensures in
-    unlink_ends (lawful_in_sectors g.met.D.SectorDevice.lawful) begun.reached begun.ready _ c.in_ok-entry.ensures.only.reads
+    unlink_ends g.met.D.SectorDevice.lawful begun.reached begun.ready _ c.in_ok-entry.ensures.only.reads
     c.in_ok-entry.ensures.has
     _ drops.only.redrafts c.gives-is_open.ensures.open c.gives-is_open.ensures.shut c.finish.new.self c.finish.ensures.rest _ _
     c.finish.ensures.ends
-    (entry_fits (lawful_in_sectors g.met.D.SectorDevice.lawful) c.in_ok-directory.ensures.begun c.in_ok-entry.ensures.only
+    (entry_fits g.met.D.SectorDevice.lawful c.in_ok-directory.ensures.begun c.in_ok-entry.ensures.only
     drops.only 4 2 (omega arith) drops.small)
     drops.done drops.counted drops.failed drops.only.halted drops.only.other

@@ -1,15 +1,13 @@
 use Rattle.lfs_fs.proofs.Prelude.{seen}
 use Rattle.lfs_fs.proofs.read.Ends.{begun_version}
 use Rattle.lfs_fs.proofs.Exits.{returned, unbegun}
-use Rattle.lfs_fs.proofs.InSectors.{lawful_in_sectors}
-use Rattle.lfs_model.specs.Device.{in_sectors}
 use Rattle.lfs_fs.proofs.fs.Fs.version.Goals as goal
 
 pub returns-in_err-begin : goal.returns-in_err-begin
 returns-in_err-begin g c =
-    rw (returned c.from_residual.ensures) (unbegun (lawful_in_sectors g.met.D.SectorDevice.lawful) c.in_err-begin.ensures)
+    rw (returned c.from_residual.ensures) (unbegun g.met.D.SectorDevice.lawful c.in_err-begin.ensures)
 
 pub returns : goal.returns
 returns g c =
-    begun_version (in_sectors g.D.SectorDevice.state) ((lawful_in_sectors g.met.D.SectorDevice.lawful) (seen c.begin.new.self).log.device)
+    begun_version g.D.SectorDevice.state (g.met.D.SectorDevice.lawful (seen c.begin.new.self).log.device)
     c.in_ok-begin.ensures.done c.version.ensures.value

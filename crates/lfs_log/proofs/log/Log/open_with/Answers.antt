@@ -7,6 +7,11 @@ with_tables-requires-clause-found g c = rw c.in-Ok-verify.ensures.looks.untouche
 pub with_tables-requires-clause-durable : goal.with_tables-requires-clause-durable
 with_tables-requires-clause-durable g c = rw c.in-Ok-verify.ensures.looks.untouched.content c.in-Ok-verify.ensures.durable
 
+pub with_tables-requires-clause-units : goal.with_tables-requires-clause-units
+with_tables-requires-clause-units g c =
+    let looks = c.in-Ok-verify.ensures.looks in
+    rw (looks.untouched.content, looks.carries.unit, c.in-Ok.ensures) c.requires.units
+
 pub returns-in-Err-verify : goal.returns-in-Err-verify
 returns-in-Err-verify g c =
     let told = c.in-Err-verify.ensures in

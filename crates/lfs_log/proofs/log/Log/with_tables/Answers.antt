@@ -6,7 +6,7 @@ pub returns-in-Ok-open_memory-clause-opened : goal.returns-in-Ok-open_memory-cla
 returns-in-Ok-open_memory-clause-opened g c =
     let told = c.in-Ok-open_memory.ensures in
     opened_log g.D.SectorDevice.state _ (g.met.D.SectorDevice.lawful c.args.device)
-    (g.met.D.SectorUnits.units c.args.device) c.requires.durable c.requires.loaded c.requires.found
+    c.requires.units c.requires.durable c.requires.loaded c.requires.found
     (told.opened _ c.requires.loaded) told.usage told.map c.new-version.ensures told.number refl refl refl told.data_blocks told.meta_blocks
 
 pub invariant_of-result : goal.invariant_of-result
