@@ -27,6 +27,7 @@ AT_ANSWER = re.compile(r"(?:note: )?(?:\./)?proofs/(\S+)/\w+\.antt:\d+:\d+: erro
 # A lemma stands in a file right in proofs/. Where definitions are edited, that of a law may be what isn't proved.
 AT_LEMMA = re.compile(r"(?:note: )?(?:\./)?proofs/\w+\.antt:\d+:\d+: error: `([^`]+)`: (.*)")
 GOAL = re.compile(r"\(`([^`]+)`\)")
+UNPROVED = re.compile(r"it is not proved that|`search` found no proof")
 # A proof file names what an edit took away: that says nothing of the contract.
 GONE = re.compile(r"has no field|is not in scope|has no `|was not admitted")
 # The last check of each lane: the edited files, and what the prover said.
@@ -134,7 +135,7 @@ def goals_of(said, texts, folder):
             found.append(f"lemma {at_lemma[1]}")
         elif at_answer and not GONE.search(at_answer[3]):
             found.append(f"{at_answer[1].split('/')[-1]} {clause_of(at_answer[2])}")
-        elif at_source and "it is not proved that" in at_source[3]:
+        elif at_source and UNPROVED.search(at_source[3]):
             path, number, what = at_source.groups()
             goal = GOAL.search(what)
             text = texts.get(path) or crates.read(f"{folder}/{path}")

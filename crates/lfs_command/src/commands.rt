@@ -139,14 +139,12 @@ fn play<D: SectorDevice, I: Read, W: Write, S: Witness<D, W>>(
     requires { HasWholeUnits (D.state device) }
     ensures plays { Plays result.0.end (I.remaining input.old) (I.remaining input.new)
         (W.contents output.old) (W.contents output.new) (D.state device)
-        (D.state result.1)
-        (S.glances witness.old) (S.glances witness.new) }
+        (D.state result.1) (S.glances witness.old) (S.glances witness.new) }
     ensures reads { TellsInput result.0.end (S.failures witness.old) (S.failures witness.new)
         (I.remaining input.old) (I.remaining input.new) }
     ensures saved { TellsSaved result.0.is_saved false (I.remaining input.old)
         (I.remaining input.new) (W.contents output.old) (D.state device)
-        (D.state result.1)
-        (S.glances witness.old) (S.glances witness.new) }
+        (D.state result.1) (S.glances witness.old) (S.glances witness.new) }
     ensures heard { HearsTo (S.heard witness.old) (S.heard witness.new) (λ r r'.
         Plays result.0.end r r' (W.contents output.old) (W.contents output.new)
         (D.state device) (D.state result.1)
@@ -262,8 +260,7 @@ fn play_strict<D: SectorDevice, I: Read, W: Write, S: Witness<D, W>>(
     requires { HasWholeUnits (D.state device) }
     ensures plays { PlaysStrictly result.0.end (I.remaining input.old) (I.remaining input.new)
         (W.contents output.old) (W.contents output.new) (D.state device)
-        (D.state result.1)
-        (S.glances witness.old) (S.glances witness.new) }
+        (D.state result.1) (S.glances witness.old) (S.glances witness.new) }
     ensures refused { result.0.end ≡ Ok Outcome.CallRefused
         → PlaysToRefusal (I.remaining input.old) (I.remaining input.new) (W.contents output.old)
         (W.contents output.new) (D.state device) (D.state result.1)
@@ -273,8 +270,7 @@ fn play_strict<D: SectorDevice, I: Read, W: Write, S: Witness<D, W>>(
         (I.remaining input.old) (I.remaining input.new) }
     ensures saved { TellsSaved result.0.is_saved true (I.remaining input.old)
         (I.remaining input.new) (W.contents output.old) (D.state device)
-        (D.state result.1)
-        (S.glances witness.old) (S.glances witness.new) }
+        (D.state result.1) (S.glances witness.old) (S.glances witness.new) }
     ensures heard { HearsTo (S.heard witness.old) (S.heard witness.new) (λ r r'.
         PlaysStrictly result.0.end r r' (W.contents output.old) (W.contents output.new)
         (D.state device) (D.state result.1)

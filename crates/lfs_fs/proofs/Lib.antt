@@ -1,7 +1,6 @@
 mod Prelude
 mod Exits
 pub mod Bearing
-pub mod VolumeUnits
 mod calls
 mod volume
 mod paths

@@ -41,8 +41,7 @@ pub fn use_volume_noted<R: Read, W: Write, D: SectorDevice, S: Witness<D, W>>(
     requires { HasWholeUnits (D.state device) }
     ensures ran { IfOk result.0 (λ end. SessionNoted strict end.script (R.remaining reader.old)
         (R.remaining reader.new) (W.contents writer.old) (W.contents writer.new)
-        (D.state device)
-        (D.state result.1) (S.glances witness.old) (S.glances witness.new)) }
+        (D.state device) (D.state result.1) (S.glances witness.old) (S.glances witness.new)) }
     ensures saved { IfOk result.0 (λ end. SessionSaved end.is_saved strict end.script
         (R.remaining reader.old) (R.remaining reader.new) (W.contents writer.old)
         (W.contents writer.new) (D.state device) (D.state result.1)
@@ -57,8 +56,7 @@ pub fn use_volume_noted<R: Read, W: Write, D: SectorDevice, S: Witness<D, W>>(
         × ReadsTo end.script (S.failures witness.old) (S.failures witness.new) r r')) }
     ensures refused { IfErr result.0 (IsUnused reader.old reader.new writer.old writer.new
         (D.state device) (D.state result.1)) }
-    ensures untouched { OnErr result.0 (IsUntouched (D.state device) (D.state
-        result.1)) }
+    ensures untouched { OnErr result.0 (IsUntouched (D.state device) (D.state result.1)) }
     ensures unseen { OnErr result.0 (witness.new ≡ witness.old) }
     ensures carries { Carries (D.state device) (D.state result.1) }
 {

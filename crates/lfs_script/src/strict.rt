@@ -21,12 +21,10 @@ pub fn use_volume_strict<R: Read, W: Write, D: SectorDevice>(
     requires { HasWholeUnits (D.state device) }
     ensures ran { IfOk result.0 (λ end. StrictSession end (R.remaining reader.old)
         (R.remaining reader.new) (W.contents writer.old) (W.contents writer.new)
-        (D.state device)
-        (D.state result.1)) }
+        (D.state device) (D.state result.1)) }
     ensures refused { IfErr result.0 (IsUnused reader.old reader.new writer.old writer.new
         (D.state device) (D.state result.1)) }
-    ensures untouched { OnErr result.0 (IsUntouched (D.state device) (D.state
-        result.1)) }
+    ensures untouched { OnErr result.0 (IsUntouched (D.state device) (D.state result.1)) }
     ensures carries { Carries (D.state device) (D.state result.1) }
 {
     match Fs::mount(alloc, device) {

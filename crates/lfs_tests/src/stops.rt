@@ -1,7 +1,7 @@
 //! A file that is put over another on a device that stops at each of its writes.
 use lfs_command::device::{Left, MemDevice};
 use lfs_command::put;
-use lfs_command::script::fs::{Fs, format};
+use lfs_command::script::fs::{Fs, InVolume, format};
 use std::alloc::Global;
 use std::test::Fail;
 
@@ -10,8 +10,8 @@ const OLD: &[u8] = b"old";
 const NEW: &[u8] = b"newer";
 
 // A volume on the heap, where each end of a function drops it by one call.
-fn mounted(alloc: Global, device: MemDevice) -> Result<Box<Fs<MemDevice>>, Fail> {
-    match Fs::mount(alloc, device) {
+fn mounted(alloc: Global, device: MemDevice) -> Result<Box<Fs<InVolume<MemDevice>>>, Fail> {
+    match Fs::mount(alloc, InVolume::new(device)) {
         Ok(fs) => Ok(Box::new(alloc, fs)?),
         Err(_) => Err(Fail::from("not mounted")),
     }
@@ -21,7 +21,7 @@ fn mounted(alloc: Global, device: MemDevice) -> Result<Box<Fs<MemDevice>>, Fail>
 fn used(alloc: Global, device: MemDevice, mut bytes: &[u8]) -> Result<(bool, MemDevice), Fail> {
     let mut fs = mounted(alloc, device)?;
     let is_put = put(alloc, &mut fs, b"/f", &mut bytes).is_ok();
-    Ok((is_put, Box::into_inner(fs).into_device()))
+    Ok((is_put, Box::into_inner(fs).into_device().into_inner()))
 }
 
 // A device whose volume has the old file.
