@@ -84,6 +84,11 @@ def meant_for(edit):
     return next((line[len(MEANT) :].strip() for line in crates.read(edit).splitlines() if line.startswith(MEANT)), None)
 
 
+def is_meant(meant, goal):
+    """Whether a goal is the one that is meant, or the one of some way to return where a whole function's is."""
+    return goal == meant or (meant.endswith(" returns") and goal.startswith(f"{meant}-"))
+
+
 def link(path, to):
     """A second name of a file, which nobody changes in place; a copy where the file system has no such names."""
     try:
@@ -209,7 +214,7 @@ class Bench:
         # Some kits have a word for a refusal, others say whether there was one.
         if came_to != getattr(self.rt, "REFUSED", True):
             return Tried(edit, False, text)
-        if meant and meant not in goals:
+        if meant and not any(is_meant(meant, goal) for goal in goals):
             return Tried(edit, True, f"refused, but not for what it is meant for ({meant}): " + "; ".join(goals))
         names_alone = "only because" in text
         return Tried(edit, True, "refused for names alone" if names_alone else "; ".join(goals) or text.partition("as it must be: ")[2])

@@ -95,7 +95,7 @@ module _ {D : Type 0} (state : D → DeviceState) where
       let none = due_none now s.saved in (
         next.0,
         record {
-          holds = next.1;
+          holds = next.2;
           map = may.map;
           shown = may.shown;
           counted = rw totals may.counted;

@@ -1,7 +1,7 @@
 -- Commits and passes, one after the other: the log map stays, and what a stop leaves is the one or the other.
 use Rattle.std.proofs.Common.{◌≡◌, ◌≤◌, ◌+◌, inl, inr, ⊎_elim, ℕ, zero, suc, false, List, refl, ◌∙◌, subst}
 use Rattle.std.proofs.Common.{arith}
-use Rattle.lfs_model.specs.Checkpoint.{CheckpointValue}
+use Rattle.lfs_model.specs.Checkpoint.{CheckpointValue, Shape, shape_of}
 use Rattle.lfs_model.specs.Content.{Content}
 use Rattle.lfs_model.specs.Crash.{StandsOn}
 use Rattle.lfs_model.specs.Device.{DeviceState, IsLawful, Carries}
@@ -9,7 +9,6 @@ use Rattle.lfs_model.specs.Stands.{LogMap}
 use Rattle.lfs_model.specs.TreeOf.{dropped}
 use Rattle.lfs_model.proofs.Moments.{carries_none, carries_then, started, joined, weaker}
 use Rattle.lfs_log.proofs.LogReads.{acknowledged, held_still, looks_leave, rest_reads}
-use Rattle.lfs_log.proofs.Volumes.{same_segments}
 use Rattle.lfs_log.specs.Cleaning.{Cleans}
 use Rattle.lfs_log.specs.LogState.{LogState, Halts, Holds, IsReadFault, IsSaved, LeavesSaved, Reads, Saves}
 use Rattle.lfs_cleaner.specs.Making.{Acknowledges, HaltsLater, HoldsOver, IsAtRest, IsCleanFault, KeepsMap, PassesInNeed, PassesOn, Repeats}
@@ -53,7 +52,7 @@ module _ {D : Type 0} (state : D → DeviceState) where
     holds = λ k m0 m keeps is map.
         record { checkpoint = k; acknowledged = m0; either = inl refl; same = refl; holds = held_still _ reads is };
     moment = λ k m0 m keeps is map.
-        weaker (λ c. StandsOn k.segments c m0) _ (λ c there. inl there) (looks_leave _ m lawful reads.looks is);
+        weaker (λ c. StandsOn (shape_of k) c m0) _ (λ c there. inl there) (looks_leave _ m lawful reads.looks is);
   }
 
   pub saves_all : {h h' : LogState D} → Saves state h h' → SavesAll state h h'
@@ -79,8 +78,8 @@ module _ {D : Type 0} (state : D → DeviceState) where
           checkpoint = next.0;
           acknowledged = dropped m;
           either = inr refl;
-          same = same_segments _ _ segments is next.1;
-          holds = next.1;
+          same = next.1;
+          holds = next.2;
         };
     moment = moment;
   }
@@ -107,17 +106,17 @@ module _ {D : Type 0} (state : D → DeviceState) where
 
   -- ---- one step after another
   -- what is one of the two for the log map in the middle is one of the two for that at the start
-  module _ {b : LogState D} (k : CheckpointValue) {m0 m : LogMap} (over : HoldsOver state k.segments m0 m b) where
-    saved_still : (c : Content) → IsSaved state over.checkpoint.segments over.acknowledged m c → IsSaved state k.segments m0 m c
+  module _ {b : LogState D} (k : CheckpointValue) {m0 m : LogMap} (over : HoldsOver state (shape_of k) m0 m b) where
+    saved_still : (c : Content) → IsSaved state (shape_of over.checkpoint) over.acknowledged m c → IsSaved state (shape_of k) m0 m c
     saved_still c is = ⊎_elim
-        (λ (first : StandsOn over.checkpoint.segments c over.acknowledged).
-        let here : StandsOn k.segments c over.acknowledged = rw (← over.same) first in
+        (λ (first : StandsOn (shape_of over.checkpoint) c over.acknowledged).
+        let here : StandsOn (shape_of k) c over.acknowledged = rw (← over.same) first in
         ⊎_elim
         (λ (old : over.acknowledged ≡ m0). inl (rw (← old) here))
         (λ (new : over.acknowledged ≡ dropped m). inr (rw (← new) here)) over.either)
-        (λ (second : StandsOn over.checkpoint.segments c (dropped m)). inr (rw (← over.same) second)) is
+        (λ (second : StandsOn (shape_of over.checkpoint) c (dropped m)). inr (rw (← over.same) second)) is
 
-    over_then : {c : LogState D} → HoldsOver state over.checkpoint.segments over.acknowledged m c → HoldsOver state k.segments m0 m c
+    over_then : {c : LogState D} → HoldsOver state (shape_of over.checkpoint) over.acknowledged m c → HoldsOver state (shape_of k) m0 m c
     over_then next = record {
       checkpoint = next.checkpoint;
       acknowledged = next.acknowledged;
@@ -160,7 +159,8 @@ module _ {D : Type 0} (state : D → DeviceState) where
       rest = all.rest;
       holds = λ k m0 m keeps is map.
           let over = one.holds k m0 m (after.kept_before keeps) is map in
-          all.holds over.checkpoint over.acknowledged m keeps over.holds map;
+          let next = all.holds over.checkpoint over.acknowledged m keeps over.holds map in
+          (next.0, next.1 ∙ over.same, next.2);
     }
 
     -- ---- a failure ends it
@@ -259,7 +259,7 @@ module _ {D : Type 0} (state : D → DeviceState) where
       → Acknowledges state a c
   acknowledges_still a c all passes k m0 m keeps is map =
       let first = all k m0 m (passes.carries.kept_before keeps) is map in
-      let over = passes.holds first.0 (dropped m) m keeps first.1 map in
+      let over = passes.holds first.0 (dropped m) m keeps first.2 map in
       let same : over.acknowledged ≡ dropped m = ⊎_elim (λ (old : over.acknowledged ≡ dropped m). old)
       (λ (new : over.acknowledged ≡ dropped m). new) over.either in
-      (over.checkpoint, subst (λ (l : LogMap). Holds state c over.checkpoint l m) same over.holds)
+      (over.checkpoint, over.same ∙ first.1, subst (λ (l : LogMap). Holds state c over.checkpoint l m) same over.holds)

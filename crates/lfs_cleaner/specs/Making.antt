@@ -1,6 +1,6 @@
 -- What is left where the cleaner makes room: it commits what is unsaved, and passes until a quarter of the segments is clean.
 use Rattle.std.specs.Prelude.{◌≡◌, ◌⊎◌, ◌<◌, ◌≤◌, ◌+◌, ◌-◌, ◌*◌, ◌/◌, ◌^◌, ℕ, zero, suc, true, false, length}
-use Rattle.lfs_model.specs.Checkpoint.{CheckpointValue}
+use Rattle.lfs_model.specs.Checkpoint.{CheckpointValue, Shape, shape_of}
 use Rattle.lfs_model.specs.declared.limits.TheConstants.{LEAST_NEED, NEED_OF_META, NEED_OF_SEGMENT}
 use Rattle.lfs_model.specs.Device.{DeviceState, Carries, AllLeft}
 use Rattle.lfs_model.specs.Encodes.{IsLogMap}
@@ -46,12 +46,12 @@ pub record StaysUnsaved {D : Type 0} (h h' : LogState D) : Type 0 where
   pub clean : HasReserve h.segments h.clean → HasReserve h'.segments h'.clean
 
 module _ {D : Type 0} (state : D → DeviceState) where
-  -- The log has log map m, over what was acknowledged before, m0, or over m without its files of no links. It has so many segments.
-  pub record HoldsOver (segments : ℕ) (m0 m : LogMap) (h : LogState D) : Type 0 where
+  -- The log has log map m, over what was acknowledged before, m0, or over m without its files of no links. The volume has this shape.
+  pub record HoldsOver (shape : Shape) (m0 m : LogMap) (h : LogState D) : Type 0 where
     pub checkpoint : CheckpointValue
     pub acknowledged : LogMap
     pub either : (acknowledged ≡ m0) ⊎ (acknowledged ≡ dropped m)
-    pub same : checkpoint.segments ≡ segments
+    pub same : shape_of checkpoint ≡ shape
     pub holds : Holds state h checkpoint acknowledged m
 
   -- At most so many checkpoints were written, and the log map is the same. A stop meanwhile left what was acknowledged, or the log map
@@ -67,14 +67,14 @@ module _ {D : Type 0} (state : D → DeviceState) where
     pub rest : IsAtRest h → IsAtRest h'
     pub holds : (k : CheckpointValue) (m0 m : LogMap) → (state h'.device).keeps_model
         → Holds state h k m0 m → IsLogMap (dropped m)
-        → HoldsOver k.segments m0 m h'
+        → HoldsOver (shape_of k) m0 m h'
     pub moment : LeavesSaved state h h'
 
   -- the log map, without its files of no links, is acknowledged then
   abbrev pub Acknowledges : LogState D → LogState D → Type 0
   Acknowledges h h' = (k : CheckpointValue) (m0 m : LogMap) → (state h'.device).keeps_model
       → Holds state h k m0 m → IsLogMap (dropped m)
-      → (next : CheckpointValue) × Holds state h' next (dropped m) m
+      → (next : CheckpointValue) × (shape_of next ≡ shape_of k) × Holds state h' next (dropped m) m
 
   -- It is, and nothing of it is unsaved.
   pub record SavesAll (h h' : LogState D) : Type 0 where
@@ -162,7 +162,7 @@ module _ {D : Type 0} (state : D → DeviceState) where
         → (state h.device).failed_orders < (state h'.device).failed_orders
     pub left : (k : CheckpointValue) (m0 m : LogMap) → (state h'.device).keeps_model
         → Holds state h k m0 m → IsLogMap (dropped m)
-        → AllLeft (state h'.device) (IsSaved state k.segments m0 m)
+        → AllLeft (state h'.device) (IsSaved state (shape_of k) m0 m)
     pub moment : LeavesSaved state h h'
 
   -- a call of the device failed, where the log holds a map

@@ -1,9 +1,10 @@
 //! The commands, over words and streams that are handed in.
 ghost use Rattle.std.specs.Prelude.{◌≡◌, ◌≢◌, ◌≤◌, ◌⊎◌, Err, Ok, IfOk, OnOk, codes, false, true};
 ghost use Rattle.std.specs.Io.KnownBytes.{Keeps};
-ghost use Rattle.lfs_model.specs.Device.{Carries, in_sectors};
+ghost use Rattle.lfs_model.specs.Device.{Carries};
 ghost use Rattle.lfs_device.specs.MemoryDevice.{device_state};
 ghost use Rattle.lfs_grammar.specs.Asking.{HasWord, IsStrict};
+ghost use Rattle.lfs_fs.specs.VolumeUnits.{in_volume};
 ghost use Rattle.lfs_fs.specs.log.Mounting.{HasWholeUnits};
 ghost use Rattle.lfs_script.specs.Heard.{HearsTo};
 ghost use Rattle.lfs_command.specs.Playing.{PlaysToRefusal, Plays, PlaysStrictly, TellsSaved};
@@ -16,7 +17,7 @@ use crate::simulation;
 use crate::simulation::{Plan, read_plan};
 use crate::terminals::Terminals;
 use lfs_bad_lines::{LineKeeper, put_bad_line};
-use lfs_device::{FileDeviceIn, InSectors, Left, MemDevice, SectorDevice, ThisWorld, World};
+use lfs_device::{FileDeviceIn, Left, MemDevice, SectorDevice, ThisWorld, World};
 use lfs_fs::{Fs, InVolume};
 use lfs_grammar::{Action, Request, read_request};
 use lfs_host::fault::{Ending, Fault, Outcome, Refusal, Said};
@@ -321,7 +322,7 @@ fn run_strict<Here: World, R: Files<File = File> + Clock, I: Read, W: Write>(
 }
 
 // As `play` on a device in memory, which stops then.
-fn play_and_stop<I: Read, W: Write, S: Witness<InSectors<MemDevice>, W>>(
+fn play_and_stop<I: Read, W: Write, S: Witness<InVolume<MemDevice>, W>>(
     alloc: Global,
     device: MemDevice,
     left: Left,
@@ -331,16 +332,18 @@ fn play_and_stop<I: Read, W: Write, S: Witness<InSectors<MemDevice>, W>>(
 ) -> (Result<Ending, Fault>, MemDevice)
     ensures plays { Plays result.0 (I.remaining input.old) (I.remaining input.new)
         (W.contents output.old)
-        (W.contents output.new) (in_sectors device_state device) (in_sectors device_state result.1)
+        (W.contents output.new)
+        (in_volume device_state device device) (in_volume device_state device result.1)
         (S.glances witness.old) (S.glances witness.new) }
     ensures reads { TellsInput result.0 (S.failures witness.old) (S.failures witness.new)
         (I.remaining input.old) (I.remaining input.new) }
     ensures heard { HearsTo (S.heard witness.old) (S.heard witness.new) (λ r r'.
         Plays result.0 r r' (W.contents output.old) (W.contents output.new)
-        (in_sectors device_state device) (in_sectors device_state result.1)
+        (in_volume device_state device device) (in_volume device_state device result.1)
         (S.glances witness.old) (S.glances witness.new)
         × TellsInput result.0 (S.failures witness.old) (S.failures witness.new) r r') }
-    ensures carries { Carries (in_sectors device_state device) (in_sectors device_state result.1) }
+    ensures carries { Carries (in_volume device_state device device)
+        (in_volume device_state device result.1) }
 {
     match use_and_stop_noted(alloc, false, input, output, witness, device, left) {
         (Ok(end), device) => (end_plain(end, output), device),

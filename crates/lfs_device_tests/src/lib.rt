@@ -1,5 +1,5 @@
-//! Tests of devices, orders that wait, kept sectors, sectors, checkpoint slots, the walk, segments,
-//! inodes and what a log holds in memory.
+//! Tests of devices, places on them, orders that wait, kept sectors, sectors, checkpoint slots, the
+//! walk, segments, inodes and what a log holds in memory.
 #![tactic(auto)]
 
 #[cfg(test)]
@@ -16,6 +16,8 @@ mod inodes;
 mod layout;
 #[cfg(test)]
 mod memory;
+#[cfg(test)]
+mod places;
 #[cfg(test)]
 mod queue;
 #[cfg(test)]

@@ -22,4 +22,5 @@ mod scripts
 pub mod ScriptRuns
 pub mod CallRuns
 pub mod Sessions
+pub mod InVolumes
 pub use Rattle.lfs_store.proofs.of_log.WholeUnits as WholeUnits

@@ -22,7 +22,7 @@ pub use Rattle.lfs_model.specs.Call.{Answer, Call, Clean, Close, Count, Create, 
 pub use Rattle.lfs_model.specs.Call.{ListTree, Mkdir, Open, Pread, Pwrite, Readdir, Readlink, Refuse, Rename, Rmdir, Room, Rows, Space}
 pub use Rattle.lfs_model.specs.Call.{Status, Symlink, Sync, Text, Truncate, Unlink, Upgrade, Version, Widen, changes, cleans, commits}
 pub use Rattle.lfs_model.specs.Call.{is_ok, may_write, never_for_device, takes_no_memory}
-pub use Rattle.lfs_model.specs.Checkpoint.{CheckpointValue}
+pub use Rattle.lfs_model.specs.Checkpoint.{CheckpointValue, shape_of}
 pub use Rattle.lfs_model.specs.Content.{Content}
 pub use Rattle.lfs_model.specs.Crash.{StandsForOn}
 pub use Rattle.lfs_model.specs.Device.{AllLeft, Carries, DeviceState, IsLawful, LeavesOnly, Only}
@@ -43,6 +43,7 @@ pub use Rattle.lfs_model.specs.Totals.{IsCounted, TotalsOfTree}
 pub use Rattle.lfs_model.specs.Tree.{Dir, File, Handles, Names, Node, State, Tree, drop_nameless, form_of, is_dir, least_handle, links}
 pub use Rattle.lfs_model.specs.Tree.{names, names_in, names_of, node, opened, slot_len, without}
 pub use Rattle.lfs_model.specs.TreeOf.{IsTree, LeavesOne, LeavesStates, Left, Stands, dropped, node_by, object, tree_in}
+pub use Rattle.lfs_model.specs.UnitLaws.{KeepsUnits}
 pub use Rattle.lfs_model.specs.Use.{StandsForSome}
 pub use Rattle.lfs_model.specs.Volume.{IsLogOf, LeavesPrefix}
 pub use Rattle.lfs_model.specs.Walk.{At, End, Parent, Refused, Resolve}
@@ -114,7 +115,7 @@ pub use Rattle.lfs_steps.proofs.rename.Maps.{IsRename}
 pub use Rattle.lfs_steps.proofs.rename.Steps.{StopsAt, conditions, rename_stops}
 pub use Rattle.lfs_steps.proofs.volume.KeptMaps.{map_by}
 pub use Rattle.lfs_steps.proofs.volume.Nodes.{IsFileOf, IsMapOf, IsShaped, need_shaped, no_header_none, node_by_header, opened_file}
-pub use Rattle.lfs_steps.proofs.volume.Nodes.{room_shaped, shape_of, stat_is}
+pub use Rattle.lfs_steps.proofs.volume.Nodes.{room_shaped, shaped_map, stat_is}
 pub use Rattle.lfs_fs.specs.Accepting.{StagesDraft, TellsFew, TurnsDown, need_of}
 pub use Rattle.lfs_fs.specs.Answers.{row_of}
 pub use Rattle.lfs_fs.specs.Drafted.{EachDrafted, EndsRefused, WalksTo}

@@ -1,13 +1,14 @@
 -- What the lines of a script do to a volume: a run of the model, and what a stop in it leaves. The language of scripts is an own choice.
 use Rattle.std.specs.Prelude.{◌≡◌, ◌⊎◌, ◌≤◌, ℕ, IsTrue, false, Some, List, [], ◌∷◌, length, map, slice_get}
 use Rattle.lfs_model.specs.Call.{Answer, Refuse}
-use Rattle.lfs_model.specs.Device.{DeviceState, Carries, LeavesOnly}
+use Rattle.lfs_model.specs.Device.{AllLeft, DeviceState, Carries, LeavesOnly}
 use Rattle.lfs_model.specs.Refusal.{NoMemory}
 use Rattle.lfs_model.specs.Run.{LineRun, Point, final, has_word}
 use Rattle.lfs_model.specs.Script.{Line, call_of}
 use Rattle.lfs_model.specs.Since.{AreKeptSince, AreKeptUntil}
 use Rattle.lfs_model.specs.Tree.{drop_nameless}
 use Rattle.lfs_model.specs.TreeOf.{LeavesOne, LeavesStates}
+use Rattle.lfs_model.specs.UnitLaws.{HasUnitsOf}
 use Rattle.lfs_model.specs.Use.{AreUnstuck, StandsForSome, left_states}
 use Rattle.lfs_model.specs.Volume.{LeavesPrefix}
 use Rattle.lfs_fs.specs.Volume.{IsAt, Mounted, Serves, segments_of}
@@ -33,6 +34,7 @@ module _ {D : Type 0} (state : D → DeviceState) where
     pub run : LineRun (segments_of old) p lines answers points
     pub at : IsAt state new (final p points)
     pub leaves : LeavesStates (state old.log.device) (state new.log.device) (left_states (p ∷ points))
+    pub units : AllLeft (state new.log.device) (HasUnitsOf (state old.log.device))
     -- where a stop at the start left its state alone
     pub moments : LeavesOne (state old.log.device) (drop_nameless p.state)
         → LeavesOnly (state old.log.device) (state new.log.device) (StandsForSome (p ∷ points))

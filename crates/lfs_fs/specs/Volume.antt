@@ -13,6 +13,7 @@ use Rattle.lfs_model.specs.Run.{Point, Answers, acknowledges}
 use Rattle.lfs_model.specs.Stands.{LogMap}
 use Rattle.lfs_model.specs.Tree.{Handles, State, drop_nameless}
 use Rattle.lfs_model.specs.TreeOf.{IsTree, LeavesOne, LeavesStates, Stands}
+use Rattle.lfs_model.specs.UnitLaws.{KeepsUnits}
 use Rattle.lfs_model.specs.Volume.{IsLogOf}
 use Rattle.lfs_store.specs.log.LogState.{Holds, LogState, Reads}
 use Rattle.lfs_store.specs.log.Saving.{commit_orders}
@@ -166,12 +167,14 @@ module _ {D : Type 0} (state : D → DeviceState) where
         → TellsNothing old.log new.log
 
   -- A call of a volume at a point: its answer is the model's, or an excused refusal; a stop at any moment leaves what it might have left
-  -- before, or the state before or after the call, without files of no name; where the call saves, what is left is the state after it.
+  -- before, or the state before or after the call, without files of no name, in the units that the volume had; where the call saves, what
+  -- is left is the state after it.
   pub record ServesAt (old new : Mounted D) (call : Call) (answer : Answer) (p : Point) : Type 0 where
     pub next : Point
     pub at : IsAt new next
     pub answers : Answers (segments_of old) call p answer next
     pub leaves : LeavesStates (state old.log.device) (state new.log.device) (drop_nameless p.state ∷ drop_nameless next.state ∷ [])
+    pub units : KeepsUnits (state old.log.device) (state new.log.device)
     pub saves : acknowledges call answer ≡ true → LeavesOne (state new.log.device) (drop_nameless next.state)
 
   -- A call: what holds over any device, and what holds at each point where the device keeps the model.

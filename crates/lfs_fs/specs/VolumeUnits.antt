@@ -1,19 +1,13 @@
 -- A device as one of the units of the volume that it holds.
-use Rattle.std.specs.Prelude.{ℕ, Option, Some, None}
-use Rattle.lfs_model.specs.Checkpoint.{CheckpointValue, unit_sectors}
-use Rattle.lfs_model.specs.Content.{Content, newest}
+use Rattle.std.specs.Prelude.{◌≡◌}
 use Rattle.lfs_model.specs.Device.{DeviceState, in_units}
-use Rattle.lfs_model.specs.UnitLaws.{unit_by}
+use Rattle.lfs_model.specs.UnitLaws.{units_of}
 use Rattle.lfs_fs.specs.declared.in_volume.InVolume.{InVolume}
 
--- the units that a checkpoint names, which are sectors where there is none
-abbrev pub units_by : Option CheckpointValue → ℕ → ℕ
-units_by None = λ k. k
-units_by (Some k) = unit_by (unit_sectors k)
-
--- those of the volume that this is
-abbrev pub units_of : Content → ℕ → ℕ
-units_of c = units_by (newest c)
+-- the device is in it, as it was put there
+pub record IsPutIn {D : Type 0} (own : D) (put : InVolume D) : Type 0 where
+  pub device : put.device ≡ own
+  pub held : put.held.value ≡ own
 
 module _ {D : Type 0} (state : D → DeviceState) where
   -- a device as one of the units of the volume that another held

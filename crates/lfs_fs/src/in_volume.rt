@@ -42,7 +42,7 @@ impl<D: SectorDevice> InVolume<D> {
 
 impl<D: SectorDevice> SectorDevice for InVolume<D> {
     ghost use Rattle.lfs_model.proofs.UnitStates.{units_lawful};
-    ghost use Rattle.lfs_fs.specs.VolumeUnits.{units_of};
+    ghost use Rattle.lfs_model.specs.UnitLaws.{units_of};
 
     ghost state = { by_volume D.state };
 

@@ -3,6 +3,7 @@ use Rattle.std.proofs.Common.{refl, ◌≡◌, ◌<◌, ◌≤◌, ◌⊎◌, in
 use Rattle.std.proofs.Common.{true, false, [], length, sym, ◌∙◌, ap, ap₂, subst}
 use Rattle.std.proofs.Common.{arith}
 use Rattle.std.specs.Prelude.{max}
+use Rattle.lfs_model.specs.Checkpoint.{shape_of}
 use Rattle.lfs_model.specs.Crash.{StandsOn}
 use Rattle.lfs_model.specs.Device.{DeviceState}
 use Rattle.lfs_model.proofs.Moments.{weaker}
@@ -81,7 +82,7 @@ module _ {D : Type 0} {state : D → DeviceState} where
     number = number;
     cause = λ k m0 m keeps is. stops.cause k m0 m keeps is.log;
     left = λ k m0 m keeps is map c left. inl (settled_stands (state h'.device) k m0 (stops.settled k m0 m keeps is.log) c left);
-    moment = λ k m0 m keeps is map. weaker (λ x. StandsOn k.segments x m0) _ (λ x h. inl h) (stops.quiet k m0 m keeps is.log);
+    moment = λ k m0 m keeps is map. weaker (λ x. StandsOn (shape_of k) x m0) _ (λ x h. inl h) (stops.quiet k m0 m keeps is.log);
   }
 
 -- nothing is written where nothing waits, so what is saved stays so, and so does what was relocated

@@ -1,6 +1,6 @@
 -- What the layers above know of a log that holds a log map, and of calls that only read it.
 use Rattle.std.proofs.Common.{Option, ◌≡◌, ℕ, false, length, Some, refl, sym, ◌∙◌, ap, subst, arith}
-use Rattle.lfs_model.specs.Checkpoint.{CheckpointValue, IsSegmentCount}
+use Rattle.lfs_model.specs.Checkpoint.{CheckpointValue, IsSegmentCount, shape_of}
 use Rattle.lfs_model.specs.Crash.{StandsOn}
 use Rattle.lfs_model.specs.Device.{DeviceState, IsLawful, AllLeft, LeavesOnly}
 use Rattle.lfs_model.specs.Entry.{Header}
@@ -53,7 +53,7 @@ module _ {D : Type 0} (state : D → DeviceState) where
   settled is = is.log.running.settled
 
   pub acknowledged : {h : LogState D} {k : CheckpointValue} {m0 m : LogMap} → Holds state h k m0 m
-      → AllLeft (state h.device) (λ c. StandsOn k.segments c m0)
+      → AllLeft (state h.device) (λ c. StandsOn (shape_of k) c m0)
   acknowledged {h} {k} {m0} {m} is = settled_stands (state h.device) k m0 (settled is)
 
   -- the log map is one that blocks spell: its data blocks are as long as sectors, and its headers are those of inodes
@@ -77,7 +77,7 @@ module _ {D : Type 0} (state : D → DeviceState) where
 
   -- a device that is looked at leaves what is acknowledged
   pub looks_leave : {h : LogState D} {d : DeviceState} {k : CheckpointValue} {m0 : LogMap} (m : LogMap) → IsLawful (state h.device)
-      → Looks (state h.device) d → Holds state h k m0 m → LeavesOnly (state h.device) d (λ c. StandsOn k.segments c m0)
+      → Looks (state h.device) d → Holds state h k m0 m → LeavesOnly (state h.device) d (λ c. StandsOn (shape_of k) c m0)
   looks_leave {h} {d} {k} {m0} m lawful looks is =
       looks_quiet d k m0 m lawful looks (loose_in is)
 

@@ -4,7 +4,7 @@ use Rattle.std.proofs.Common.{sym, ◌∙◌, ap, arith}
 use Rattle.std.proofs.lemmas.Bool.{cases_lt}
 use Rattle.std.proofs.lemmas.List.{get_or_past}
 use Rattle.std.specs.Prelude.{get_or}
-use Rattle.lfs_model.specs.Checkpoint.{CheckpointValue}
+use Rattle.lfs_model.specs.Checkpoint.{CheckpointValue, shape_of}
 use Rattle.lfs_model.specs.Crash.{StandsOn}
 use Rattle.lfs_model.specs.Device.{DeviceState, CrashWritesUnit, Carries, Elapses, IsLawful, put, left_new}
 use Rattle.lfs_model.specs.Entry.{Entry, Data, Leaf, Double, Inode, Map, Usage, entry_of}
@@ -114,7 +114,7 @@ module _ {d : DeviceState} (v : LogMemory) (j : ℕ) (map' : MapValue) (sets : I
     no_failure = refl;
     emptied = λ s is. is;
     log = λ k m0 m keeps is. dropped_log k m0 m is;
-    quiet = λ k m0 m keeps is. started (λ c. StandsOn k.segments c m0) lawful (settled_stands d k m0 is.running.settled);
+    quiet = λ k m0 m keeps is. started (λ c. StandsOn (shape_of k) c m0) lawful (settled_stands d k m0 is.running.settled);
   }
 
 -- one that is written

@@ -1,6 +1,7 @@
 -- A commit's last chunk is padded until it ends on a unit.
-use Rattle.std.proofs.Common.{◌≡◌, ◌<◌, ◌≤◌, ◌+◌, ◌-◌, ◌%◌, ◌==◌, cond, ne_eqb, ℕ, length, refl, sym, ◌∙◌, ap, subst, arith}
+use Rattle.std.proofs.Common.{◌≡◌, ◌<◌, ◌≤◌, ◌-◌, ◌%◌, ◌==◌, ne_eqb, ℕ, length, refl, sym, ◌∙◌, ap, subst, arith}
 use Rattle.std.proofs.lemmas.Bool.{cond-false}
+use Rattle.lfs_model.specs.Checkpoint.{shape_of}
 use Rattle.lfs_model.specs.Crash.{StandsOn}
 use Rattle.lfs_model.specs.Device.{DeviceState, IsLawful}
 use Rattle.lfs_model.specs.Counting.{segment_of}
@@ -9,12 +10,12 @@ use Rattle.lfs_model.proofs.Settled.{settled_stands}
 use Rattle.lfs_memory.specs.segments.Chunk.{Chunk, due_in, room_behind, room_in}
 use Rattle.lfs_memory.specs.segments.Table.{UsageTable, address_of, kept_of, stale_of}
 use Rattle.lfs_memory.specs.declared.memory.LogMemory.{LogMemory}
-use Rattle.lfs_memory.specs.Memory.{GoesUpTo, Goes, IsMemory, OnlyPads, PadsChunk, Stops, room_of}
+use Rattle.lfs_memory.specs.Memory.{GoesUpTo, Goes, IsMemory, OnlyPads, PadsChunk, Stops}
 use Rattle.lfs_memory.proofs.Going.{goes_then, stops_then}
-use Rattle.lfs_memory.proofs.Padded.{pads_begun, pads_emptied, pads_log, pads_memory, pads_only, to_full}
-use Rattle.lfs_memory.proofs.Rooms.{room_none, room_some}
+use Rattle.lfs_memory.proofs.Padded.{pads_emptied, pads_log, pads_memory, pads_only, to_full}
+use Rattle.lfs_memory.proofs.Rooms.{room_some}
 use Rattle.lfs_log.specs.Keeping.{OnlyChunk}
-use Rattle.lfs_log.specs.Settling.{AreAnew, IsAnew, blocks_in}
+use Rattle.lfs_log.specs.Settling.{AreAnew}
 
 -- the usage blocks that changed stand where they stood
 pub anew_still : {v v' : LogMemory} → OnlyPads v v' → AreAnew v.usage → AreAnew v'.usage
@@ -48,7 +49,7 @@ padded_goes {d} {v} {v'} lawful memory pads =
       no_failure = refl;
       emptied = pads_emptied pads (to_full memory);
       log = λ k m0 m keeps is. pads_log pads (to_full memory) d k m0 m is;
-      quiet = λ k m0 m keeps is. started (λ c. StandsOn k.segments c m0) lawful (settled_stands d k m0 is.running.settled);
+      quiet = λ k m0 m keeps is. started (λ c. StandsOn (shape_of k) c m0) lawful (settled_stands d k m0 is.running.settled);
     }
 
 -- and then its summary is written

@@ -3,7 +3,7 @@ use Rattle.std.proofs.Common.{◌≡◌, ◌<◌, ◌≤◌, inl, ◌+◌, ◌-�
 use Rattle.std.proofs.Common.{true, List, [], Option, Some, None, length, get_or, refl, sym, ◌∙◌}
 use Rattle.std.proofs.Common.{ap, subst, arith}
 use Rattle.std.specs.Prelude.{IfSome}
-use Rattle.lfs_model.specs.Checkpoint.{CheckpointValue}
+use Rattle.lfs_model.specs.Checkpoint.{CheckpointValue, Shape, shape_of}
 use Rattle.lfs_model.specs.Content.{Content}
 use Rattle.lfs_model.specs.Crash.{StandsOn, StandsForOn}
 use Rattle.lfs_model.specs.Device.{DeviceState, IsLawful, AllLeft}
@@ -27,7 +27,7 @@ use Rattle.lfs_log.proofs.Cleaned.{at_one, beside, emptied_least, log_beside}
 use Rattle.lfs_log.proofs.Fitting.{overfilled}
 use Rattle.lfs_log.proofs.LogReads.{reads_looked, held_still, looks_leave}
 use Rattle.lfs_log.proofs.Unsaved.{none_left}
-use Rattle.lfs_log.proofs.Volumes.{acknowledged}
+use Rattle.lfs_log.proofs.Volumes.{acknowledged, same_unit}
 
 -- ---- room
 fewer_taken : (blocks count : ℕ) → 2 ≤ count → blocks ≤ most_brought count → segments_for blocks ≤ count - 1
@@ -132,9 +132,8 @@ module _ {D : Type 0} {state : D → DeviceState} where
       holds = holds;
       left = λ k m0 m keeps is map.
           let n = holds k m0 m keeps is map in
-          subst (λ (l : ℕ). AllLeft (state device) (λ c. StandsOn l c (dropped m)))
-          (sym n.1.log.segments ∙ done.segments ∙ size ∙ is.holds.log.segments)
-          (settled_stands (state device) n.0 (dropped m) n.1.log.running.settled);
+          subst (λ (shape : Shape). AllLeft (state device) (λ c. StandsOn shape c (dropped m))) n.1
+          (settled_stands (state device) n.0 (dropped m) n.2.log.running.settled);
       moment = λ k m0 m keeps is map. done.moment k m0 m keeps (acknowledged h is.holds (is.relocated v there) map);
     }
       where
@@ -156,16 +155,18 @@ module _ {D : Type 0} {state : D → DeviceState} where
         nothing = record { blocks = ap length empty; version = refl; sectors = done.untaken }
 
         holds : (k : CheckpointValue) (m0 m : LogMap) → (state device).keeps_model → HoldsRelocated state (seen h) k m0 m
-            → IsLogMap (dropped m) → (next : CheckpointValue) × Holds state (seen after) next (dropped m) m
+            → IsLogMap (dropped m)
+            → (next : CheckpointValue) × (shape_of next ≡ shape_of k) × Holds state (seen after) next (dropped m) m
         holds k m0 m keeps is map =
             let n = done.log k m0 m keeps (acknowledged h is.holds (is.relocated v there) map) in (
               n.0,
+              n.3,
               record {
                 log = log_beside w t c (empty ∙ sym done.dirty) done.chunk closed n.0 m n.2;
                 segments = sym n.2.segments;
                 number = n.1;
                 version = is.holds.version;
-                unit = n.3;
+                unit = same_unit k n.0 h.version n.3 is.holds.unit;
                 running = running;
                 nothing_new = λ all. refl;
                 rest = λ all. record { nothing = nothing; untaken = done.untaken; many = done.many };
@@ -178,8 +179,8 @@ module _ {D : Type 0} (state : D → DeviceState) where
     moment_then : ((state c.device).keeps_model → (state b.device).keeps_model) → LeavesSavedOf state (HoldsRelocated state b) b c
         → LeavesSaved state a c
     moment_then back moment k m0 m keeps is map =
-        let P : Content → Type 0 = λ x. StandsOn k.segments x m0 in
-        let Q : Content → Type 0 = StandsForOn k.segments m0 (dropped m) in
+        let P : Content → Type 0 = λ x. StandsOn (shape_of k) x m0 in
+        let Q : Content → Type 0 = StandsForOn (shape_of k) m0 (dropped m) in
         joined P Q Q (looks_leave _ m lawful one.reads.looks is)
         (moment k m0 m keeps (one.holds k m0 m (back keeps) is) map) (λ x s. inl s) (λ x s. s)
 

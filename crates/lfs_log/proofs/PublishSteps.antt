@@ -4,7 +4,7 @@ use Rattle.std.proofs.Common.{List, [], length, get_or, None, refl, sym, ◌∙�
 use Rattle.std.proofs.lemmas.Bool.{cases_eq, cases_lt, cond-true, cond-false, false_from_ne_true}
 use Rattle.std.proofs.lemmas.List.{get_or_past}
 use Rattle.lfs_model.specs.Entry.{Inode, Map, Usage}
-use Rattle.lfs_model.specs.Checkpoint.{CheckpointValue, checkpoint_sector}
+use Rattle.lfs_model.specs.Checkpoint.{CheckpointValue, checkpoint_sector, shape_of}
 use Rattle.lfs_model.specs.Content.{Content}
 use Rattle.lfs_model.specs.Crash.{StandsForOn}
 use Rattle.lfs_model.specs.Device.{AllLeft, Carries, ComesFrom, DeviceState, IsLawful, LeavesOnly, MayWriteUnit, Only}
@@ -18,7 +18,7 @@ use Rattle.lfs_model.specs.Running.{Running}
 use Rattle.lfs_model.specs.Committing.{IsOut, ManyClean, LeadsTo, IsReleased}
 use Rattle.lfs_model.proofs.Decoding.{checkpoint_some}
 use Rattle.lfs_model.proofs.Leaving.{staying}
-use Rattle.lfs_model.proofs.Moments.{carries_then, started, goes_on, joined, weaker}
+use Rattle.lfs_model.proofs.Moments.{carries_then, started, goes_on, joined}
 use Rattle.lfs_model.proofs.Publishing.{planning, resting}
 use Rattle.lfs_model.proofs.Settled.{settled_stands, settled_still, slot_torn, acknowledged}
 use Rattle.lfs_memory.specs.segments.Table.{SegmentNumbers, PlaceInSegment, UsageTable, no_segment, no_place, used_of, live_of, held_of}
@@ -134,11 +134,11 @@ module _ (d d1 : DeviceState) (v : LogMemory) (version number : ℕ) (lawful : I
     tight = log.tight;
   }
 
-  sync_left : (k : CheckpointValue) (m0 : LogMap) {m : LogMap} → IsLog d v k m0 m → AllLeft d1 (StandsForOn k.segments m0 (dropped m))
+  sync_left : (k : CheckpointValue) (m0 : LogMap) {m : LogMap} → IsLog d v k m0 m → AllLeft d1 (StandsForOn (shape_of k) m0 (dropped m))
   sync_left k m0 log c left =
       inl (settled_stands d1 k m0 (settled_still d d1 k m0 log.running.settled syncs.untouched syncs.carries.unit) c left)
 
-  sync_moment : (k : CheckpointValue) (m0 m : LogMap) → IsLog d v k m0 m → LeavesOnly d d1 (StandsForOn k.segments m0 (dropped m))
+  sync_moment : (k : CheckpointValue) (m0 m : LogMap) → IsLog d v k m0 m → LeavesOnly d d1 (StandsForOn (shape_of k) m0 (dropped m))
   sync_moment k m0 m log =
       goes_on _ (started _ lawful
       (λ c left. inl (settled_stands d k m0 log.running.settled c left))) syncs.carries syncs.time (sync_left k m0 log)
@@ -200,19 +200,22 @@ module _ (d d1 : DeviceState) (v : LogMemory) (version number : ℕ) (lawful : I
             (λ j ge. sym (running.tables.at (Usage j) refl) ∙ usage_past m running.memory j running.laid ge);
       }
 
+      same : shape_of next ≡ shape_of k
+      same i = record { segments = leads.segments i; unit_power = leads.unit i }
+
       planned : IsPlanned k d1.content (next.number % 2) (checkpoint_sector next) next (dropped m)
       planned = planning d1 (blocks_of v.dirty) (tables_of v) k next m0 m 1024 (next.number % 2)
           (checkpoint_sector next) running held.map all_out many leads (checkpoint_some _ next is.fits refl) refl
 
       torn : d2.keeps_model → (c : Content) → ComesFrom d1 (MayWriteUnit d1.unit (next.number % 2) (checkpoint_sector next)) c
-          → StandsForOn k.segments m0 (dropped m) c
+          → StandsForOn (shape_of k) m0 (dropped m) c
       torn keeps c from =
           slot_torn d1 (record d1 { may_leave = ComesFrom d1 (MayWriteUnit d1.unit (next.number % 2) (checkpoint_sector next)) })
           k next m0 (dropped m)
           (next.number % 2) (checkpoint_sector next) running.settled planned
-          leads.segments (only (more.kept_before keeps)) (λ c f. f) c from
+          same (only (more.kept_before keeps)) (λ c f. f) c from
 
-      either : d2.keeps_model → LeavesOnly d d2 (StandsForOn k.segments m0 (dropped m))
+      either : d2.keeps_model → LeavesOnly d d2 (StandsForOn (shape_of k) m0 (dropped m))
       either keeps =
           joined _ _ _ (sync_moment k m0 m held.log) moment (λ c s. s) (torn keeps)
 
@@ -250,6 +253,6 @@ module _ (d d1 : DeviceState) (v : LogMemory) (version number : ℕ) (lawful : I
         segments = go.size;
         released = go;
         no_failure = same_failures ∙ unfailed;
-        log = λ k m0 m keeps held. (next, is.number, rested k m0 m keeps held, rw (← is.same_version) is.fits.unit);
+        log = λ k m0 m keeps held. (next, is.number, rested k m0 m keeps held, same k m0 m held);
         moment = λ k m0 m keeps held. either k m0 m held keeps;
       }

@@ -1,6 +1,6 @@
 -- A commit, from its two halves.
 use Rattle.std.proofs.Common.{◌≡◌, ◌<◌, ◌≤◌, ⊎_elim, inl, ◌+◌, ◌*◌, ℕ, [], length, sym, ◌∙◌, ap, arith}
-use Rattle.lfs_model.specs.Checkpoint.{CheckpointValue}
+use Rattle.lfs_model.specs.Checkpoint.{CheckpointValue, shape_of}
 use Rattle.lfs_model.specs.Content.{Content}
 use Rattle.lfs_model.specs.Crash.{StandsOn, StandsForOn}
 use Rattle.lfs_model.specs.Device.{DeviceState}
@@ -57,8 +57,8 @@ acknowledged_on b v' n goes keeps k {m0} m is =
 either_then : (a b c : DeviceState) (v v' : LogMemory) (n version number : ℕ) → Goes a b v v' n → (c.keeps_model → b.keeps_model)
     → LeavesEither b c v' version number → LeavesEither a c v version number
 either_then a b c v v' n version number goes back moment k m0 m keeps is =
-    let P : Content → Type 0 = λ x. StandsOn k.segments x m0 in
-    let Q : Content → Type 0 = StandsForOn k.segments m0 (dropped m) in
+    let P : Content → Type 0 = λ x. StandsOn (shape_of k) x m0 in
+    let Q : Content → Type 0 = StandsForOn (shape_of k) m0 (dropped m) in
     joined P Q Q (goes.quiet k m0 m (back keeps) is.log)
     (moment k m0 m keeps (acknowledged_on b v' n goes (back keeps) k m is)) (λ x h. inl h) (λ x h. h)
 
@@ -69,7 +69,7 @@ out_stops {d} {d'} version number told stops = record {
   cause = stops.cause;
   left = λ k m0 m keeps is c left. inl (settled_stands d' k m0 (stops.settled k m0 m keeps is.log) c left);
   moment = λ k m0 m keeps is.
-      weaker (λ x. StandsOn k.segments x m0) _ (λ x h. inl h) (stops.quiet k m0 m keeps is.log);
+      weaker (λ x. StandsOn (shape_of k) x m0) _ (λ x h. inl h) (stops.quiet k m0 m keeps is.log);
   told = omega (arith, told);
 }
 

@@ -4,9 +4,10 @@ use Rattle.std.proofs.lemmas.Bool.{and_parts}
 use Rattle.std.proofs.Common.{◌≡◌, ◌<◌, ◌≤◌, ◌+◌, ◌*◌, ◌&&◌, ◌||◌, cond, ℕ, Bool}
 use Rattle.std.proofs.Common.{true, false, length, refl, sym, ◌∙◌, ap, subst}
 use Rattle.std.proofs.Common.{arith}
-use Rattle.lfs_model.specs.Checkpoint.{CheckpointValue, most_unit_power}
+use Rattle.lfs_model.specs.Checkpoint.{CheckpointValue, Shape, most_unit_power, shape_of}
 use Rattle.lfs_model.specs.declared.limits.TheConstants.{FILE_NUMBERS}
-use Rattle.lfs_model.specs.Device.{DeviceState, IsLawful}
+use Rattle.lfs_model.specs.Crash.{StandsOn}
+use Rattle.lfs_model.specs.Device.{AllLeft, DeviceState, IsLawful}
 use Rattle.lfs_model.specs.Encodes.{IsLogMap}
 use Rattle.lfs_model.specs.Stands.{LogMap, StandsLog}
 use Rattle.lfs_model.proofs.Crash.{single_log}
@@ -52,15 +53,15 @@ and_true : (b : Bool) → (b && true) ≡ b
 and_true true = refl
 and_true false = refl
 
--- checkpoints over as many numbers in memory have as many segments
-pub same_segments : {D : Type 0} (state : D → DeviceState) {h h' : LogState D} {k : CheckpointValue} (next : CheckpointValue)
-    {m0 m m0' m' : LogMap} → h'.segments ≡ h.segments → Holds state h k m0 m → Holds state h' next m0' m' → next.segments ≡ k.segments
-same_segments state next same is is' = is'.segments ∙ same ∙ sym is.segments
-
 still_untaken : (before : UsageTable) {between after : UsageTable} → after ≡ between
     → ((segment : ℕ) → used_of between segment ≡ used_of before segment)
     → ((segment : ℕ) → kept_of between segment ≡ kept_of before segment) → AreUntaken before → AreUntaken after
 still_untaken before same used kept untaken = rw same (λ segment. kept segment ∙ untaken segment ∙ sym (used segment))
+
+-- a checkpoint of the same shape has units that the version has
+pub same_unit : (k next : CheckpointValue) (version : ℕ) → shape_of next ≡ shape_of k → k.unit_power ≤ most_unit_power version
+    → next.unit_power ≤ most_unit_power version
+same_unit k next version same few = subst (λ (x : Shape). x.unit_power ≤ most_unit_power version) (sym same) few
 
 -- a version that is raised is the first, which has sectors as its units
 unit_raised : {power version : ℕ} (raised : Bool) → power ≤ most_unit_power version → (raised ≡ true → version ≡ 1)
@@ -100,7 +101,8 @@ module _ {D : Type 0} {state : D → DeviceState} where
     holds = holds;
     left = λ k m0 m keeps is map. (
         let n = holds k m0 m keeps is map in
-        rw (← (same_segments _ n.0 c.segments is n.1)) (settled_stands (state h'.device) n.0 (dropped m) n.1.log.running.settled));
+        subst (λ (shape : Shape). AllLeft (state h'.device) (λ c. StandsOn shape c (dropped m))) n.1
+        (settled_stands (state h'.device) n.0 (dropped m) n.2.log.running.settled));
     moment = λ k m0 m keeps is map. c.moment k m0 m keeps (acknowledged h is is.log map);
   }
     where
@@ -108,16 +110,17 @@ module _ {D : Type 0} {state : D → DeviceState} where
       nothing = record { blocks = ap length c.dirty; version = upgraded; sectors = c.untaken }
 
       holds : (k : CheckpointValue) (m0 m : LogMap) → (state h'.device).keeps_model → Holds state (seen h) k m0 m → IsLogMap (dropped m)
-          → (next : CheckpointValue) × Holds state (seen h') next (dropped m) m
+          → (next : CheckpointValue) × (shape_of next ≡ shape_of k) × Holds state (seen h') next (dropped m) m
       holds k m0 m keeps is map =
           let n = c.log k m0 m keeps (acknowledged h is is.log map) in (
             n.0,
+            n.3,
             record {
               log = n.2;
               segments = sym n.2.segments;
               number = n.1 ∙ sym number;
               version = is.version ∙ sym version;
-              unit = rw version n.3;
+              unit = rw version (same_unit k n.0 h.version n.3 is.unit);
               running = running;
               nothing_new = λ all. refl;
               rest = λ all. record { nothing = nothing; untaken = c.untaken; many = c.many };

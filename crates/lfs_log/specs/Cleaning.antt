@@ -2,7 +2,7 @@
 use Rattle.std.specs.Prelude.{◌≡◌, ◌<◌, ◌≤◌, ◌+◌, ◌*◌, ◌-◌, ◌/◌, ◌^◌, ℕ, true}
 use Rattle.std.specs.Prelude.{false, List, [], length, get_or, sum_by, Some, Result, OnOk}
 use Rattle.std.specs.Prelude.{IsErrOf}
-use Rattle.lfs_model.specs.Checkpoint.{CheckpointValue}
+use Rattle.lfs_model.specs.Checkpoint.{CheckpointValue, shape_of}
 use Rattle.lfs_model.specs.Crash.{StandsOn}
 use Rattle.lfs_model.specs.declared.limits.TheConstants.{CHUNK_BLOCKS, TABLE_BLOCKS}
 use Rattle.lfs_model.specs.Device.{DeviceState, Carries, AllLeft}
@@ -143,9 +143,9 @@ module _ {D : Type 0} (state : D → DeviceState) where
     pub untaken : AreUntaken h'.usage
     pub no_failure : (state h'.device).failures ≡ (state h.device).failures
     pub holds : (k : CheckpointValue) (m0 m : LogMap) → (state h'.device).keeps_model → Has k m0 m → IsLogMap (dropped m)
-        → (next : CheckpointValue) × Holds state h' next (dropped m) m
+        → (next : CheckpointValue) × (shape_of next ≡ shape_of k) × Holds state h' next (dropped m) m
     pub left : (k : CheckpointValue) (m0 m : LogMap) → (state h'.device).keeps_model → Has k m0 m → IsLogMap (dropped m)
-        → AllLeft (state h'.device) (λ c. StandsOn k.segments c (dropped m))
+        → AllLeft (state h'.device) (λ c. StandsOn (shape_of k) c (dropped m))
     pub moment : LeavesSavedOf state Has h h'
 
   abbrev pub Cleans : LogState D → LogState D → List ℕ → Type 0

@@ -2,7 +2,7 @@
 use Rattle.std.specs.Prelude.{◌≡◌, ◌⊎◌, ◌<◌, ◌≤◌, ◌+◌, ◌-◌, ◌*◌, ◌^◌, ◌||◌, cond, max, ℕ, Bool, true, false, List}
 use Rattle.std.specs.Prelude.{length, Option, None, Result, OnErr, IsErrOf}
 use Rattle.lfs_model.specs.declared.limits.TheConstants.{FILE_NUMBERS, MOST_UNSAVED}
-use Rattle.lfs_model.specs.Checkpoint.{CheckpointValue, most_unit_power}
+use Rattle.lfs_model.specs.Checkpoint.{CheckpointValue, Shape, most_unit_power, shape_of}
 use Rattle.lfs_model.specs.Content.{Content}
 use Rattle.lfs_model.specs.Crash.{StandsOn, StandsForOn}
 use Rattle.lfs_model.specs.Device.{DeviceState, Carries, LeavesOnly, AllLeft}
@@ -98,14 +98,14 @@ module _ {D : Type 0} (state : D → DeviceState) where
   abbrev pub Mounts : D → LogState D → Type 0
   Mounts d h = (m : LogMap) → (state h.device).keeps_model → (is : StandsLog (state d).content m) → Holds h is.checkpoint m m
 
-  -- the acknowledged map, or the present one without its files of no links, on so many segments
-  abbrev pub IsSaved : ℕ → LogMap → LogMap → Content → Type 0
-  IsSaved segments m0 m c = StandsForOn segments m0 (dropped m) c
+  -- the acknowledged map, or the present one without its files of no links, on a volume of this shape
+  abbrev pub IsSaved : Shape → LogMap → LogMap → Content → Type 0
+  IsSaved shape m0 m c = StandsForOn shape m0 (dropped m) c
 
   -- A stop at any moment leaves one of these, where `Has` says what the log holds.
   abbrev pub LeavesSavedOf : (Has : CheckpointValue → LogMap → LogMap → Type 0) → LogState D → LogState D → Type 0
   LeavesSavedOf Has h h' = (k : CheckpointValue) (m0 m : LogMap) → (state h'.device).keeps_model → Has k m0 m → IsLogMap (dropped m)
-      → LeavesOnly (state h.device) (state h'.device) (IsSaved k.segments m0 m)
+      → LeavesOnly (state h.device) (state h'.device) (IsSaved (shape_of k) m0 m)
 
   abbrev pub LeavesSaved : LogState D → LogState D → Type 0
   LeavesSaved h h' = LeavesSavedOf (Holds h) h h'
@@ -127,9 +127,9 @@ module _ {D : Type 0} (state : D → DeviceState) where
     pub untaken : AreUntaken h'.usage
     pub no_failure : (state h'.device).failures ≡ (state h.device).failures
     pub holds : (k : CheckpointValue) (m0 m : LogMap) → (state h'.device).keeps_model → Holds h k m0 m → IsLogMap (dropped m)
-        → (next : CheckpointValue) × Holds h' next (dropped m) m
+        → (next : CheckpointValue) × (shape_of next ≡ shape_of k) × Holds h' next (dropped m) m
     pub left : (k : CheckpointValue) (m0 m : LogMap) → (state h'.device).keeps_model → Holds h k m0 m → IsLogMap (dropped m)
-        → AllLeft (state h'.device) (λ c. StandsOn k.segments c (dropped m))
+        → AllLeft (state h'.device) (λ c. StandsOn (shape_of k) c (dropped m))
     pub moment : LeavesSaved h h'
 
   -- One that a failure of the device ended, where `Has` says what the log holds.
@@ -141,7 +141,7 @@ module _ {D : Type 0} (state : D → DeviceState) where
     pub cause : (k : CheckpointValue) (m0 m : LogMap) → (state h'.device).keeps_model → Has k m0 m
         → (state h.device).failed_orders < (state h'.device).failed_orders
     pub left : (k : CheckpointValue) (m0 m : LogMap) → (state h'.device).keeps_model → Has k m0 m → IsLogMap (dropped m)
-        → AllLeft (state h'.device) (IsSaved k.segments m0 m)
+        → AllLeft (state h'.device) (IsSaved (shape_of k) m0 m)
     pub moment : LeavesSavedOf Has h h'
 
   abbrev pub Halts : LogState D → LogState D → Type 0
@@ -172,7 +172,7 @@ module _ {D : Type 0} (state : D → DeviceState) where
     pub no_failure : (state h'.device).failures ≡ (state h.device).failures
     pub holds : (k : CheckpointValue) (m0 m : LogMap) → (state h'.device).keeps_model → Holds h k m0 m → Holds h' k m0 m
     pub moment : (k : CheckpointValue) (m0 m : LogMap) → (state h'.device).keeps_model → Holds h k m0 m
-        → LeavesOnly (state h.device) (state h'.device) (λ c. StandsOn k.segments c m0)
+        → LeavesOnly (state h.device) (state h'.device) (λ c. StandsOn (shape_of k) c m0)
 
   -- A call that only reads: all but the device is as it was.
   pub record Reads (h h' : LogState D) : Type 0 where

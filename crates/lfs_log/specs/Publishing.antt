@@ -1,6 +1,6 @@
 -- What the end of a commit does: the checkpoint that leads to all that is out.
 use Rattle.std.specs.Prelude.{◌≡◌, ◌<◌, ◌≤◌, ◌+◌, ◌*◌, ℕ, false, [], length, get_or}
-use Rattle.lfs_model.specs.Checkpoint.{CheckpointValue, FitsCheckpoint, layout_version, most_unit_power}
+use Rattle.lfs_model.specs.Checkpoint.{CheckpointValue, FitsCheckpoint, layout_version, most_unit_power, shape_of}
 use Rattle.lfs_model.specs.Crash.{StandsForOn}
 use Rattle.lfs_model.specs.declared.limits.TheConstants.{MAP_BLOCKS, USAGE_BLOCKS}
 use Rattle.lfs_model.specs.Device.{DeviceState, Carries, Elapses, IsUntouched, LeavesOnly, AllLeft}
@@ -48,10 +48,10 @@ pub record IsAcknowledged (d : DeviceState) (v : LogMemory) (version number : �
   pub same_version : m.version ≡ version
   pub unit : k.unit_power ≤ most_unit_power version
 
--- a stop at any moment leaves what was acknowledged, or all that is out, on as many segments
+-- a stop at any moment leaves what was acknowledged, or all that is out, on a volume of the same shape
 abbrev pub LeavesEither : DeviceState → DeviceState → LogMemory → ℕ → ℕ → Type 0
 LeavesEither d d' v version number = (k : CheckpointValue) (m0 m : LogMap) → d'.keeps_model → IsAcknowledged d v version number k m0 m
-    → LeavesOnly d d' (StandsForOn k.segments m0 (dropped m))
+    → LeavesOnly d d' (StandsForOn (shape_of k) m0 (dropped m))
 
 -- The next checkpoint is acknowledged.
 pub record Publishes (d d' : DeviceState) (v v' : LogMemory) (version number : ℕ) : Type 0 where
@@ -61,8 +61,7 @@ pub record Publishes (d d' : DeviceState) (v v' : LogMemory) (version number : �
   pub released : Releases v.usage v'.usage
   pub no_failure : d'.failures ≡ d.failures
   pub log : (k : CheckpointValue) (m0 m : LogMap) → d'.keeps_model → IsAcknowledged d v version number k m0 m
-      → (next : CheckpointValue) × (next.number ≡ number + 1) × IsLog d' v' next (dropped m) m
-      × (next.unit_power ≤ most_unit_power version)
+      → (next : CheckpointValue) × (next.number ≡ number + 1) × IsLog d' v' next (dropped m) m × (shape_of next ≡ shape_of k)
   pub moment : LeavesEither d d' v version number
 
 -- A failure of the device ended it: a stop from now on leaves the one or the other.
@@ -70,5 +69,5 @@ pub record PublishFails (d d' : DeviceState) (v : LogMemory) (version number : �
   pub carries : Carries d d'
   pub failed : d.failed_orders < d'.failed_orders
   pub left : (k : CheckpointValue) (m0 m : LogMap) → d'.keeps_model → IsAcknowledged d v version number k m0 m
-      → AllLeft d' (StandsForOn k.segments m0 (dropped m))
+      → AllLeft d' (StandsForOn (shape_of k) m0 (dropped m))
   pub moment : LeavesEither d d' v version number

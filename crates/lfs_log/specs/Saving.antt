@@ -1,6 +1,6 @@
 -- What a commit does.
 use Rattle.std.specs.Prelude.{◌≡◌, ◌<◌, ◌≤◌, ◌+◌, ◌-◌, ◌*◌, ◌/◌, ℕ, [], length}
-use Rattle.lfs_model.specs.Checkpoint.{CheckpointValue, most_unit_power}
+use Rattle.lfs_model.specs.Checkpoint.{CheckpointValue, shape_of}
 use Rattle.lfs_model.specs.Crash.{StandsForOn}
 use Rattle.lfs_model.specs.declared.limits.TheConstants.{CHUNK_BLOCKS, MOST_UNSAVED, TABLE_BLOCKS}
 use Rattle.lfs_model.specs.Device.{DeviceState, Carries, AllLeft}
@@ -50,8 +50,7 @@ pub record CommitsAll (d d' : DeviceState) (v v' : LogMemory) (version number : 
   pub cleaned : (s : ℕ) → IsEmptied v.usage s → used_of v'.usage s ≡ 0
   pub no_failure : d'.failures ≡ d.failures
   pub log : (k : CheckpointValue) (m0 m : LogMap) → d'.keeps_model → IsAcknowledged d v version number k m0 m
-      → (next : CheckpointValue) × (next.number ≡ number + 1) × IsLog d' v' next (dropped m) m
-      × (next.unit_power ≤ most_unit_power version)
+      → (next : CheckpointValue) × (next.number ≡ number + 1) × IsLog d' v' next (dropped m) m × (shape_of next ≡ shape_of k)
   pub moment : LeavesEither d d' v version number
   pub told : length d'.told ≤ length d.told + orders_for (length v.dirty.blocks)
 
@@ -60,6 +59,6 @@ pub record CommitFails (d d' : DeviceState) (v : LogMemory) (version number : �
   pub carries : Carries d d'
   pub cause : (k : CheckpointValue) (m0 m : LogMap) → d'.keeps_model → IsLog d v k m0 m → d.failed_orders < d'.failed_orders
   pub left : (k : CheckpointValue) (m0 m : LogMap) → d'.keeps_model → IsAcknowledged d v version number k m0 m
-      → AllLeft d' (StandsForOn k.segments m0 (dropped m))
+      → AllLeft d' (StandsForOn (shape_of k) m0 (dropped m))
   pub moment : LeavesEither d d' v version number
   pub told : length d'.told ≤ length d.told + orders_for (length v.dirty.blocks)

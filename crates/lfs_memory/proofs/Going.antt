@@ -1,6 +1,7 @@
 -- Parts of a commit, one after the other.
 use Rattle.std.proofs.Common.{◌≡◌, ◌≤◌, ◌+◌, ℕ, refl, arith}
 use Rattle.std.specs.Prelude.{Result, Ok, Err, IsErr, IsErrAnd, OnOk, OnErr, Option, Some, None, IfOk, IfSome, IfNone}
+use Rattle.lfs_model.specs.Checkpoint.{shape_of}
 use Rattle.lfs_model.specs.Content.{Content}
 use Rattle.lfs_model.specs.Crash.{StandsOn}
 use Rattle.lfs_model.specs.Device.{DeviceState, IsLawful}
@@ -18,13 +19,13 @@ goes_none {d} v lawful memory = record {
   no_failure = refl;
   emptied = λ s is. is;
   log = λ k m0 m keeps is. is;
-  quiet = λ k m0 m keeps is. started (λ c. StandsOn k.segments c m0) lawful (settled_stands d k m0 is.running.settled);
+  quiet = λ k m0 m keeps is. started (λ c. StandsOn (shape_of k) c m0) lawful (settled_stands d k m0 is.running.settled);
 }
 
 quiet_then : {p : ℕ} (a b c : DeviceState) {v v' : LogMemory} {n : ℕ} → GoesUpTo p a b v v' n → (c.keeps_model → b.keeps_model)
     → Quiet b c v' → Quiet a c v
 quiet_then a b c one back quiet k m0 m keeps is =
-    let P : Content → Type 0 = λ x. StandsOn k.segments x m0 in
+    let P : Content → Type 0 = λ x. StandsOn (shape_of k) x m0 in
     joined P P P (one.quiet k m0 m (back keeps) is) (quiet k m0 m keeps (one.log k m0 m (back keeps) is)) (λ x h. h) (λ x h. h)
 
 pub goes_then : {p q : ℕ} {a b c : DeviceState} {v v' v'' : LogMemory} {n l : ℕ} → GoesUpTo p a b v v' n → GoesUpTo q b c v' v'' l

@@ -1,6 +1,6 @@
 -- What a call of the device leaves of the log, and the chunk that is being written.
 use Rattle.std.proofs.Common.{◌≡◌, ◌<◌, ◌≤◌, ◌+◌, ◌*◌, ℕ, List, length, Option, Some, None, refl, subst, arith}
-use Rattle.lfs_model.specs.Checkpoint.{CheckpointValue}
+use Rattle.lfs_model.specs.Checkpoint.{CheckpointValue, shape_of}
 use Rattle.lfs_model.specs.Content.{Content}
 use Rattle.lfs_model.specs.Crash.{IsFreeSector, StandsOn}
 use Rattle.lfs_model.specs.Device.{DeviceState, MayWriteUnit, CrashWritesUnit, Carries, Elapses, IsLawful, LeavesOnly}
@@ -48,9 +48,9 @@ module _ {d d' : DeviceState} {k : CheckpointValue} (m0 : LogMap) (at : ℕ) (by
   pub stays_settled : IsSettled d' k m0
   stays_settled = (settled_write d d' k m0 at bytes settled free may crash unit).0
 
-  pub stays_quiet : IsLawful d → Carries d d' → Elapses d d' → LeavesOnly d d' (λ c. StandsOn k.segments c m0)
+  pub stays_quiet : IsLawful d → Carries d d' → Elapses d d' → LeavesOnly d d' (λ c. StandsOn (shape_of k) c m0)
   stays_quiet lawful carries time =
-      let P : Content → Type 0 = λ c. StandsOn k.segments c m0 in
+      let P : Content → Type 0 = λ c. StandsOn (shape_of k) c m0 in
       goes_on P (started P lawful (settled_stands d k m0 settled)) carries time (settled_stands d' k m0 stays_settled)
 
 -- a sector that the acknowledged checkpoint has no use for

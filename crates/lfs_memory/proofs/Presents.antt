@@ -3,7 +3,7 @@ use Rattle.std.proofs.Common.{◌≡◌, ◌<◌, ◌≤◌, ◌⊎◌, ◌-◌,
 use Rattle.std.proofs.Common.{arith, inl, inr, zero, suc, Bool, true, false}
 use Rattle.std.proofs.Math.Path.{fun_ext}
 use Rattle.std.proofs.lemmas.Bool.{cases_eq, cases_lt}
-use Rattle.lfs_model.specs.Checkpoint.{CheckpointValue}
+use Rattle.lfs_model.specs.Checkpoint.{CheckpointValue, shape_of}
 use Rattle.lfs_model.specs.Content.{Content, block, bytes_of}
 use Rattle.lfs_model.specs.Crash.{StandsOn}
 use Rattle.lfs_model.specs.Device.{DeviceState, IsLawful, LeavesOnly}
@@ -47,9 +47,9 @@ still_log {d} {d'} {v} {k} {m0} {m} looks is = record {
 -- a stop meanwhile leaves what is acknowledged
 pub looks_quiet : {d : DeviceState} (d' : DeviceState) {v : LogMemory} (k : CheckpointValue) (m0 m : LogMap) → IsLawful d → Looks d d'
     → IsLoose d v k m0 m
-    → LeavesOnly d d' (λ c. StandsOn k.segments c m0)
+    → LeavesOnly d d' (λ c. StandsOn (shape_of k) c m0)
 looks_quiet {d} d' k m0 m lawful looks is =
-    let P : Content → Type 0 = λ c. StandsOn k.segments c m0 in
+    let P : Content → Type 0 = λ c. StandsOn (shape_of k) c m0 in
     goes_on P (started P lawful (settled_stands d k m0 is.running.settled)) looks.carries looks.time
     (settled_stands d' k m0 (settled_still d d' k m0 is.running.settled looks.untouched looks.carries.unit))
 

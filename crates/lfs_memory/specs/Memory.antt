@@ -4,7 +4,7 @@ use Rattle.std.specs.Prelude.{Some, None}
 use Rattle.lfs_model.specs.declared.limits.TheConstants.{BLOCK_SEGMENTS, CHECKPOINT_SLOTS, CHUNK_BLOCKS, FILE_NUMBERS, MOST_SEGMENTS}
 use Rattle.lfs_model.specs.declared.limits.TheConstants.{MOST_UNIT_POWER, OPEN_CHUNK_BLOCKS, SEGMENT_SECTORS, TABLE_BLOCKS}
 use Rattle.lfs_model.specs.Entry.{Entry, Data, Leaf, Double, Inode, Map, Usage}
-use Rattle.lfs_model.specs.Checkpoint.{CheckpointValue, IsSegmentCount}
+use Rattle.lfs_model.specs.Checkpoint.{CheckpointValue, IsSegmentCount, shape_of}
 use Rattle.lfs_model.specs.Crash.{StandsOn}
 use Rattle.lfs_model.specs.Device.{DeviceState, Carries, LeavesOnly}
 use Rattle.lfs_model.specs.Stands.{LogMap}
@@ -99,7 +99,7 @@ pub record IsLog (d : DeviceState) (v : LogMemory) (k : CheckpointValue) (m0 m :
 
 -- the contents that a stop meanwhile leaves stand for what is acknowledged, on as many segments
 abbrev pub Quiet : DeviceState → DeviceState → LogMemory → Type 0
-Quiet d d' v = (k : CheckpointValue) (m0 m : LogMap) → d'.keeps_model → IsLog d v k m0 m → LeavesOnly d d' (λ c. StandsOn k.segments c m0)
+Quiet d d' v = (k : CheckpointValue) (m0 m : LogMap) → d'.keeps_model → IsLog d v k m0 m → LeavesOnly d d' (λ c. StandsOn (shape_of k) c m0)
 
 -- A part of a commit that is done, and placed at most so many blocks.
 pub record GoesUpTo (most : ℕ) (d d' : DeviceState) (v v' : LogMemory) (placed : ℕ) : Type 0 where

@@ -5,7 +5,7 @@ use Rattle.std.proofs.Math.Path.{fun_ext}
 use Rattle.std.proofs.lemmas.List.{get_or_past}
 use Rattle.std.proofs.lemmas.Bool.{eq-eqb, cond-true}
 use Rattle.lfs_model.specs.Entry.{Entry, Data, Leaf, Double, Inode, Map, Usage, entries_in}
-use Rattle.lfs_model.specs.Checkpoint.{CheckpointValue, checkpoint_in, layout_version}
+use Rattle.lfs_model.specs.Checkpoint.{CheckpointValue, checkpoint_in, layout_version, shape_of}
 use Rattle.lfs_model.specs.Content.{Content, bytes_of, slot, with_parity}
 use Rattle.lfs_model.specs.Device.{MayWrite, left_old, left_new, left_bad, cell_at}
 use Rattle.lfs_model.specs.Reach.{address, used, Row, chunks, row, row_by, place_in, View, view}
@@ -39,7 +39,7 @@ locality c d m s keeps =
     record { checkpoint = s.checkpoint; newest = keeps.newest; stands = stands_at_same c d s.checkpoint m s.stands keeps.size keeps.same }
 
 -- and it has the segments of the same checkpoint
-pub locality_on : (c d : Content) (m : LogMap) (s : StandsLog c m) → Keeps c s.checkpoint d → StandsOn s.checkpoint.segments d m
+pub locality_on : (c d : Content) (m : LogMap) (s : StandsLog c m) → Keeps c s.checkpoint d → StandsOn (shape_of s.checkpoint) d m
 unfolding locality
 locality_on c d m s keeps = record { is = locality c d m s keeps; same = refl }
 
@@ -166,7 +166,7 @@ module _ (c : Content) (m : LogMap) (s : StandsLog c m) (e : Content) (keeps : K
         protected_above (view c s.checkpoint) s.stands.holds.stages at protected in omega (arith, low)) ∙ keeps.same at protected;
   }
 
-  at_lost : StandsOn s.checkpoint.segments (set e (next.number % 2) None) m
+  at_lost : StandsOn (shape_of s.checkpoint) (set e (next.number % 2) None) m
   at_lost = locality_on c (set e (next.number % 2) None) m s keeps_lost
 
   -- written: the next one is
@@ -181,7 +181,7 @@ module _ (c : Content) (m : LogMap) (s : StandsLog c m) (e : Content) (keeps : K
   }
 
   abbrev Either : Content → Type 0
-  Either d = StandsOn s.checkpoint.segments d m ⊎ StandsOn next.segments d m'
+  Either d = StandsOn (shape_of s.checkpoint) d m ⊎ StandsOn (shape_of next) d m'
 
   at_each : (d : Content) → MayWrite (next.number % 2) bytes e d → Either d
   unfolding at_written

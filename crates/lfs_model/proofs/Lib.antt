@@ -2,6 +2,7 @@ pub mod Cells
 pub mod Moments
 pub mod Pasts
 pub mod UnitWrites
+pub mod UnitsKept
 pub mod UnitStates
 pub mod Slots
 pub mod Numbers

@@ -1,6 +1,6 @@
 -- The device calls of a commit: what each leaves of what the acknowledged checkpoint needs.
 use Rattle.std.proofs.Common.{◌≡◌, ◌⊎◌, ◌<◌, ◌%◌, ◌^◌, ℕ, List, Some, refl, sym, ◌∙◌, ap, subst, arith}
-use Rattle.lfs_model.specs.Checkpoint.{CheckpointValue, unit_sectors}
+use Rattle.lfs_model.specs.Checkpoint.{CheckpointValue, Shape, unit_sectors, shape_of}
 use Rattle.lfs_model.specs.Content.{Content, newest}
 use Rattle.lfs_model.specs.Reach.{View, view}
 use Rattle.lfs_model.specs.Stands.{LogMap, StandsAt, StandsLog, Protected, used_in}
@@ -87,7 +87,7 @@ slot_torn d d' k next m m' slot bytes settled planned same only crash c left =
     let either =
     (slot_write d.content m (log_at k m d settled) d.content (keeps_itself d.content k settled.newest) next bytes m' planned.ready).0 c
     (subst (λ (n : ℕ). MayWrite n bytes d.content c) planned.place may) in
-    subst (λ (n : ℕ). StandsOn k.segments c m ⊎ StandsOn n c m') same either
+    subst (λ (x : Shape). StandsOn (shape_of k) c m ⊎ StandsOn x c m') same either
 
 pub acknowledged : Acknowledged
 acknowledged d d' k next m m' slot bytes settled planned power is only unit =

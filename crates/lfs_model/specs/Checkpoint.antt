@@ -17,6 +17,15 @@ pub record CheckpointValue : Type 0 where
   pub map : List ℕ
   pub usage : List ℕ
 
+-- how many segments a volume has, and its units: no commit changes them
+pub record Shape : Type 0 where
+  pub segments : ℕ
+  pub unit_power : ℕ
+
+-- those that a checkpoint names
+abbrev pub shape_of : CheckpointValue → Shape
+shape_of c = record { segments = c.segments; unit_power = c.unit_power }
+
 -- The text that a checkpoint begins with.
 unfoldable pub checkpoint_text : List ℕ
 checkpoint_text = codes "SLFSCKP1"

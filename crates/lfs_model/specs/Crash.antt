@@ -2,7 +2,7 @@
 -- That a checkpoint alone leads to a consistent state, and blocks that
 -- it needs aren't overwritten: the Sprite LFS paper (1992, section 4.1).
 use Rattle.std.specs.Prelude.{◌≡◌, ◌<◌, ◌≤◌, ◌⊎◌, ◌+◌, ◌%◌, ℕ, List, length, Some}
-use Rattle.lfs_model.specs.Checkpoint.{CheckpointValue, checkpoint_in}
+use Rattle.lfs_model.specs.Checkpoint.{CheckpointValue, Shape, checkpoint_in, shape_of}
 use Rattle.lfs_model.specs.Content.{Content, newest}
 use Rattle.lfs_model.specs.Device.{MayWrite, cell_at, put}
 use Rattle.lfs_model.specs.Reach.{view, segment_start}
@@ -30,14 +30,14 @@ pub record IsReadyFor (c : Content) (k next : CheckpointValue) (bytes : List ℕ
   pub spelt : checkpoint_in bytes ≡ Some next
   pub stands : StandsAt c next m
 
--- the content stands for the log map, by a checkpoint of so many segments
-pub record StandsOn (segments : ℕ) (c : Content) (m : LogMap) : Type 0 where
+-- the content stands for the log map, by a checkpoint of this shape
+pub record StandsOn (shape : Shape) (c : Content) (m : LogMap) : Type 0 where
   pub is : StandsLog c m
-  pub same : is.checkpoint.segments ≡ segments
+  pub same : shape_of is.checkpoint ≡ shape
 
--- each crash content stands for the one or the other, on a volume of so many segments
-abbrev pub StandsForOn : ℕ → LogMap → LogMap → Content → Type 0
-StandsForOn segments m m' c = StandsOn segments c m ⊎ StandsOn segments c m'
+-- each crash content stands for the one or the other, on a volume of this shape
+abbrev pub StandsForOn : Shape → LogMap → LogMap → Content → Type 0
+StandsForOn shape m m' c = StandsOn shape c m ⊎ StandsOn shape c m'
 
 -- The promises, for a function's contract.
 
@@ -52,9 +52,9 @@ abbrev pub FreeWrites : Type 0
 FreeWrites = (c : Content) (m : LogMap) (s : StandsLog c m) (at : ℕ) (bytes : List ℕ) → IsFreeSector c s.checkpoint at → (d d' : Content)
     → Keeps c s.checkpoint d → MayWrite at bytes d d' → Keeps c s.checkpoint d'
 
--- The write of the next checkpoint to its slot. Each content is left with as many segments as the checkpoint that it stands by.
+-- The write of the next checkpoint to its slot. Each content is left with the shape of the checkpoint that it stands by.
 abbrev pub SlotWrite : Type 0
 SlotWrite = (c : Content) (m : LogMap) (s : StandsLog c m) (e : Content) → Keeps c s.checkpoint e
     → (next : CheckpointValue) (bytes : List ℕ) (m' : LogMap) → IsReadyFor e s.checkpoint next bytes m'
-    → ((d : Content) → MayWrite (next.number % 2) bytes e d → StandsOn s.checkpoint.segments d m ⊎ StandsOn next.segments d m')
+    → ((d : Content) → MayWrite (next.number % 2) bytes e d → StandsOn (shape_of s.checkpoint) d m ⊎ StandsOn (shape_of next) d m')
     × (newest (put e (next.number % 2) bytes) ≡ Some next) × StandsAt (put e (next.number % 2) bytes) next m'

@@ -1,7 +1,7 @@
 -- A device whose acknowledged checkpoint stands for a log map, whatever a stop leaves, and the checkpoint that a commit puts in its place.
 -- Checkpoints written in turn, each once all that it leads to is on the device: the Sprite LFS paper (1992, section 4.1).
 use Rattle.std.specs.Prelude.{◌≡◌, ◌≤◌, ◌%◌, ℕ, List, Some}
-use Rattle.lfs_model.specs.Checkpoint.{CheckpointValue, unit_sectors}
+use Rattle.lfs_model.specs.Checkpoint.{CheckpointValue, unit_sectors, shape_of}
 use Rattle.lfs_model.specs.Content.{Content, newest}
 use Rattle.lfs_model.specs.Stands.{LogMap, StandsAt}
 use Rattle.lfs_model.specs.Crash.{Keeps, IsFreeSector, IsReadyFor, StandsOn, StandsForOn}
@@ -27,10 +27,10 @@ pub record IsPlanned (k : CheckpointValue) (e : Content) (slot : ℕ) (bytes : L
   pub place : slot ≡ next.number % 2
   pub ready : IsReadyFor e k next bytes m'
 
--- All that a stop may leave stands for the log map on as many segments as k has.
+-- All that a stop may leave stands for the log map on a volume of k's shape.
 abbrev pub SettledStands : Type 1
 SettledStands = (d : DeviceState) (k : CheckpointValue) (m : LogMap) → IsSettled d k m → (c : Content) → d.may_leave c
-    → StandsOn k.segments c m
+    → StandsOn (shape_of k) c m
 
 -- A write to a free sector, done or failed, keeps it so, and the segments that k doesn't use are the same.
 abbrev pub SettledWrite : Type 1
@@ -44,12 +44,12 @@ abbrev pub SettledStill : Type 1
 SettledStill = (d d' : DeviceState) (k : CheckpointValue) (m : LogMap) → IsSettled d k m → IsUntouched d d' → d'.unit ≡ d.unit
     → IsSettled d' k m
 
--- Once all is durable, the write of the next checkpoint's slot leaves, at each stop, the one log map or the other, on as many segments.
+-- Once all is durable, the write of the next checkpoint's slot leaves, at each stop, the one log map or the other, in the same shape.
 abbrev pub SlotTorn : Type 1
 SlotTorn = (d d' : DeviceState) (k next : CheckpointValue) (m m' : LogMap) (slot : ℕ) (bytes : List ℕ) → IsSettled d k m
     → IsPlanned k d.content slot bytes next m'
-    → next.segments ≡ k.segments → Only d.content d → CrashWritesUnit slot bytes d d' → (c : Content) → d'.may_leave c
-    → StandsForOn k.segments m m' c
+    → shape_of next ≡ shape_of k → Only d.content d → CrashWritesUnit slot bytes d d' → (c : Content) → d'.may_leave c
+    → StandsForOn (shape_of k) m m' c
 
 -- And once that is durable, the other.
 abbrev pub Acknowledged : Type 1

@@ -1,21 +1,43 @@
 -- Devices whose units are larger than a sector: what a stop within a write of one leaves, and what of that can't hurt. Drives write units
 -- of 4 KiB and more (their reports of a physical sector: SCSI's READ CAPACITY, ATA's IDENTIFY DEVICE). What one makes of them is an own
 -- choice.
-use Rattle.std.specs.Prelude.{◌≡◌, ◌↔◌, ◌<◌, ◌≤◌, ◌+◌, ◌*◌, ◌/◌, ℕ, zero, suc, List}
-use Rattle.lfs_model.specs.Checkpoint.{CheckpointValue}
-use Rattle.lfs_model.specs.Content.{Content}
+use Rattle.std.specs.Prelude.{◌≡◌, ◌↔◌, ◌<◌, ◌≤◌, ◌+◌, ◌*◌, ◌/◌, ℕ, zero, suc, List, Option, Some, None}
+use Rattle.lfs_model.specs.Checkpoint.{CheckpointValue, layout_version, unit_sectors}
+use Rattle.lfs_model.specs.Content.{Content, newest}
 use Rattle.lfs_model.specs.Crash.{Keeps, IsFreeSector}
 use Rattle.lfs_model.specs.Device.{AreSectors, Cell, CrashWrites, CrashWritesUnit, DeviceState, LieWithin, MayWrite, MayWriteUnit}
-use Rattle.lfs_model.specs.Device.{in_units}
+use Rattle.lfs_model.specs.Device.{LeavesOnly, in_units}
 use Rattle.lfs_model.specs.Reach.{view, segment_start}
 use Rattle.lfs_model.specs.Stands.{LogMap, StandsLog, used_in}
-use Rattle.lfs_model.specs.declared.limits.TheConstants.{SEGMENT_SECTORS}
+use Rattle.lfs_model.specs.declared.limits.TheConstants.{LAST_SECTOR_VERSION, SEGMENT_SECTORS}
 
 -- the units of a volume: each slot is one by itself, and the segments are cut into units of u sectors
 abbrev pub unit_by : ℕ → ℕ → ℕ
 unit_by u zero = 0
 unit_by u (suc zero) = 1
 unit_by u (suc (suc k)) = 2 + k / u
+
+-- those that a checkpoint names, which are sectors where there is none
+abbrev pub units_by : Option CheckpointValue → ℕ → ℕ
+units_by None = λ k. k
+units_by (Some k) = unit_by (unit_sectors k)
+
+-- those of the volume that this is
+abbrev pub units_of : Content → ℕ → ℕ
+units_of c = units_by (newest c)
+
+-- In the versions that have no larger ones each is a sector.
+abbrev pub UnitsOfSectors : Type 0
+UnitsOfSectors = (c : Content) (k : CheckpointValue) → newest c ≡ Some k → layout_version k ≤ LAST_SECTOR_VERSION
+    → units_of c ≡ (λ (j : ℕ). j)
+
+-- a volume with the units of one that a stop of this device may leave
+abbrev pub HasUnitsOf : DeviceState → Content → Type 0
+HasUnitsOf d c = (b : Content) × d.may_leave b × (units_of c ≡ units_of b)
+
+-- A stop at any moment since `old` leaves such a one.
+abbrev pub KeepsUnits : DeviceState → DeviceState → Type 0
+KeepsUnits old new = LeavesOnly old new (HasUnitsOf old)
 
 -- A write to a sector that is a unit by itself does what it does where all units are sectors.
 abbrev pub UnitOfOne : Type 0

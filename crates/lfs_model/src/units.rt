@@ -1,10 +1,15 @@
 //! The laws of units, each the contract of a function that does nothing.
 
-ghost use Rattle.lfs_model.specs.UnitLaws.{AlignedFree, FreeUnitWrites, UnitOfOne, UnitsWithin};
+ghost use Rattle.lfs_model.specs.UnitLaws.{AlignedFree, FreeUnitWrites, UnitOfOne, UnitsOfSectors, UnitsWithin};
 
 /// A sector that is a unit by itself is written as where all units are sectors.
 pub fn unit_of_one()
     ensures { UnitOfOne }
+{}
+
+/// A volume of version 1 or 2 has sectors as its units.
+pub fn units_of_sectors()
+    ensures { UnitsOfSectors }
 {}
 
 /// Units within larger ones do no more harm than those may.

@@ -212,6 +212,7 @@ module _ {D : Type 0} {state : D → DeviceState} {old new : Mounted D} {h off :
             quiet = answers.quiet;
           };
           leaves = does.leaves;
+          units = does.units;
           saves = does.saves;
         });
   }
@@ -256,6 +257,7 @@ module _ {D : Type 0} {state : D → DeviceState} {old new : Mounted D} {h off :
             quiet = λ e. absurd (cc);
           };
           leaves = does.leaves;
+          units = does.units;
           saves = λ e. absurd (cc);
         });
   }
@@ -287,6 +289,7 @@ module _ {D : Type 0} {state : D → DeviceState} {old new : Mounted D} {h off :
             quiet = λ e. absurd (cc);
           };
           leaves = does.leaves;
+          units = does.units;
           saves = does.saves;
         });
   }

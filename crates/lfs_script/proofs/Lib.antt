@@ -7,4 +7,4 @@ pub mod Filling
 pub mod Used
 pub mod InTurn
 pub mod InTurnNoted
-mod UnitsStay
+mod OwnUnits

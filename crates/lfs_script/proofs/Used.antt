@@ -2,7 +2,8 @@
 use Rattle.std.proofs.Common.{◌≡◌, ◌<◌, ◌≤◌, ⊎_elim, inl, arith, ℕ, Bool, true, false, Option, Result, Ok, Err, List, sym, ◌∙◌, subst}
 use Rattle.std.proofs.Common.{IfOk, IfErr, IsTrue}
 use Rattle.lfs_model.specs.Content.{Content}
-use Rattle.lfs_model.specs.Device.{Carries, DeviceState, Elapses, IsLawful, IsUntouched, LeavesOnly, LieWithin, Only, in_sectors}
+use Rattle.lfs_model.specs.Device.{Carries, DeviceState, Elapses, IsLawful, IsUntouched, LeavesOnly, LieWithin, Only, in_units}
+use Rattle.lfs_model.specs.UnitLaws.{units_of}
 use Rattle.lfs_model.specs.Run.{Point}
 use Rattle.lfs_model.specs.Script.{Line}
 use Rattle.lfs_model.specs.Call.{Answer, Call}
@@ -10,15 +11,22 @@ use Rattle.lfs_model.specs.Since.{AreKeptSince}
 use Rattle.lfs_model.specs.Use.{UsesVolume}
 use Rattle.lfs_model.proofs.Moments.{carries_then, goes_on, same_orders}
 use Rattle.lfs_model.proofs.UnitStates.{units_carry, units_elapse, units_only}
+use Rattle.lfs_device.specs.Memory.{memory_lawful}
 use Rattle.lfs_device.specs.MemoryDevice.{IsStopped, device_state}
+use Rattle.lfs_device.specs.Rows.{states_of}
+use Rattle.lfs_device.specs.Told.{orders_of}
+use Rattle.lfs_device.specs.Units.{unit_of}
 use Rattle.lfs_device.specs.declared.memory.MemDevice.{MemDevice}
 use Rattle.lfs_device.specs.declared.rows.Left.{Left}
+use Rattle.lfs_fs.specs.VolumeUnits.{by_volume, in_volume}
 use Rattle.lfs_fs.specs.declared.fs.Fs.{Fs}
+use Rattle.lfs_fs.specs.declared.in_volume.InVolume.{InVolume}
 use Rattle.lfs_fs.specs.Mounting.{FindsState, IsMountFault, IsRefused}
 use Rattle.lfs_fs.specs.Seen.{seen}
 use Rattle.lfs_fs.specs.Volume.{LeavesAll, Mounted}
 use Rattle.lfs_fs.specs.log.verify.declared.fault.MountFault.{MountFault}
 use Rattle.lfs_fs.specs.log.verify.declared.fault.MountFault.TheVariants.{NoMemory, Device, TooSmall, NoCheckpoint, Damaged}
+use Rattle.lfs_fs.proofs.InVolumes.{given_back}
 use Rattle.lfs_fs.proofs.Sessions.{told_saved, uses_told, uses_until, uses_volume}
 use Rattle.lfs_script.specs.Running.{Ends, EndsBy, EndsNoted}
 use Rattle.lfs_script.specs.Saved.{SessionSaved}
@@ -156,6 +164,7 @@ module _ {mid new : DeviceState} (counts : (t : ℕ) (c : Content) → t ≤ mid
     orders_before = uses.orders_before;
     orders_after = uses.orders_after ∙ sym (same_orders carries same);
     number_after = λ on c left. uses.number_after on c (was_left c left);
+    same_units = λ c left. uses.same_units c (was_left c left);
     moments = stop_leaves d _ uses.moments;
     pending = λ c left. uses.pending c (was_left c left);
     continues = λ before calls given was. (
@@ -244,78 +253,113 @@ module _ {mid new : DeviceState} (counts : (t : ℕ) (c : Content) → t ≤ mid
     unwritten = unused.unwritten;
   }
 
--- A stop of a device in memory, as one of sectors.
-module _ {mid new : MemDevice} {choices : List Left} {rest : Left} (stop : IsStopped choices rest mid new) where
-  counts_in_sectors : (t : ℕ) (c : Content) → t ≤ (device_state mid).moment → (in_sectors device_state mid).may_leave c
-      → (in_sectors device_state mid).left_since t c
-  counts_in_sectors t c le left = (left.0, inl left.1)
+-- A stop of a device in memory, as one of such units.
+module _ (unit : ℕ → ℕ) {mid new : MemDevice} {choices : List Left} {rest : Left} (stop : IsStopped choices rest mid new) where
+  abbrev before : DeviceState
+  before = in_units unit (device_state mid)
 
-  left_in_sectors : (c : Content) → (in_sectors device_state new).may_leave c → (in_sectors device_state mid).may_leave c
-  left_in_sectors c left = (
-    subst (λ (u : ℕ → ℕ). LieWithin u (λ k. k)) stop.carries.unit left.0,
+  abbrev after : DeviceState
+  after = in_units unit (device_state new)
+
+  counts : (t : ℕ) (c : Content) → t ≤ before.moment → before.may_leave c → before.left_since t c
+  counts t c le left = (left.0, inl left.1)
+
+  was_left : (c : Content) → after.may_leave c → before.may_leave c
+  was_left c left = (
+    subst (λ (u : ℕ → ℕ). LieWithin u unit) stop.carries.unit left.0,
     subst (λ (x : Content). (device_state mid).may_leave x) (sym (stop.durable c left.1)) stop.chosen,
   )
 
-  pub stop_carries : Carries (in_sectors device_state mid) (in_sectors device_state new)
-  stop_carries = units_carry (λ k. k) stop.carries
+  pub stop_carries : Carries before after
+  stop_carries = units_carry unit stop.carries
 
   pub stopped_in_memory : {d : DeviceState} {end : ScriptEnd} (r : Option (List ℕ)) {r' : Option (List ℕ)} (w : Option (List ℕ))
-      {w' : Option (List ℕ)} → Session end r r' w w' d (in_sectors device_state mid)
-      → Session end r r' w w' d (in_sectors device_state new)
+      {w' : Option (List ℕ)} → Session end r r' w w' d before → Session end r r' w w' d after
   stopped_in_memory r w session =
-      stopped counts_in_sectors stop_carries (units_elapse (λ k. k) stop.carries stop.time) stop.same_failures left_in_sectors r w session
+      stopped counts stop_carries (units_elapse unit stop.carries stop.time) stop.same_failures was_left r w session
 
   pub told_in_memory : {d : DeviceState} {strict : Bool} {end : StrictEnd} (r : Option (List ℕ)) {r' : Option (List ℕ)}
       (w : Option (List ℕ)) {w' : Option (List ℕ)} (s : List Glance) {s' : List Glance}
-      → SessionNoted strict end r r' w w' d (in_sectors device_state mid) s s'
-      → SessionNoted strict end r r' w w' d (in_sectors device_state new) s s'
+      → SessionNoted strict end r r' w w' d before s s' → SessionNoted strict end r r' w w' d after s s'
   told_in_memory r w s session =
-      stopped_told
-      counts_in_sectors stop_carries (units_elapse (λ k. k) stop.carries stop.time) stop.same_failures left_in_sectors r w s session
+      stopped_told counts stop_carries (units_elapse unit stop.carries stop.time) stop.same_failures was_left r w s session
 
   pub unused_in_memory : {R W : Type 0} {d : DeviceState} {fault : MountFault} {r r' : R} {w w' : W}
-      → IsUnused r r' w w' d (in_sectors device_state mid) fault → IsUnused r r' w w' d (in_sectors device_state new) fault
+      → IsUnused r r' w w' d before fault → IsUnused r r' w w' d after fault
   unused_in_memory unused =
-      still_unused counts_in_sectors stop_carries (units_elapse (λ k. k) stop.carries stop.time) stop.same_failures left_in_sectors unused
+      still_unused counts stop_carries (units_elapse unit stop.carries stop.time) stop.same_failures was_left unused
 
--- such a stop of a device that a use gave back out of the wrapper that it was put in
-module _ {d0 d mid0 mid new : MemDevice} {choices : List Left} {rest : Left} (same : d0 ≡ d) (back : mid ≡ mid0)
+-- such a stop of a device that a use gave back in the wrapper that it was put in
+module _ (v v' : InVolume MemDevice) {d mid new : MemDevice} {choices : List Left} {rest : Left} (device : v.device ≡ d)
+    (held : v.held.value ≡ d) (back : mid ≡ v'.device) (used : Carries (by_volume device_state v) (by_volume device_state v'))
     (stop : IsStopped choices rest mid new) where
+  unwrapped : (P : DeviceState → DeviceState → Type 0) → P (by_volume device_state v) (by_volume device_state v')
+      → P (in_volume device_state d d) (in_volume device_state d mid)
+  unwrapped = given_back device_state v v' (record { device = device; held = held }) back used
+
   pub stopped_behind : {end : ScriptEnd} (r : Option (List ℕ)) {r' : Option (List ℕ)} (w : Option (List ℕ)) {w' : Option (List ℕ)}
-      → Session end r r' w w' (in_sectors device_state d0) (in_sectors device_state mid0)
-      → Session end r r' w w' (in_sectors device_state d) (in_sectors device_state new)
-  stopped_behind {end} r {r'} w {w'} session = stopped_in_memory stop r w (
-      subst (λ (x : MemDevice). Session end r r' w w' (in_sectors device_state x) (in_sectors device_state mid)) same
-      (subst (λ (x : MemDevice). Session end r r' w w' (in_sectors device_state d0) (in_sectors device_state x)) (sym back) session))
+      → Session end r r' w w' (by_volume device_state v) (by_volume device_state v')
+      → Session end r r' w w' (in_volume device_state d d) (in_volume device_state d new)
+  stopped_behind {end} r {r'} w {w'} session =
+      stopped_in_memory (units_of (device_state d).content) stop r w (unwrapped (Session end r r' w w') session)
 
   pub told_behind : {strict : Bool} {end : StrictEnd} (r : Option (List ℕ)) {r' : Option (List ℕ)} (w : Option (List ℕ))
       {w' : Option (List ℕ)} (s : List Glance) {s' : List Glance}
-      → SessionNoted strict end r r' w w' (in_sectors device_state d0) (in_sectors device_state mid0) s s'
-      → SessionNoted strict end r r' w w' (in_sectors device_state d) (in_sectors device_state new) s s'
-  told_behind {strict} {end} r {r'} w {w'} s {s'} session = told_in_memory stop r w s (
-      subst (λ (x : MemDevice). SessionNoted strict end r r' w w' (in_sectors device_state x) (in_sectors device_state mid) s s') same
-      (subst (λ (x : MemDevice). SessionNoted strict end r r' w w' (in_sectors device_state d0) (in_sectors device_state x) s s') (sym back)
-      session))
+      → SessionNoted strict end r r' w w' (by_volume device_state v) (by_volume device_state v') s s'
+      → SessionNoted strict end r r' w w' (in_volume device_state d d) (in_volume device_state d new) s s'
+  told_behind {strict} {end} r {r'} w {w'} s {s'} session =
+      told_in_memory (units_of (device_state d).content) stop r w s (unwrapped (λ x y. SessionNoted strict end r r' w w' x y s s') session)
 
   pub unused_behind : {R W : Type 0} {fault : MountFault} {r r' : R} {w w' : W}
-      → IsUnused r r' w w' (in_sectors device_state d0) (in_sectors device_state mid0) fault
-      → IsUnused r r' w w' (in_sectors device_state d) (in_sectors device_state new) fault
-  unused_behind {fault} {r} {r'} {w} {w'} unused = unused_in_memory stop (
-      subst (λ (x : MemDevice). IsUnused r r' w w' (in_sectors device_state x) (in_sectors device_state mid) fault) same
-      (subst (λ (x : MemDevice). IsUnused r r' w w' (in_sectors device_state d0) (in_sectors device_state x) fault) (sym back) unused))
+      → IsUnused r r' w w' (by_volume device_state v) (by_volume device_state v') fault
+      → IsUnused r r' w w' (in_volume device_state d d) (in_volume device_state d new) fault
+  unused_behind {fault} {r} {r'} {w} {w'} unused =
+      unused_in_memory (units_of (device_state d).content) stop (unwrapped (λ x y. IsUnused r r' w w' x y fault) unused)
 
-  pub carries_behind : Carries (in_sectors device_state d0) (in_sectors device_state mid0)
-      → Carries (in_sectors device_state d) (in_sectors device_state new)
-  carries_behind carries = carries_then (
-      subst (λ (x : MemDevice). Carries (in_sectors device_state x) (in_sectors device_state mid)) same
-      (subst (λ (x : MemDevice). Carries (in_sectors device_state d0) (in_sectors device_state x)) (sym back) carries)) (stop_carries stop)
+  pub carries_behind : Carries (in_volume device_state d d) (in_volume device_state d new)
+  carries_behind = carries_then (unwrapped Carries used) (stop_carries (units_of (device_state d).content) stop)
 
--- A device in memory that keeps its model in sectors keeps it: its units stay.
-pub keeps_in_memory : (d d' : MemDevice) → Carries (in_sectors device_state d) (in_sectors device_state d')
-    → (in_sectors device_state d).keeps_model → (in_sectors device_state d').keeps_model
-keeps_in_memory d d' carries keeps = (carries.kept_as 0 (omega (arith))).1 keeps
+lawful_in_memory : (d : MemDevice) → IsLawful (device_state d)
+lawful_in_memory d =
+    memory_lawful (unit_of d.units) d.rows.items (states_of d.past.value) d.failed.value d.failed_orders.value
+    (orders_of d.told.value) d.bench d.fits d.whole d.were_whole
 
--- and where it is known what a stop leaves of it, this is known of it in sectors
-pub alone_in_sectors : (d : MemDevice) → Only (device_state d).content (device_state d)
-    → Only (in_sectors device_state d).content (in_sectors device_state d)
-alone_in_sectors d alone = units_only (λ k. k) (device_state d).content (device_state d) alone
+-- ---- A use of what the stop before it left, whose volume has the units of the first.
+module _ (first : MemDevice) (d d' : MemDevice) (same : units_of (device_state d).content ≡ units_of (device_state first).content) where
+  -- what is said of it by its own volume is said by the first
+  by_first : (P : DeviceState → DeviceState → Type 0) → P (in_volume device_state d d) (in_volume device_state d d')
+      → P (in_volume device_state first d) (in_volume device_state first d')
+  by_first P says = subst (λ (unit : ℕ → ℕ). P (in_units unit (device_state d)) (in_units unit (device_state d'))) same says
+
+  pub session_by_first : {end : ScriptEnd} {r r' w w' : Option (List ℕ)}
+      → Session end r r' w w' (in_volume device_state d d) (in_volume device_state d d')
+      → Session end r r' w w' (in_volume device_state first d) (in_volume device_state first d')
+  session_by_first {end} {r} {r'} {w} {w'} = by_first (Session end r r' w w')
+
+  pub told_by_first : {strict : Bool} {end : StrictEnd} {r r' w w' : Option (List ℕ)} {s s' : List Glance}
+      → SessionNoted strict end r r' w w' (in_volume device_state d d) (in_volume device_state d d') s s'
+      → SessionNoted strict end r r' w w' (in_volume device_state first d) (in_volume device_state first d') s s'
+  told_by_first {strict} {end} {r} {r'} {w} {w'} {s} {s'} = by_first (λ x y. SessionNoted strict end r r' w w' x y s s')
+
+  pub unused_by_first : {R W : Type 0} {fault : MountFault} {r r' : R} {w w' : W}
+      → IsUnused r r' w w' (in_volume device_state d d) (in_volume device_state d d') fault
+      → IsUnused r r' w w' (in_volume device_state first d) (in_volume device_state first d') fault
+  unused_by_first {fault} {r} {r'} {w} {w'} = by_first (λ x y. IsUnused r r' w w' x y fault)
+
+  -- and it keeps its model as one of such units
+  pub keeps_by_first : Carries (in_volume device_state d d) (in_volume device_state d d')
+      → (in_volume device_state first d).keeps_model → (in_volume device_state first d').keeps_model
+  keeps_by_first carries keeps = ((by_first Carries carries).kept_as 0 (omega arith)).1 keeps
+
+  -- what a stop leaves then has these units too
+  pub same_units_later : {lines : List Line} {answers : List Answer}
+      → UsesVolume (in_volume device_state first d) (in_volume device_state first d') lines answers
+      → (in_volume device_state first d').keeps_model
+      → units_of (device_state d').content ≡ units_of (device_state first).content
+  same_units_later uses keeps =
+      uses.same_units (device_state d').content (keeps.0, (lawful_in_memory d').present keeps.1) ∙ same
+
+-- and where it is known what a stop leaves of it, this is known of it as one of such units
+pub alone_in_units : (unit : ℕ → ℕ) (d : MemDevice) → Only (device_state d).content (device_state d)
+    → Only (in_units unit (device_state d)).content (in_units unit (device_state d))
+alone_in_units unit d alone = units_only unit (device_state d).content (device_state d) alone

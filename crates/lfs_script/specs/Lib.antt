@@ -4,7 +4,7 @@ pub mod Ending
 pub mod Strict
 pub mod Running
 pub mod Session
-pub mod OfSectors
+pub mod OwnUnits
 pub mod Unused
 pub mod Seen
 pub mod Noted

@@ -1,7 +1,8 @@
 // A whole use of a volume before a witness.
 ghost use Rattle.std.specs.Prelude.{◌≡◌, IfOk, IfErr, OnOk, OnErr};
-ghost use Rattle.lfs_model.specs.Device.{Carries, IsUntouched, Only, in_sectors};
+ghost use Rattle.lfs_model.specs.Device.{Carries, IsUntouched, Only};
 ghost use Rattle.lfs_device.specs.MemoryDevice.{device_state};
+ghost use Rattle.lfs_fs.specs.VolumeUnits.{in_volume};
 ghost use Rattle.lfs_fs.specs.log.Mounting.{HasWholeUnits};
 ghost use Rattle.lfs_script.specs.Heard.{HearsTo};
 ghost use Rattle.lfs_script.specs.Saved.{SessionSaved};
@@ -14,8 +15,8 @@ ghost use Rattle.lfs_script.specs.Unused.{IsUnused};
 use crate::script::{StrictEnd, run_noted};
 use crate::session::StoppedScript;
 use crate::witness::Witness;
-use lfs_device::{InSectors, Left, MemDevice, SectorDevice};
-use lfs_fs::{Fs, MountFault};
+use lfs_device::{Left, MemDevice, SectorDevice};
+use lfs_fs::{Fs, InVolume, MountFault};
 use std::alloc::Global;
 use std::io::{Read, Write};
 
@@ -27,9 +28,9 @@ pub struct UseEnd {
     pub is_saved: bool,
 }
 
-/// As `use_volume` or `use_volume_strict`, before a witness: a stop at any moment since a reply went
-/// out leaves every call that was acknowledged by then. It tells whether all is saved at the end.
-/// What the witness heard is the script in hindsight, as in `run_noted`.
+/// As `use_volume` or `use_volume_strict`, before a witness: a stop at any moment since a reply
+/// went out leaves every call that was acknowledged by then. It tells whether all is saved at the
+/// end. What the witness heard is the script in hindsight, as in `run_noted`.
 pub fn use_volume_noted<R: Read, W: Write, D: SectorDevice, S: Witness<D, W>>(
     alloc: Global,
     strict: bool,
@@ -71,9 +72,9 @@ pub fn use_volume_noted<R: Read, W: Write, D: SectorDevice, S: Witness<D, W>>(
     }
 }
 
-/// As `use_volume_noted` on a device in memory, which stops then: `left` is what it leaves of each
-/// sector that wasn't synced.
-pub fn use_and_stop_noted<R: Read, W: Write, S: Witness<InSectors<MemDevice>, W>>(
+/// As `use_volume_noted` on a device in memory, as one of the units of its volume. It stops then:
+/// `left` is what it leaves of each sector that wasn't synced.
+pub fn use_and_stop_noted<R: Read, W: Write, S: Witness<InVolume<MemDevice>, W>>(
     alloc: Global,
     strict: bool,
     reader: &mut R,
@@ -84,20 +85,21 @@ pub fn use_and_stop_noted<R: Read, W: Write, S: Witness<InSectors<MemDevice>, W>
 ) -> (Result<StrictEnd, MountFault>, MemDevice)
     ensures ran { IfOk result.0 (λ end. SessionNoted strict end (R.remaining reader.old)
         (R.remaining reader.new) (W.contents writer.old) (W.contents writer.new)
-        (in_sectors device_state device) (in_sectors device_state result.1) (S.glances witness.old)
-        (S.glances witness.new)) }
+        (in_volume device_state device device) (in_volume device_state device result.1)
+        (S.glances witness.old) (S.glances witness.new)) }
     ensures reads { IfOk result.0 (λ end. ReadsTo end (S.failures witness.old)
         (S.failures witness.new) (R.remaining reader.old) (R.remaining reader.new)) }
     ensures heard { IfOk result.0 (λ end. HearsTo (S.heard witness.old) (S.heard witness.new)
         (λ r r'. SessionNoted strict end r r' (W.contents writer.old) (W.contents writer.new)
-        (in_sectors device_state device) (in_sectors device_state result.1) (S.glances witness.old)
-        (S.glances witness.new)
+        (in_volume device_state device device) (in_volume device_state device result.1)
+        (S.glances witness.old) (S.glances witness.new)
         × ReadsTo end (S.failures witness.old) (S.failures witness.new) r r')) }
     ensures refused { IfErr result.0 (IsUnused reader.old reader.new writer.old writer.new
-        (in_sectors device_state device) (in_sectors device_state result.1)) }
+        (in_volume device_state device device) (in_volume device_state device result.1)) }
     ensures unseen { OnErr result.0 (witness.new ≡ witness.old) }
     ensures alone { Only (device_state result.1).content (device_state result.1) }
-    ensures carries { Carries (in_sectors device_state device) (in_sectors device_state result.1) }
+    ensures carries { Carries (in_volume device_state device device)
+        (in_volume device_state device result.1) }
 {
     let (end, used) = use_volume_noted(
         alloc,
@@ -105,7 +107,7 @@ pub fn use_and_stop_noted<R: Read, W: Write, S: Witness<InSectors<MemDevice>, W>
         reader,
         writer,
         witness,
-        InSectors::new(device),
+        InVolume::new(device),
     );
     let mut stopped = used.into_inner();
     stopped.crash(left);
@@ -117,7 +119,7 @@ pub fn use_and_stop_noted<R: Read, W: Write, S: Witness<InSectors<MemDevice>, W>
 
 /// As `use_each`, before a witness: in each use a stop at any moment since a reply went out leaves
 /// every call of it that was acknowledged by then, and the next begins with what the last stop left.
-pub fn use_each_noted<W: Write, S: Witness<InSectors<MemDevice>, W>>(
+pub fn use_each_noted<W: Write, S: Witness<InVolume<MemDevice>, W>>(
     alloc: Global,
     strict: bool,
     scripts: &[StoppedScript],
@@ -125,15 +127,13 @@ pub fn use_each_noted<W: Write, S: Witness<InSectors<MemDevice>, W>>(
     witness: &mut S,
     device: MemDevice,
 ) -> (Result<(), MountFault>, MemDevice)
-    ensures ran { OnOk result.0 (FromAny (in_sectors device_state) (W.contents writer.old) device
-        (λ before.
-        UsesInTurnNoted (in_sectors device_state) strict (texts_of scripts.now) before
-        (W.contents writer.new)
-        result.1 (S.glances witness.old) (S.glances witness.new))) }
-    ensures stopped { IfErr result.0 (λ fault. FromAny (in_sectors device_state) (W.contents
-        writer.old) device
-        (λ before. StopsAtMountNoted (in_sectors device_state) strict (texts_of scripts.now) fault
-        before
+    ensures ran { OnOk result.0 (FromAny (in_volume device_state device)
+        (W.contents writer.old) device (λ before.
+        UsesInTurnNoted (in_volume device_state device) strict (texts_of scripts.now) before
+        (W.contents writer.new) result.1 (S.glances witness.old) (S.glances witness.new))) }
+    ensures stopped { IfErr result.0 (λ fault. FromAny (in_volume device_state device)
+        (W.contents writer.old) device (λ before.
+        StopsAtMountNoted (in_volume device_state device) strict (texts_of scripts.now) fault before
         (W.contents writer.new) result.1 (S.glances witness.old) (S.glances witness.new))) }
 {
     let mut current = device;

@@ -1,15 +1,16 @@
 // Whole uses of a volume.
 ghost use Rattle.std.specs.Prelude.{IfOk, IfErr, OnOk, OnErr};
-ghost use Rattle.lfs_model.specs.Device.{Carries, IsUntouched, Only, in_sectors};
+ghost use Rattle.lfs_model.specs.Device.{Carries, IsUntouched, Only};
 ghost use Rattle.lfs_device.specs.MemoryDevice.{device_state};
+ghost use Rattle.lfs_fs.specs.VolumeUnits.{in_volume};
 ghost use Rattle.lfs_fs.specs.log.Mounting.{HasWholeUnits};
 ghost use Rattle.lfs_script.specs.Series.{FromAny, StopsAtMount, UsesInTurn, texts_of};
 ghost use Rattle.lfs_script.specs.Session.{Session};
 ghost use Rattle.lfs_script.specs.Unused.{IsUnused};
 
 use crate::script::{ScriptEnd, run};
-use lfs_device::{InSectors, Left, MemDevice, SectorDevice};
-use lfs_fs::{Fs, MountFault};
+use lfs_device::{Left, MemDevice, SectorDevice};
+use lfs_fs::{Fs, InVolume, MountFault};
 use std::alloc::Global;
 use std::io::{Read, Write};
 
@@ -41,8 +42,8 @@ pub fn use_volume<R: Read, W: Write, D: SectorDevice>(
     }
 }
 
-/// As `use_volume` on a device in memory, which stops then: `left` is what it leaves of each sector
-/// that wasn't synced.
+/// As `use_volume` on a device in memory, as one of the units of its volume. It stops then: `left`
+/// is what it leaves of each sector that wasn't synced.
 pub fn use_and_stop<R: Read, W: Write>(
     alloc: Global,
     reader: &mut R,
@@ -52,13 +53,14 @@ pub fn use_and_stop<R: Read, W: Write>(
 ) -> (Result<ScriptEnd, MountFault>, MemDevice)
     ensures ran { IfOk result.0 (λ end. Session end (R.remaining reader.old)
         (R.remaining reader.new) (W.contents writer.old) (W.contents writer.new)
-        (in_sectors device_state device) (in_sectors device_state result.1)) }
+        (in_volume device_state device device) (in_volume device_state device result.1)) }
     ensures refused { IfErr result.0 (IsUnused reader.old reader.new writer.old writer.new
-        (in_sectors device_state device) (in_sectors device_state result.1)) }
+        (in_volume device_state device device) (in_volume device_state device result.1)) }
     ensures alone { Only (device_state result.1).content (device_state result.1) }
-    ensures carries { Carries (in_sectors device_state device) (in_sectors device_state result.1) }
+    ensures carries { Carries (in_volume device_state device device)
+        (in_volume device_state device result.1) }
 {
-    let (end, used) = use_volume(alloc, reader, writer, InSectors::new(device));
+    let (end, used) = use_volume(alloc, reader, writer, InVolume::new(device));
     let mut stopped = used.into_inner();
     stopped.crash(left);
     (end, stopped)
@@ -71,21 +73,21 @@ pub struct StoppedScript {
     pub left: Left,
 }
 
-/// Uses a volume by each of the scripts in turn, on what the stop before it left. The first mount
-/// that fails is the last.
+/// Uses a volume by each of the scripts in turn, on what the stop before it left, which has the
+/// units of the volume that was there first. The first mount that fails is the last.
 pub fn use_each<W: Write>(
     alloc: Global,
     scripts: &[StoppedScript],
     writer: &mut W,
     device: MemDevice,
 ) -> (Result<(), MountFault>, MemDevice)
-    ensures ran { OnOk result.0 (FromAny (in_sectors device_state) (W.contents writer.old) device
-        (λ before.
-        UsesInTurn (in_sectors device_state) (texts_of scripts.now) before (W.contents writer.new)
-        result.1)) }
-    ensures stopped { IfErr result.0 (λ fault. FromAny (in_sectors device_state) (W.contents
-        writer.old) device
-        (λ before. StopsAtMount (in_sectors device_state) (texts_of scripts.now) fault before
+    ensures ran { OnOk result.0 (FromAny (in_volume device_state device)
+        (W.contents writer.old) device (λ before.
+        UsesInTurn (in_volume device_state device) (texts_of scripts.now) before
+        (W.contents writer.new) result.1)) }
+    ensures stopped { IfErr result.0 (λ fault. FromAny (in_volume device_state device)
+        (W.contents writer.old) device (λ before.
+        StopsAtMount (in_volume device_state device) (texts_of scripts.now) fault before
         (W.contents writer.new) result.1)) }
 {
     let mut current = device;

@@ -1,8 +1,8 @@
 -- What a store's log holds as it commits, makes room and stages its draft.
 use Rattle.std.specs.Prelude.{Result, Ok, Err, OnErr, OnOk}
-use Rattle.std.proofs.Common.{◌≡◌, ◌<◌, ◌≤◌, ◌+◌, ◌/◌, inl, inr, ⊎_elim, cond, Bool, true, false, ℕ, refl}
+use Rattle.std.proofs.Common.{◌∙◌, ◌≡◌, ◌<◌, ◌≤◌, ◌+◌, ◌/◌, inl, inr, ⊎_elim, cond, Bool, true, false, ℕ, refl}
 use Rattle.std.proofs.Common.{arith}
-use Rattle.lfs_model.specs.Checkpoint.{CheckpointValue}
+use Rattle.lfs_model.specs.Checkpoint.{CheckpointValue, Shape, shape_of}
 use Rattle.lfs_model.specs.declared.limits.TheConstants.{MOST_UNSAVED}
 use Rattle.lfs_model.specs.Crash.{StandsOn}
 use Rattle.lfs_model.specs.Device.{DeviceState, IsLawful, Carries, LeavesOnly}
@@ -47,7 +47,7 @@ stays_then D a b c one two =
 module _ {D : Type 0} (state : D → DeviceState) {h h' : LogState D} (room : MakesClean state h h') where
   pub room_holds : (k : CheckpointValue) {m0 : LogMap} (m : LogMap) → (state h'.device).keeps_model → Holds state h k m0 m
       → IsLogMap (dropped m)
-      → HoldsNext state k.segments m0 m h' m
+      → HoldsNext state (shape_of k) m0 m h' m
   room_holds k {m0} m keeps is map =
       let over = room.keeps.holds k m0 m keeps is map in
       record {
@@ -70,7 +70,7 @@ module _ {D : Type 0} {state : D → DeviceState} where
     clean = omega arith;
     saved = all;
     no_failure = refl;
-    holds = λ k m0 m keeps is map. (k, rw (← (is.nothing_new all)) is);
+    holds = λ k m0 m keeps is map. (k, refl, rw (← (is.nothing_new all)) is);
     left = λ k m0 m keeps is map.
         rw (← (is.nothing_new all)) (acknowledged _ is);
     moment = (keeps_none _ h lawful running).moment;
@@ -120,7 +120,8 @@ module _ {D : Type 0} {state : D → DeviceState} where
       → Acknowledges state b c → Acknowledges state a c
   acknowledges_before a b c x one after all k m0 m keeps is map =
       let over = one.holds k m0 m (after.kept_before keeps) is map in
-      all over.checkpoint over.acknowledged m keeps over.holds map
+      let next = all over.checkpoint over.acknowledged m keeps over.holds map in
+      (next.0, next.1 ∙ over.same, next.2)
 
   keeps_numbered : (a b : LogState D) (x : ℕ) {y : ℕ} → KeepsMap state a b x → b.number ≤ a.number + y → KeepsMap state a b y
   keeps_numbered a b x one few = record {
@@ -202,12 +203,12 @@ module _ {D : Type 0} {state : D → DeviceState} where
     before = alters.looks.carries.kept_before
 
     -- a stop as it is staged leaves what is acknowledged
-    still_either : {segments : ℕ} (m0 m : LogMap) → HoldsNext state segments m0 m mid m
-        → LeavesOnly (state mid.device) (state h'.device) (IsSaved state segments m0 m)
-    still_either {segments} m0 m over =
-        weaker (λ x. StandsOn over.checkpoint.segments x over.acknowledged) _
+    still_either : {shape : Shape} (m0 m : LogMap) → HoldsNext state shape m0 m mid m
+        → LeavesOnly (state mid.device) (state h'.device) (IsSaved state shape m0 m)
+    still_either {shape} m0 m over =
+        weaker (λ x. StandsOn (shape_of over.checkpoint) x over.acknowledged) _
         (λ x there.
-        let stands : StandsOn segments x over.acknowledged = rw (← over.same) there in ⊎_elim
+        let stands : StandsOn shape x over.acknowledged = rw (← over.same) there in ⊎_elim
         (λ (old : over.acknowledged ≡ m0). inl (rw (← old) stands))
         (λ (new : over.acknowledged ≡ dropped m). inr (rw (← new) stands)) over.either) (looks_leave _ m lawful alters.looks over.holds)
 

@@ -1,6 +1,7 @@
 -- Room in memory that early writes make.
 use Rattle.std.proofs.Common.{◌≡◌, ◌<◌, ◌≤◌, ◌⊎◌, ◌+◌, ◌/◌, inl, inr, ⊎_elim, true, false, ℕ, length, refl, sym}
 use Rattle.std.proofs.Common.{◌∙◌, subst, arith}
+use Rattle.lfs_model.specs.Checkpoint.{shape_of}
 use Rattle.lfs_model.specs.Content.{Content}
 use Rattle.lfs_model.specs.Crash.{StandsOn}
 use Rattle.lfs_model.specs.Device.{DeviceState, IsLawful}
@@ -41,7 +42,7 @@ module _ {D : Type 0} (state : D → DeviceState) where
     no_failure = refl;
     holds = λ k m0 m keeps is. is;
     moment = λ k m0 m keeps is.
-        started (λ (c : Content). StandsOn k.segments c m0) lawful (acknowledged _ is);
+        started (λ (c : Content). StandsOn (shape_of k) c m0) lawful (acknowledged _ is);
   }
 
   module _ {h h' : LogState D} (w : WritesEarly state h h') (totals : h'.totals ≡ h.totals) where
@@ -58,7 +59,7 @@ module _ {D : Type 0} (state : D → DeviceState) where
           rest = w.rest;
           holds = λ k m0 m keeps is map.
               record { checkpoint = k; acknowledged = m0; either = inl refl; same = refl; holds = w.holds k m0 m keeps is };
-          moment = λ k m0 m keeps is map. weaker (λ (c : Content). StandsOn k.segments c m0) _ (λ x p. inl p) (w.moment k m0 m keeps is);
+          moment = λ k m0 m keeps is map. weaker (λ (c : Content). StandsOn (shape_of k) c m0) _ (λ x p. inl p) (w.moment k m0 m keeps is);
         }
 
     clean_stays : HasClean h → HasClean h'

@@ -1,7 +1,7 @@
 -- A store over its log: what it holds from a mount on, as drafts are staged and commits save them.
 use Rattle.std.specs.Prelude.{◌≡◌, ◌⊎◌, ◌<◌, ◌≤◌, ◌+◌, ◌/◌, ℕ, true, false, cond}
 use Rattle.lfs_model.specs.declared.limits.TheConstants.{MOST_UNSAVED}
-use Rattle.lfs_model.specs.Checkpoint.{CheckpointValue}
+use Rattle.lfs_model.specs.Checkpoint.{CheckpointValue, Shape, shape_of}
 use Rattle.lfs_model.specs.Crash.{StandsOn}
 use Rattle.lfs_model.specs.Device.{DeviceState, Carries, AllLeft}
 use Rattle.lfs_model.specs.Encodes.{IsLogMap}
@@ -52,18 +52,18 @@ module _ {D : Type 0} (state : D → DeviceState) where
     pub saved : h'.saved ≡ true
     pub no_failure : (state h'.device).failures ≡ (state h.device).failures
     pub holds : (k : CheckpointValue) (m0 m : LogMap) → (state h'.device).keeps_model → Holds state h k m0 m → IsLogMap (dropped m)
-        → (next : CheckpointValue) × Holds state h' next (dropped m) m
+        → (next : CheckpointValue) × (shape_of next ≡ shape_of k) × Holds state h' next (dropped m) m
     pub left : (k : CheckpointValue) (m0 m : LogMap) → (state h'.device).keeps_model → Holds state h k m0 m → IsLogMap (dropped m)
-        → AllLeft (state h'.device) (λ c. StandsOn k.segments c (dropped m))
+        → AllLeft (state h'.device) (λ c. StandsOn (shape_of k) c (dropped m))
     pub moment : LeavesSaved state h h'
 
   -- The log has log map m' now: over what was acknowledged before, m0, or over
-  -- m without its files of no links, if a commit came. It has its segments still.
-  pub record HoldsNext (segments : ℕ) (m0 m : LogMap) (h : LogState D) (m' : LogMap) : Type 0 where
+  -- m without its files of no links, if a commit came. The volume has this shape still.
+  pub record HoldsNext (shape : Shape) (m0 m : LogMap) (h : LogState D) (m' : LogMap) : Type 0 where
     pub checkpoint : CheckpointValue
     pub acknowledged : LogMap
     pub either : (acknowledged ≡ m0) ⊎ (acknowledged ≡ dropped m)
-    pub same : checkpoint.segments ≡ segments
+    pub same : shape_of checkpoint ≡ shape
     pub holds : Holds state h checkpoint acknowledged m'
 
   -- What isn't saved is committed, or a part of it written early, or nothing is done: room can be made still.
@@ -82,7 +82,7 @@ module _ {D : Type 0} (state : D → DeviceState) where
     pub unsaved : h'.saved ≡ false
     pub saves : SavesFew h h'
     pub holds : (k : CheckpointValue) (m0 m : LogMap) → (state h'.device).keeps_model → Holds state h k m0 m → Fits d m
-        → IsLogMap (dropped m) → HoldsNext k.segments m0 m h' (with_draft d m)
+        → IsLogMap (dropped m) → HoldsNext (shape_of k) m0 m h' (with_draft d m)
     pub moment : LeavesSaved state h h'
 
   -- Or it isn't: the log has the log map that it had.
@@ -92,7 +92,7 @@ module _ {D : Type 0} (state : D → DeviceState) where
     pub segments : h'.segments ≡ h.segments
     pub saves : SavesFew h h'
     pub holds : (k : CheckpointValue) (m0 m : LogMap) → (state h'.device).keeps_model → Holds state h k m0 m → Fits d m
-        → IsLogMap (dropped m) → HoldsNext k.segments m0 m h' m
+        → IsLogMap (dropped m) → HoldsNext (shape_of k) m0 m h' m
     pub moment : LeavesSaved state h h'
 
   -- a call of the device failed, where the log has a log map that the draft fits

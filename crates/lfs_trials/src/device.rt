@@ -1,4 +1,5 @@
 //! Devices in memory.
+use crate::order::NewVolume;
 use anyhow::{Context, Result};
 use lfs_device::{DeviceCall, Left, MemDevice, SectorDevice};
 use lfs_model::limits::{CHECKPOINT_SLOTS, SEGMENT_SECTORS};
@@ -15,30 +16,39 @@ pub fn device_of(alloc: Global, sectors: u32, unit: NonZeroU32, first: u32) -> R
     device.context("no memory for a device")
 }
 
-/// A device with an empty volume. One of version 3 has the device's units, and its slots are units by
-/// themselves.
-pub fn new_device(
-    alloc: Global,
-    segments: u16,
-    version: u32,
-    unit: NonZeroU32,
-) -> Result<MemDevice> {
-    let segments = u32::from(segments);
-    let (first, of_volume) = if version == 3 {
-        (CHECKPOINT_SLOTS, unit.get())
-    } else {
-        (0, 1)
-    };
-    let mut device = device_of(alloc, 2 + 64 * segments, unit, first)?;
+/// How many sectors a volume takes.
+pub fn sectors_of(volume: NewVolume) -> u32 {
+    2 + 64 * u32::from(volume.segments)
+}
+
+/// Makes an empty volume on a device. One of version 3 has the units that are told.
+pub fn make_volume<D: SectorDevice>(device: &mut D, volume: NewVolume) -> Result<()> {
+    let segments = u32::from(volume.segments);
     let shape = Shape {
         segments,
-        version,
+        version: volume.version,
         segment_sectors: SEGMENT_SECTORS,
-        unit: of_volume,
+        unit: if volume.version == 3 {
+            volume.unit.get()
+        } else {
+            1
+        },
     };
-    format_with(&mut device, shape)
+    format_with(device, shape)
         .ok()
-        .context(format_args!("no volume of {segments} segments"))?;
+        .context(format_args!("no volume of {segments} segments"))
+}
+
+/// A device with an empty volume. One of version 3 has the device's units, and its slots are units by
+/// themselves.
+pub fn new_device(alloc: Global, volume: NewVolume) -> Result<MemDevice> {
+    let first = if volume.version == 3 {
+        CHECKPOINT_SLOTS
+    } else {
+        0
+    };
+    let mut device = device_of(alloc, sectors_of(volume), volume.unit, first)?;
+    make_volume(&mut device, volume)?;
     Ok(device)
 }
 

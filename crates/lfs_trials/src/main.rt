@@ -17,6 +17,8 @@
 //!   which are `old`, `new` or `bad`. A sector that is `bad` spoils its whole unit.
 //! - `! rest read`, `write` or `sync` makes such calls until one fails, and says how many didn't.
 //! - `! writes` says how many writes were begun since `stop`.
+//! - `! image N V U PATH` makes a file with an empty volume of N segments, of version V, whose units
+//!   have U sectors in version 3.
 //! - `! cases` checks the cases of the folder that the program runs in. The exit status is 1 where
 //!   one differs.
 //!
@@ -35,14 +37,19 @@
 mod case;
 mod device;
 mod folder;
+mod image;
 mod order;
 mod talk;
 
 use anyhow::Result;
 use folder::check_cases;
+use image::make_image;
 use std::io::{self, BufRead, BufReader, Write};
 use std::process::ExitCode;
 use talk::Talk;
+
+/// What is told of a volume in a file.
+const IMAGE: &str = "! image ";
 
 /// Hears a line, and prints what is said of it.
 fn answer<R: Print + AllocGlobal>(rt: &R, talk: &mut Talk, line: &str) -> Result<()> {
@@ -60,6 +67,8 @@ fn main(rt: HostRuntime) -> Result<ExitCode> {
         let line = line?;
         if line.as_str() == "! cases" {
             are_well = check_cases(&rt)? && are_well;
+        } else if let Some(words) = line.as_str().strip_prefix(IMAGE) {
+            make_image(&rt, words)?;
         } else {
             answer(&rt, &mut talk, line.as_str())?;
         }

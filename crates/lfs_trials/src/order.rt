@@ -4,22 +4,20 @@ use lfs_device::{DeviceCall, Left};
 use std::alloc::Global;
 use std::num::NonZeroU32;
 
+/// A volume that is to be made: its segments, the version of its layout, and the sectors of a unit.
+#[derive(Clone, Copy)]
+pub struct NewVolume {
+    pub segments: u16,
+    pub version: u32,
+    pub unit: NonZeroU32,
+}
+
 /// What is to be done. A unit is of so many sectors.
 #[derive(Drop)]
 pub enum Order {
-    Device {
-        sectors: u32,
-        unit: NonZeroU32,
-    },
-    New {
-        segments: u16,
-        version: u32,
-        unit: NonZeroU32,
-    },
-    Fail {
-        call: DeviceCall,
-        nth: u64,
-    },
+    Device { sectors: u32, unit: NonZeroU32 },
+    New(NewVolume),
+    Fail { call: DeviceCall, nth: u64 },
     Stop(u64),
     Use,
     Crash(Vec<Left>),
@@ -70,10 +68,11 @@ fn new_device(words: &str) -> Result<Order> {
     })
 }
 
-fn new_volume(words: &str) -> Result<Order> {
+/// The volume that words tell.
+pub fn new_volume(words: &str) -> Result<NewVolume> {
     let (segments, words) = words.split_once(' ').context("segments and a version")?;
     let (version, unit) = words.split_once(' ').unwrap_or((words, ""));
-    Ok(Order::New {
+    Ok(NewVolume {
         segments: segments.parse::<u16>().context("segments")?,
         version: version.parse::<u32>().context("a version")?,
         unit: unit_of(unit)?,
@@ -93,7 +92,7 @@ pub fn read_order(alloc: Global, line: &str) -> Result<Order> {
     let (word, words) = line.split_once(' ').unwrap_or((line, ""));
     match word {
         "device" => new_device(words),
-        "new" => new_volume(words),
+        "new" => Ok(Order::New(new_volume(words)?)),
         "fail" => fault(words),
         "stop" => Ok(Order::Stop(words.parse::<u64>().context("the number of a write")?)),
         "use" => Ok(Order::Use),

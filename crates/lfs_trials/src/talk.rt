@@ -69,11 +69,7 @@ impl Talk {
             Order::Device { sectors, unit } => {
                 self.device = Some(device_of(alloc, sectors, unit, 0)?);
             }
-            Order::New {
-                segments,
-                version,
-                unit,
-            } => self.device = Some(new_device(alloc, segments, version, unit)?),
+            Order::New(volume) => self.device = Some(new_device(alloc, volume)?),
             Order::Fail { call, nth } => self.device()?.fail(call, nth),
             Order::Stop(write) => self.device()?.stop_at(write),
             Order::Use => self.use_device(alloc)?,

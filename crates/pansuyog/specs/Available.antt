@@ -1,14 +1,13 @@
 -- Which calls of C a device with room leaves no ground to refuse.
 use Rattle.std.specs.Prelude.{◌≡◌, ◌<◌, ◌+◌, ℤ, false, negsuc, Some, length}
 use Rattle.lfs_model.specs.Call.{Call}
-use Rattle.lfs_model.specs.Device.{in_sectors}
 use Rattle.lfs_model.specs.Run.{Point}
 use Rattle.lfs_fs.specs.Seen.{seen}
 use Rattle.lfs_fs.specs.Volume.{IsAt, most_orders, segments_of}
-use Rattle.lfs_fs.specs.declared.fs.Fs.{Fs}
+use Rattle.lfs_fs.specs.VolumeUnits.{by_volume}
 use Rattle.lfs_queue.specs.Queue.{borne_by, queue_state, told_of}
-use Rattle.lfs_queue.specs.declared.queue.QueueDevice.{QueueDevice}
 use Rattle.pansuyog_calls.specs.Codes.{device_failed}
+use Rattle.pansuyog.specs.Mounted.{MountedVolume, device_of}
 use Rattle.pansuyog.specs.Serving.{ServesCall}
 use Rattle.pansuyog.specs.declared.handle.Volume.{Volume}
 
@@ -18,12 +17,12 @@ halted = negsuc 19
 
 -- A volume is mounted and runs, and its device has room for more orders than the call may tell it.
 pub record HasRoomFor (volume : Volume) (call : Call) : Type 0 where
-  pub fs : Fs QueueDevice
+  pub fs : MountedVolume
   pub mounted : volume.fs ≡ Some fs
   pub running : (seen fs).log.halted ≡ false
   pub point : Point
-  pub at : IsAt (in_sectors queue_state) (seen fs) point
-  pub room : length (told_of (seen fs).log.device) + most_orders call (segments_of (seen fs)) < borne_by (seen fs).log.device
+  pub at : IsAt (by_volume queue_state) (seen fs) point
+  pub room : length (told_of (device_of fs)) + most_orders call (segments_of (seen fs)) < borne_by (device_of fs)
 
 -- So the call is answered neither by the number of a failed call of the device nor by that of a halted volume.
 abbrev pub CallsAreAvailable : Type 0

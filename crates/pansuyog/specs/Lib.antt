@@ -3,6 +3,7 @@ pub mod InARow
 pub mod Beginning
 pub mod Lending
 pub mod Making
+pub mod Mounted
 pub mod Orders
 pub mod Serving
 pub mod Sources

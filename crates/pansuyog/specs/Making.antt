@@ -1,7 +1,7 @@
 -- What a mount and the making of a volume are of.
 use Rattle.std.specs.Prelude.{◌≡◌, ◌≢◌, ◌<◌, ◌≤◌, ◌+◌, ◌*◌, ℕ, ℤ, pos, [], ◌∷◌, length, Option, Some, None, Result, Ok, Err}
 use Rattle.lfs_model.specs.Checkpoint.{IsSectorVersion, IsSegmentCount}
-use Rattle.lfs_model.specs.Device.{Carries, IsUntouched, LeavesOnly, Only, in_sectors}
+use Rattle.lfs_model.specs.Device.{Carries, IsUntouched, LeavesOnly, Only}
 use Rattle.lfs_model.specs.Image.{IsNew}
 use Rattle.lfs_model.specs.Tree.{Dir, new_form}
 use Rattle.lfs_model.specs.TreeOf.{Stands}
@@ -12,7 +12,8 @@ use Rattle.lfs_format.specs.declared.fault.FormatFault.{FormatFault}
 use Rattle.lfs_format.specs.declared.fault.FormatFault.TheVariants as format_fault
 use Rattle.lfs_fs.specs.Mounting.{FindsState, IsRefused, MountsFs}
 use Rattle.lfs_fs.specs.Seen.{seen}
-use Rattle.lfs_fs.specs.declared.fs.Fs.{Fs}
+use Rattle.lfs_fs.specs.VolumeUnits.{IsPutIn, by_volume, in_volume}
+use Rattle.lfs_fs.specs.declared.in_volume.InVolume.{InVolume}
 use Rattle.lfs_queue.specs.Images.{cells_of}
 use Rattle.lfs_queue.specs.Queue.{IsRoomier, due_of, queue_state, room_of, start_of, told_of}
 use Rattle.lfs_queue.specs.declared.image.Image.{Image as Given}
@@ -20,6 +21,7 @@ use Rattle.lfs_queue.specs.declared.queue.QueueDevice.{QueueDevice}
 use Rattle.lfs_store.specs.log.verify.declared.fault.MountFault.{MountFault}
 use Rattle.lfs_store.specs.log.verify.declared.fault.MountFault.TheVariants as mount_fault
 use Rattle.pansuyog_calls.specs.Codes.{already_mounted, code_of_format_fault, code_of_mount_fault, inval, no_memory, not_mounted}
+use Rattle.pansuyog.specs.Mounted.{MountedVolume, device_of}
 use Rattle.pansuyog.specs.declared.handle.Source.{Source}
 use Rattle.pansuyog.specs.declared.handle.Source.TheVariants.{Nothing, Image, Device}
 use Rattle.pansuyog.specs.declared.handle.Volume.{Volume}
@@ -49,30 +51,34 @@ pub data IsNotTaken (old new : Volume) (code : ℤ) : Type 0 where
   is_full : (was device : QueueDevice) → old.fs ≡ None → old.source ≡ Device was → code ≡ no_memory → new.fs ≡ None
       → new.source ≡ Device device → IsRoomier was device → new.listing ≡ old.listing → IsNotTaken old new code
 
+-- A volume is mounted over such a device. It keeps its model, and no call of it fails.
+pub record MountsIn (device : InVolume QueueDevice) (fs : MountedVolume) : Type 0 where
+  pub mounts : MountsFs (by_volume queue_state) device fs
+  pub only : FindsState (by_volume queue_state) device fs
+  pub durable : Only (by_volume queue_state device).content (by_volume queue_state (seen fs).log.device)
+  pub no_failure : (by_volume queue_state (seen fs).log.device).failures ≡ (by_volume queue_state device).failures
+  pub untouched : IsUntouched (by_volume queue_state device) (by_volume queue_state (seen fs).log.device)
+  pub carries : Carries (by_volume queue_state device) (by_volume queue_state (seen fs).log.device)
+  pub any_moment : LeavesOnly (by_volume queue_state device) (by_volume queue_state (seen fs).log.device)
+      (by_volume queue_state device).may_leave
+
 -- The device's volume is mounted, over the device that is in it then.
-pub record Mounts (device : QueueDevice) (fs : Fs QueueDevice) : Type 0 where
-  pub mounts : MountsFs (in_sectors queue_state) device fs
-  pub only : FindsState (in_sectors queue_state) device fs
-  pub durable : Only (in_sectors queue_state device).content (in_sectors queue_state (seen fs).log.device)
-  pub no_failure : (in_sectors queue_state (seen fs).log.device).failures ≡ (in_sectors queue_state device).failures
-  pub untouched : IsUntouched (in_sectors queue_state device) (in_sectors queue_state (seen fs).log.device)
-  pub carries : Carries (in_sectors queue_state device) (in_sectors queue_state (seen fs).log.device)
-  pub any_moment : LeavesOnly (in_sectors queue_state device) (in_sectors queue_state (seen fs).log.device)
-      (in_sectors queue_state device).may_leave
+abbrev pub Mounts : QueueDevice → MountedVolume → Type 0
+Mounts device fs = (put : InVolume QueueDevice) × IsPutIn device put × MountsIn put fs
 
 -- It isn't, for this fault.
 pub record IsNotMounted (old new : QueueDevice) (fault : MountFault) : Type 0 where
-  pub reason : IsRefused (in_sectors queue_state old) (in_sectors queue_state new) fault
-  pub untouched : IsUntouched (in_sectors queue_state old) (in_sectors queue_state new)
-  pub carries : Carries (in_sectors queue_state old) (in_sectors queue_state new)
-  pub any_moment : LeavesOnly (in_sectors queue_state old) (in_sectors queue_state new) (in_sectors queue_state old).may_leave
+  pub reason : IsRefused (in_volume queue_state old old) (in_volume queue_state old new) fault
+  pub untouched : IsUntouched (in_volume queue_state old old) (in_volume queue_state old new)
+  pub carries : Carries (in_volume queue_state old old) (in_volume queue_state old new)
+  pub any_moment : LeavesOnly (in_volume queue_state old old) (in_volume queue_state old new) (in_volume queue_state old old).may_leave
 
 -- The number of a fault. A call of a queue device fails only where memory for an order is refused.
 abbrev pub code_of_mounting : MountFault → ℤ
 code_of_mounting mount_fault.Device = no_memory
 code_of_mounting fault = code_of_mount_fault fault
 
-abbrev pub MountsOn : QueueDevice → Option (Fs QueueDevice) → Source → ℤ → Type 0
+abbrev pub MountsOn : QueueDevice → Option MountedVolume → Source → ℤ → Type 0
 MountsOn device (Some fs) Nothing code = (code ≡ pos 0) × Mounts device fs
 MountsOn device None (Device after) code = (fault : MountFault) × (code ≡ code_of_mounting fault) × IsNotMounted device after fault
 MountsOn device fs source code = ⊥
@@ -107,7 +113,7 @@ pub record Makes (segments version : ℕ) (old new : QueueDevice) (code : ℤ) :
   pub carries : Carries (queue_state old) (queue_state new)
   pub any_moment : LeavesOnly (queue_state old) (queue_state new) (MayStand version segments 0 (queue_state old))
 
-abbrev pub MakesOn : ℕ → ℕ → QueueDevice → Option (Fs QueueDevice) → Source → ℤ → Type 0
+abbrev pub MakesOn : ℕ → ℕ → QueueDevice → Option MountedVolume → Source → ℤ → Type 0
 MakesOn segments version device None (Device after) code = Makes segments version device after code
 MakesOn segments version device fs source code = ⊥
 
@@ -117,6 +123,6 @@ pub data MakesFrom (old new : Volume) (room segments version : ℕ) (code : ℤ)
   was_not_tried : IsNotTaken old new code → MakesFrom old new room segments version code
 
 -- What an unmounting leaves: the device that was in the volume.
-abbrev pub Unmounts : Option (Fs QueueDevice) → Source → Source → ℤ → Type 0
-Unmounts (Some fs) old new code = (code ≡ pos 0) × (new ≡ Device (seen fs).log.device)
+abbrev pub Unmounts : Option MountedVolume → Source → Source → ℤ → Type 0
+Unmounts (Some fs) old new code = (code ≡ pos 0) × (new ≡ Device (device_of fs))
 Unmounts None old new code = (code ≡ not_mounted) × (new ≡ old)

@@ -6,12 +6,12 @@ use Rattle.lfs_model.specs.declared.Order.TheVariants.{Write, Sync}
 use Rattle.lfs_model.specs.declared.limits.TheConstants.{SECTOR_LEN}
 use Rattle.lfs_fs.specs.Seen.{seen}
 use Rattle.lfs_fs.specs.Volume.{IsStill}
-use Rattle.lfs_fs.specs.declared.fs.Fs.{Fs}
+use Rattle.lfs_fs.specs.VolumeUnits.{by_volume}
 use Rattle.lfs_queue.specs.Numbered.{HasNumber, IsNoneWaiting}
-use Rattle.lfs_model.specs.Device.{in_sectors}
 use Rattle.lfs_queue.specs.Queue.{IsEmptied, carried_of, queue_state, told_of}
 use Rattle.lfs_queue.specs.declared.queue.QueueDevice.{QueueDevice}
 use Rattle.pansuyog_calls.specs.Codes.{code_of_count, inval, no_order, not_mounted}
+use Rattle.pansuyog.specs.Mounted.{MountedVolume, device_of}
 use Rattle.pansuyog.specs.declared.handle.Source.{Source}
 use Rattle.pansuyog.specs.declared.handle.Source.TheVariants.{Nothing, Image, Device}
 use Rattle.pansuyog.specs.declared.handle.Volume.{Volume}
@@ -24,8 +24,8 @@ device_from (Image image) = None
 device_from (Device device) = Some device
 
 -- the device of a volume: that of the one that is mounted, or one that none is mounted on
-abbrev pub device_by : Option (Fs QueueDevice) → Source → Option QueueDevice
-device_by (Some fs) source = Some (seen fs).log.device
+abbrev pub device_by : Option MountedVolume → Source → Option QueueDevice
+device_by (Some fs) source = Some (device_of fs)
 device_by None source = device_from source
 
 abbrev pub device_in : Volume → Option QueueDevice
@@ -71,9 +71,9 @@ pub data TellsRun (told carried : List Order) (number : ℕ) (code : ℤ) (first
       → TellsRun told carried number code first_before first before after
 
 -- All orders that waited were carried out: the volume sees nothing of it.
-abbrev pub CarriesOut : Option (Fs QueueDevice) → Option (Fs QueueDevice) → Source → Source → ℤ → Type 0
+abbrev pub CarriesOut : Option MountedVolume → Option MountedVolume → Source → Source → ℤ → Type 0
 CarriesOut (Some old) (Some new) from to code =
-    (code ≡ pos 0) × (to ≡ from) × IsEmptied (seen old).log.device (seen new).log.device × IsStill (in_sectors queue_state) (seen old)
+    (code ≡ pos 0) × (to ≡ from) × IsEmptied (device_of old) (device_of new) × IsStill (by_volume queue_state) (seen old)
     (seen new)
 CarriesOut None None (Device old) (Device new) code = (code ≡ pos 0) × IsEmptied old new
 CarriesOut None None Nothing to code = (code ≡ not_mounted) × (to ≡ Nothing)

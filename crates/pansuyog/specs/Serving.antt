@@ -1,7 +1,7 @@
 -- What a call of C makes of a volume: what the model's call makes of it. Every call is made.
 use Rattle.std.specs.Prelude.{◌≡◌, ℕ, ℤ, List}
 use Rattle.lfs_model.specs.Call.{Call}
-use Rattle.lfs_model.specs.Device.{in_sectors}
+use Rattle.lfs_fs.specs.VolumeUnits.{by_volume}
 use Rattle.lfs_queue.specs.Queue.{queue_state}
 use Rattle.pansuyog_calls.specs.Serving as calls
 use Rattle.pansuyog_calls.specs.Telling as telling
@@ -10,19 +10,19 @@ use Rattle.pansuyog_calls.specs.declared.rows.Stat.{Stat}
 use Rattle.pansuyog.specs.declared.handle.Volume.{Volume}
 
 abbrev pub ServesCall : Volume → Volume → Call → ℤ → Type 0
-ServesCall old new call code = calls.ServesCall (in_sectors queue_state) old.fs new.fs call code
+ServesCall old new call code = calls.ServesCall (by_volume queue_state) old.fs new.fs call code
 
 abbrev pub ServesBytes : Volume → Volume → Call → ℤ → List ℕ → List ℕ → Type 0
-ServesBytes old new call code before after = calls.ServesBytes (in_sectors queue_state) old.fs new.fs call code before after
+ServesBytes old new call code before after = calls.ServesBytes (by_volume queue_state) old.fs new.fs call code before after
 
 abbrev pub ServesStat : Volume → Volume → Call → ℤ → Stat → Stat → Type 0
-ServesStat old new call code before after = telling.ServesStat (in_sectors queue_state) old.fs new.fs call code before after
+ServesStat old new call code before after = telling.ServesStat (by_volume queue_state) old.fs new.fs call code before after
 
 abbrev pub ServesSpace : Volume → Volume → ℤ → Space → Space → Type 0
-ServesSpace old new code before after = telling.ServesSpace (in_sectors queue_state) old.fs new.fs code before after
+ServesSpace old new code before after = telling.ServesSpace (by_volume queue_state) old.fs new.fs code before after
 
 abbrev pub ServesListing : Volume → Volume → Call → ℤ → Type 0
-ServesListing old new call code = telling.ServesListing (in_sectors queue_state) old.fs new.fs call code old.listing new.listing
+ServesListing old new call code = telling.ServesListing (by_volume queue_state) old.fs new.fs call code old.listing new.listing
 
 -- the volume is as it was
 abbrev pub IsUnchanged : Volume → Volume → Type 0

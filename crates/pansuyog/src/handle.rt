@@ -5,8 +5,7 @@ ghost use Rattle.std.specs.contracts.impls.GlobalAllocator.TheImpl.{ghosts};
 ghost use Rattle.pansuyog.specs.contracts.handle.Volume.{the_row};
 ghost use Rattle.pansuyog.specs.declared.handle.Volume.{Volume};
 
-use lfs_device::InSectors;
-use lfs_fs::{Entry, Fs};
+use lfs_fs::{Entry, Fs, InVolume};
 use lfs_queue::{Image, QueueDevice};
 use pansuyog_heap::Loose;
 use std::alloc::Global;
@@ -26,7 +25,7 @@ pub enum Source {
 /// A volume as C has it: mounted or not, with the names that were listed last.
 #[derive(Drop)]
 pub struct Volume {
-    pub fs: Option<Fs<InSectors<QueueDevice>>>,
+    pub fs: Option<Fs<InVolume<QueueDevice>>>,
     pub source: Source,
     pub listing: Vec<Entry>,
 }

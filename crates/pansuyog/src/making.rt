@@ -14,8 +14,7 @@ ghost use Rattle.pansuyog.specs.Serving.{KeepsListing};
 ghost use Rattle.pansuyog.specs.declared.handle.Source.TheVariants as source_of;
 
 use crate::handle::{Handle, Source, Volume};
-use lfs_device::InSectors;
-use lfs_fs::{FormatFault, Fs, MountFault, format_version};
+use lfs_fs::{FormatFault, Fs, InVolume, MountFault, format_version};
 use lfs_queue::QueueDevice;
 use pansuyog_calls::codes::{
     ALREADY_MOUNTED, INVAL, NO_MEMORY, NOT_MOUNTED, TOO_SMALL, code_of_mount,
@@ -103,7 +102,7 @@ fn mount_on(alloc: Global, volume: &mut Volume, device: QueueDevice) -> i32
     ensures mounts { MountsOn device volume.new.fs volume.new.source result }
     ensures listing { KeepsListing volume.old volume.new }
 {
-    match Fs::mount(alloc, InSectors::new(device)) {
+    match Fs::mount(alloc, InVolume::new(device)) {
         Ok(fs) => {
             volume.fs = Some(fs);
             0

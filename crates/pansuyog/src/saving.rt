@@ -1,6 +1,6 @@
 //! Calls on the whole volume (POSIX.1-2017: fsync, sync), and those that the volume has besides.
 ghost use Rattle.lfs_model.specs.Call.{Fsync, Sync, Clean, Version, Upgrade};
-ghost use Rattle.lfs_model.specs.Device.{in_sectors};
+ghost use Rattle.lfs_fs.specs.VolumeUnits.{by_volume};
 ghost use Rattle.lfs_queue.specs.Queue.{queue_state};
 ghost use Rattle.pansuyog_calls.specs.Cleaning.{CleansOnceIn, TellsDue};
 ghost use Rattle.pansuyog.specs.Serving.{IsUnchanged, KeepsRest, ServesCall};
@@ -52,7 +52,7 @@ pub extern "C" fn pansuyog_is_cleaning_due(volume: &mut Handle) -> i32
 #[unsafe(no_mangle)]
 pub extern "C" fn pansuyog_clean_once(volume: &mut Handle) -> i32
     ensures serves { ServesCall volume.old.value volume.new.value Clean result }
-    ensures once { CleansOnceIn (in_sectors queue_state) volume.old.value.fs volume.new.value.fs
+    ensures once { CleansOnceIn (by_volume queue_state) volume.old.value.fs volume.new.value.fs
         result }
     ensures rest { KeepsRest volume.old.value volume.new.value }
 {

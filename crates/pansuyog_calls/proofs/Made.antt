@@ -1,10 +1,15 @@
--- A volume is made on a device: what is said of the device, and of the device in sectors.
+-- A volume is made on a device, or mounted: what is said of the device, and of it in sectors or in the units of its volume.
 use Rattle.std.proofs.Common.{◌≡◌, ◌⊎◌, inl, inr, ℕ, subst}
 use Rattle.lfs_model.specs.Content.{Content}
-use Rattle.lfs_model.specs.Device.{AreSectors, Carries, DeviceState, LeavesOnly, in_sectors}
+use Rattle.lfs_model.specs.Device.{AreSectors, Carries, DeviceState, IsUntouched, LeavesOnly, in_sectors}
 use Rattle.lfs_model.proofs.UnitStates.{units_carry, units_only}
 use Rattle.lfs_format.specs.Making.{HasMade, IsMaking, MayStand}
-use Rattle.pansuyog_calls.specs.Making.{IsEmptyVolume}
+use Rattle.lfs_fs.specs.Mounting.{IsRefused}
+use Rattle.lfs_fs.specs.VolumeUnits.{IsPutIn, by_volume, in_volume}
+use Rattle.lfs_fs.specs.declared.in_volume.InVolume.{InVolume}
+use Rattle.lfs_fs.proofs.InVolumes.{given_back}
+use Rattle.lfs_store.specs.log.verify.declared.fault.MountFault.{MountFault}
+use Rattle.pansuyog_calls.specs.Making.{IsEmptyVolume, IsNotMounted}
 
 module _ {D : Type 0} (state : D → DeviceState) (old new : D) where
   sectors_before : Carries (state old) (state new) → (in_sectors state new).keeps_model → AreSectors (state old).unit
@@ -42,3 +47,15 @@ module _ {D : Type 0} (state : D → DeviceState) (old new : D) where
     durable = units_only (λ k. k) (state new).content (state new) (made.durable keeps.1);
     volume = made.volume keeps.1;
   }
+
+-- a device that comes back out of its wrapper, where its volume isn't mounted
+pub not_mounted : {D : Type 0} (state : D → DeviceState) (v v' : InVolume D) {d d' : D} {fault : MountFault} → IsPutIn d v
+    → d' ≡ v'.device → IsRefused (by_volume state v) (by_volume state v') fault
+    → IsUntouched (by_volume state v) (by_volume state v') → Carries (by_volume state v) (by_volume state v')
+    → LeavesOnly (by_volume state v) (by_volume state v') (by_volume state v).may_leave → IsNotMounted (in_volume state d) d d' fault
+not_mounted state v v' {d} {d'} {fault} put back reason untouched carries moment = record {
+  reason = given_back state v v' put back carries (λ x y. IsRefused x y fault) reason;
+  untouched = given_back state v v' put back carries IsUntouched untouched;
+  carries = given_back state v v' put back carries Carries carries;
+  any_moment = given_back state v v' put back carries (λ x y. LeavesOnly x y x.may_leave) moment;
+}

@@ -2,7 +2,9 @@
 use Rattle.std.specs.Prelude.{◌≡◌, ◌≢◌, ℕ, ℤ, pos, Option, Some, None}
 use Rattle.lfs_model.specs.Device.{DeviceState}
 use Rattle.lfs_fs.specs.Seen.{seen}
+use Rattle.lfs_fs.specs.VolumeUnits.{IsPutIn, by_volume, in_volume}
 use Rattle.lfs_fs.specs.declared.fs.Fs.{Fs}
+use Rattle.lfs_fs.specs.declared.in_volume.InVolume.{InVolume}
 use Rattle.lfs_store.specs.log.verify.declared.fault.MountFault.{MountFault}
 use Rattle.pansuyog_calls.specs.Codes.{already_mounted, code_of_mount_fault, inval, not_mounted, read_only}
 use Rattle.pansuyog_calls.specs.Making.{IsNotMounted, Makes, Mounts}
@@ -16,16 +18,17 @@ pub record KeepsListingAndAccess {D : Type 0} (old new : VolumeIn D) : Type 0 wh
 
 -- What an unmounting leaves: the device that was in the volume.
 pub data Unmounts {D : Type 0} (old new : VolumeIn D) (code : ℤ) : Type 0 where
-  is_unmounted : (fs : Fs D) → old.fs ≡ Some fs → code ≡ pos 0 → new.fs ≡ None → new.device ≡ Some (seen fs).log.device
+  is_unmounted : (fs : Fs (InVolume D)) → old.fs ≡ Some fs → code ≡ pos 0 → new.fs ≡ None → new.device ≡ Some (seen fs).log.device.device
       → KeepsListingAndAccess old new → Unmounts old new code
   is_nothing : old.fs ≡ None → code ≡ not_mounted → new ≡ old → Unmounts old new code
 
 module _ {D : Type 0} (state : D → DeviceState) where
-  -- the device's volume is mounted, or the device is held as before
-  abbrev pub MountsDevice : D → Option (Fs D) → Option D → ℤ → Type 0
-  MountsDevice device (Some fs) None code = (code ≡ pos 0) × Mounts state device fs
+  -- the device's volume is mounted, the device being one of its units, or the device is held as before
+  abbrev pub MountsDevice : D → Option (Fs (InVolume D)) → Option D → ℤ → Type 0
+  MountsDevice device (Some fs) None code =
+      (code ≡ pos 0) × (put : InVolume D) × IsPutIn device put × Mounts (by_volume state) put fs
   MountsDevice device None (Some after) code =
-      (fault : MountFault) × (code ≡ code_of_mount_fault fault) × IsNotMounted state device after fault
+      (fault : MountFault) × (code ≡ code_of_mount_fault fault) × IsNotMounted (in_volume state device) device after fault
   MountsDevice device fs held code = ⊥
 
   -- A mount of the device that a volume holds: it was done or refused there, or a volume is mounted, or none is held.

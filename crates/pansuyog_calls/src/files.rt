@@ -1,18 +1,18 @@
 //! Calls on open files (POSIX.1-2017: open, close, pread, pwrite, ftruncate).
 ghost use Rattle.std.specs.Prelude.{◌-◌, ◌^◌, length, min};
-ghost use Rattle.lfs_model.specs.Device.{in_sectors};
+ghost use Rattle.lfs_fs.specs.VolumeUnits.{by_volume};
 ghost use Rattle.lfs_model.specs.Call.{Open, Create, Close, Pread, Pwrite, Truncate};
 ghost use Rattle.pansuyog_calls.specs.Serving.{Answers, ServesBytes, ServesCall, ServesChange, TellsBytes};
 
 use crate::access::Access;
 use crate::bytes::put;
 use crate::codes::{NOT_MOUNTED, READ_ONLY, code_of, counted, done};
-use lfs_device::{InSectors, SectorDevice};
-use lfs_fs::Fs;
+use lfs_device::SectorDevice;
+use lfs_fs::{Fs, InVolume};
 
 /// Opens the file of a path: a handle on it.
-pub fn open<D: SectorDevice>(fs: &mut Option<Fs<InSectors<D>>>, path: &[u8]) -> i32
-    ensures serves { ServesCall (in_sectors D.state) fs.old fs.new (Open path.now) result }
+pub fn open<D: SectorDevice>(fs: &mut Option<Fs<InVolume<D>>>, path: &[u8]) -> i32
+    ensures serves { ServesCall (by_volume D.state) fs.old fs.new (Open path.now) result }
 {
     match fs {
         Some(fs) => counted(fs.open(path)),
@@ -21,12 +21,8 @@ pub fn open<D: SectorDevice>(fs: &mut Option<Fs<InSectors<D>>>, path: &[u8]) -> 
 }
 
 /// Makes an empty file: a handle on it.
-pub fn create<D: SectorDevice>(
-    fs: &mut Option<Fs<InSectors<D>>>,
-    access: Access,
-    path: &[u8],
-) -> i32
-    ensures serves { ServesChange (in_sectors D.state) access fs.old fs.new (Create path.now) result }
+pub fn create<D: SectorDevice>(fs: &mut Option<Fs<InVolume<D>>>, access: Access, path: &[u8]) -> i32
+    ensures serves { ServesChange (by_volume D.state) access fs.old fs.new (Create path.now) result }
 {
     match (fs, access) {
         (Some(fs), Access::ReadWrite) => counted(fs.create(path)),
@@ -36,8 +32,8 @@ pub fn create<D: SectorDevice>(
 }
 
 /// Gives up the handle of a file.
-pub fn close<D: SectorDevice>(fs: &mut Option<Fs<InSectors<D>>>, file: u32) -> i32
-    ensures serves { ServesCall (in_sectors D.state) fs.old fs.new (Close file) result }
+pub fn close<D: SectorDevice>(fs: &mut Option<Fs<InVolume<D>>>, file: u32) -> i32
+    ensures serves { ServesCall (by_volume D.state) fs.old fs.new (Close file) result }
 {
     match fs {
         Some(fs) => done(fs.close(file)),
@@ -46,8 +42,8 @@ pub fn close<D: SectorDevice>(fs: &mut Option<Fs<InSectors<D>>>, file: u32) -> i
 }
 
 /// Reads a file into C's memory.
-fn read<D: SectorDevice>(fs: &mut Fs<InSectors<D>>, file: u32, offset: u64, out: &mut [u8]) -> i32
-    ensures { Answers (in_sectors D.state) fs.old fs.new
+fn read<D: SectorDevice>(fs: &mut Fs<InVolume<D>>, file: u32, offset: u64, out: &mut [u8]) -> i32
+    ensures { Answers (by_volume D.state) fs.old fs.new
         (Pread file offset (min (length out.old) (2 ^ 32 - 1)))
         (TellsBytes result out.old out.new) }
 {
@@ -60,12 +56,12 @@ fn read<D: SectorDevice>(fs: &mut Fs<InSectors<D>>, file: u32, offset: u64, out:
 
 /// Reads the bytes of a file from an offset on: their number.
 pub fn pread<D: SectorDevice>(
-    fs: &mut Option<Fs<InSectors<D>>>,
+    fs: &mut Option<Fs<InVolume<D>>>,
     file: u32,
     offset: u64,
     out: &mut [u8],
 ) -> i32
-    ensures serves { ServesBytes (in_sectors D.state) fs.old fs.new
+    ensures serves { ServesBytes (by_volume D.state) fs.old fs.new
         (Pread file offset (min (length out.old) (2 ^ 32 - 1))) result out.old out.new }
 {
     match fs {
@@ -76,13 +72,13 @@ pub fn pread<D: SectorDevice>(
 
 /// Writes bytes into a file at an offset, all or none: their number.
 pub fn pwrite<D: SectorDevice>(
-    fs: &mut Option<Fs<InSectors<D>>>,
+    fs: &mut Option<Fs<InVolume<D>>>,
     access: Access,
     file: u32,
     offset: u64,
     bytes: &[u8],
 ) -> i32
-    ensures serves { ServesChange (in_sectors D.state) access fs.old fs.new
+    ensures serves { ServesChange (by_volume D.state) access fs.old fs.new
         (Pwrite file offset bytes.now)
         result }
 {
@@ -95,12 +91,12 @@ pub fn pwrite<D: SectorDevice>(
 
 /// Cuts a file to a length, or makes it longer with zeros.
 pub fn truncate<D: SectorDevice>(
-    fs: &mut Option<Fs<InSectors<D>>>,
+    fs: &mut Option<Fs<InVolume<D>>>,
     access: Access,
     file: u32,
     len: u64,
 ) -> i32
-    ensures serves { ServesChange (in_sectors D.state) access fs.old fs.new (Truncate file len)
+    ensures serves { ServesChange (by_volume D.state) access fs.old fs.new (Truncate file len)
         result }
 {
     match (fs, access) {

@@ -1,23 +1,23 @@
 //! The laws of the calls, each the contract of a function that does nothing.
 ghost use Rattle.pansuyog_calls.specs.InARow.{CallsAreKept, MountsAreSaved};
 ghost use Rattle.pansuyog_calls.specs.Laws.{LooksTellNothing, RefusalsTellNothing};
-ghost use Rattle.lfs_model.specs.Device.{in_sectors};
+ghost use Rattle.lfs_fs.specs.VolumeUnits.{by_volume};
 
 use lfs_device::SectorDevice;
 
 /// A volume that is only read tells its device no write and no sync, by any call.
 pub fn readers_tell_nothing<D: SectorDevice>()
-    ensures looks { LooksTellNothing (in_sectors D.state) }
-    ensures refused { RefusalsTellNothing (in_sectors D.state) }
+    ensures looks { LooksTellNothing (by_volume D.state) }
+    ensures refused { RefusalsTellNothing (by_volume D.state) }
 {}
 
 /// Calls of C in a row on a mounted volume, over a device that keeps the device model: a stop at any
 /// moment since one answered leaves every call that was acknowledged by then.
 pub fn calls_are_kept<D: SectorDevice>()
-    ensures { CallsAreKept (in_sectors D.SectorDevice.state) }
+    ensures { CallsAreKept (by_volume D.SectorDevice.state) }
 {}
 
 /// They may begin behind a mount.
 pub fn mounts_are_saved<D: SectorDevice>()
-    ensures { MountsAreSaved (in_sectors D.SectorDevice.state) }
+    ensures { MountsAreSaved (by_volume D.SectorDevice.state) }
 {}

@@ -1,6 +1,6 @@
 //! The listing of a directory, by one name a call (POSIX.1-2017: readdir).
 ghost use Rattle.std.specs.Prelude.{◌≡◌, Some, slice_get};
-ghost use Rattle.lfs_model.specs.Device.{in_sectors};
+ghost use Rattle.lfs_fs.specs.VolumeUnits.{by_volume};
 ghost use Rattle.lfs_model.specs.Call.{Readdir};
 ghost use Rattle.pansuyog_calls.specs.Codes.{code_of_kind};
 ghost use Rattle.pansuyog_calls.specs.Serving.{Answers};
@@ -10,16 +10,16 @@ use crate::bytes::put;
 use crate::codes::{NOT_MOUNTED, code_of};
 use crate::rows::Entry;
 use crate::status::kind_in_c;
-use lfs_device::{InSectors, SectorDevice};
-use lfs_fs::Fs;
+use lfs_device::SectorDevice;
+use lfs_fs::{Fs, InVolume};
 
 /// Lists a directory: how many names it has.
 fn list_names<D: SectorDevice>(
-    fs: &mut Fs<InSectors<D>>,
+    fs: &mut Fs<InVolume<D>>,
     path: &[u8],
     listing: &mut Vec<lfs_fs::Entry>,
 ) -> i32
-    ensures { Answers (in_sectors D.state) fs.old fs.new (Readdir path.now)
+    ensures { Answers (by_volume D.state) fs.old fs.new (Readdir path.now)
         (TellsListing result listing.old.items listing.new.items) }
 {
     match fs.readdir(path) {
@@ -34,11 +34,11 @@ fn list_names<D: SectorDevice>(
 
 /// Lists the directory of a path: how many names it has. They are kept until the next is listed.
 pub fn list<D: SectorDevice>(
-    fs: &mut Option<Fs<InSectors<D>>>,
+    fs: &mut Option<Fs<InVolume<D>>>,
     path: &[u8],
     listing: &mut Vec<lfs_fs::Entry>,
 ) -> i32
-    ensures serves { ServesListing (in_sectors D.state) fs.old fs.new (Readdir path.now) result
+    ensures serves { ServesListing (by_volume D.state) fs.old fs.new (Readdir path.now) result
         listing.old listing.new }
 {
     match fs {

@@ -9,8 +9,8 @@ use crate::codes::{
     ALREADY_MOUNTED, DEVICE, INVAL, NOT_MOUNTED, READ_ONLY, TOO_SMALL, code_of_mount,
 };
 use crate::volume::VolumeIn;
-use lfs_device::{InSectors, SectorDevice};
-use lfs_fs::{FormatFault, Fs, format_version};
+use lfs_device::SectorDevice;
+use lfs_fs::{FormatFault, Fs, InVolume, format_version};
 use std::alloc::Global;
 
 /// Makes an empty volume on a device.
@@ -44,10 +44,10 @@ pub fn format<D: SectorDevice>(volume: &mut VolumeIn<D>, segments: u32, version:
 fn mount_on<D: SectorDevice + Drop>(alloc: Global, volume: &mut VolumeIn<D>, device: D) -> i32
     requires unmounted { volume.old.fs ≡ None }
     requires nothing { volume.old.device ≡ None }
-    ensures mounts { MountsDevice (in_sectors D.state) device volume.new.fs volume.new.device result }
+    ensures mounts { MountsDevice D.state device volume.new.fs volume.new.device result }
     ensures rest { KeepsListingAndAccess volume.old volume.new }
 {
-    match Fs::mount(alloc, InSectors::new(device)) {
+    match Fs::mount(alloc, InVolume::new(device)) {
         Ok(fs) => {
             volume.fs = Some(fs);
             0
@@ -61,7 +61,7 @@ fn mount_on<D: SectorDevice + Drop>(alloc: Global, volume: &mut VolumeIn<D>, dev
 
 /// Mounts the volume of a device on which none is mounted. It writes nothing.
 pub fn mount<D: SectorDevice + Drop>(alloc: Global, volume: &mut VolumeIn<D>) -> i32
-    ensures { MountsFrom (in_sectors D.state) volume.old volume.new result }
+    ensures { MountsFrom D.state volume.old volume.new result }
 {
     if volume.fs.is_some() {
         return ALREADY_MOUNTED;

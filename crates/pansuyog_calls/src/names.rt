@@ -1,17 +1,17 @@
 //! Calls that change names (POSIX.1-2017: mkdir, link, symlink, unlink, rmdir, rename), and the one
 //! by which a directory takes longer ones.
 ghost use Rattle.lfs_model.specs.Call.{Mkdir, LinkTo, Symlink, Unlink, Rmdir, Rename, Widen};
-ghost use Rattle.lfs_model.specs.Device.{in_sectors};
+ghost use Rattle.lfs_fs.specs.VolumeUnits.{by_volume};
 ghost use Rattle.pansuyog_calls.specs.Serving.{ServesChange};
 
 use crate::access::Access;
 use crate::codes::{NOT_MOUNTED, READ_ONLY, done};
-use lfs_device::{InSectors, SectorDevice};
-use lfs_fs::Fs;
+use lfs_device::SectorDevice;
+use lfs_fs::{Fs, InVolume};
 
 /// Makes an empty directory.
-pub fn mkdir<D: SectorDevice>(fs: &mut Option<Fs<InSectors<D>>>, access: Access, path: &[u8]) -> i32
-    ensures serves { ServesChange (in_sectors D.state) access fs.old fs.new (Mkdir path.now) result }
+pub fn mkdir<D: SectorDevice>(fs: &mut Option<Fs<InVolume<D>>>, access: Access, path: &[u8]) -> i32
+    ensures serves { ServesChange (by_volume D.state) access fs.old fs.new (Mkdir path.now) result }
 {
     match (fs, access) {
         (Some(fs), Access::ReadWrite) => done(fs.mkdir(path)),
@@ -22,12 +22,12 @@ pub fn mkdir<D: SectorDevice>(fs: &mut Option<Fs<InSectors<D>>>, access: Access,
 
 /// Gives an object a further name.
 pub fn link<D: SectorDevice>(
-    fs: &mut Option<Fs<InSectors<D>>>,
+    fs: &mut Option<Fs<InVolume<D>>>,
     access: Access,
     from: &[u8],
     to: &[u8],
 ) -> i32
-    ensures serves { ServesChange (in_sectors D.state) access fs.old fs.new (LinkTo from.now to.now)
+    ensures serves { ServesChange (by_volume D.state) access fs.old fs.new (LinkTo from.now to.now)
         result }
 {
     match (fs, access) {
@@ -39,12 +39,12 @@ pub fn link<D: SectorDevice>(
 
 /// Makes a symbolic link with a text.
 pub fn symlink<D: SectorDevice>(
-    fs: &mut Option<Fs<InSectors<D>>>,
+    fs: &mut Option<Fs<InVolume<D>>>,
     access: Access,
     text: &[u8],
     path: &[u8],
 ) -> i32
-    ensures serves { ServesChange (in_sectors D.state) access fs.old fs.new
+    ensures serves { ServesChange (by_volume D.state) access fs.old fs.new
         (Symlink text.now path.now) result }
 {
     match (fs, access) {
@@ -55,12 +55,8 @@ pub fn symlink<D: SectorDevice>(
 }
 
 /// Takes the name of a file or a link away.
-pub fn unlink<D: SectorDevice>(
-    fs: &mut Option<Fs<InSectors<D>>>,
-    access: Access,
-    path: &[u8],
-) -> i32
-    ensures serves { ServesChange (in_sectors D.state) access fs.old fs.new (Unlink path.now) result }
+pub fn unlink<D: SectorDevice>(fs: &mut Option<Fs<InVolume<D>>>, access: Access, path: &[u8]) -> i32
+    ensures serves { ServesChange (by_volume D.state) access fs.old fs.new (Unlink path.now) result }
 {
     match (fs, access) {
         (Some(fs), Access::ReadWrite) => done(fs.unlink(path)),
@@ -70,8 +66,8 @@ pub fn unlink<D: SectorDevice>(
 }
 
 /// Takes an empty directory away.
-pub fn rmdir<D: SectorDevice>(fs: &mut Option<Fs<InSectors<D>>>, access: Access, path: &[u8]) -> i32
-    ensures serves { ServesChange (in_sectors D.state) access fs.old fs.new (Rmdir path.now) result }
+pub fn rmdir<D: SectorDevice>(fs: &mut Option<Fs<InVolume<D>>>, access: Access, path: &[u8]) -> i32
+    ensures serves { ServesChange (by_volume D.state) access fs.old fs.new (Rmdir path.now) result }
 {
     match (fs, access) {
         (Some(fs), Access::ReadWrite) => done(fs.rmdir(path)),
@@ -82,12 +78,12 @@ pub fn rmdir<D: SectorDevice>(fs: &mut Option<Fs<InSectors<D>>>, access: Access,
 
 /// Gives an object another name, in one change.
 pub fn rename<D: SectorDevice>(
-    fs: &mut Option<Fs<InSectors<D>>>,
+    fs: &mut Option<Fs<InVolume<D>>>,
     access: Access,
     from: &[u8],
     to: &[u8],
 ) -> i32
-    ensures serves { ServesChange (in_sectors D.state) access fs.old fs.new (Rename from.now to.now)
+    ensures serves { ServesChange (by_volume D.state) access fs.old fs.new (Rename from.now to.now)
         result }
 {
     match (fs, access) {
@@ -98,8 +94,8 @@ pub fn rename<D: SectorDevice>(
 }
 
 /// Gives a directory the form that takes names of up to 123 bytes.
-pub fn widen<D: SectorDevice>(fs: &mut Option<Fs<InSectors<D>>>, access: Access, path: &[u8]) -> i32
-    ensures serves { ServesChange (in_sectors D.state) access fs.old fs.new (Widen path.now) result }
+pub fn widen<D: SectorDevice>(fs: &mut Option<Fs<InVolume<D>>>, access: Access, path: &[u8]) -> i32
+    ensures serves { ServesChange (by_volume D.state) access fs.old fs.new (Widen path.now) result }
 {
     match (fs, access) {
         (Some(fs), Access::ReadWrite) => done(fs.widen(path)),

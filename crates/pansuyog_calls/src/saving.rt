@@ -1,17 +1,17 @@
 //! Calls on the whole volume (POSIX.1-2017: fsync, sync), and those that the volume has besides.
 ghost use Rattle.lfs_model.specs.Call.{Fsync, Sync, Clean, Version, Upgrade};
-ghost use Rattle.lfs_model.specs.Device.{in_sectors};
+ghost use Rattle.lfs_fs.specs.VolumeUnits.{by_volume};
 ghost use Rattle.pansuyog_calls.specs.Cleaning.{CleansOnceIn, TellsDue};
 ghost use Rattle.pansuyog_calls.specs.Serving.{ServesCall, ServesChange};
 
 use crate::access::Access;
 use crate::codes::{NOT_MOUNTED, READ_ONLY, counted, done};
-use lfs_device::{InSectors, SectorDevice};
-use lfs_fs::Fs;
+use lfs_device::SectorDevice;
+use lfs_fs::{Fs, InVolume};
 
 /// Saves the whole volume, with the file of a handle.
-pub fn fsync<D: SectorDevice>(fs: &mut Option<Fs<InSectors<D>>>, access: Access, file: u32) -> i32
-    ensures serves { ServesChange (in_sectors D.state) access fs.old fs.new (Fsync file) result }
+pub fn fsync<D: SectorDevice>(fs: &mut Option<Fs<InVolume<D>>>, access: Access, file: u32) -> i32
+    ensures serves { ServesChange (by_volume D.state) access fs.old fs.new (Fsync file) result }
 {
     match (fs, access) {
         (Some(fs), Access::ReadWrite) => done(fs.fsync(file)),
@@ -22,8 +22,8 @@ pub fn fsync<D: SectorDevice>(fs: &mut Option<Fs<InSectors<D>>>, access: Access,
 
 /// Saves the whole volume: behind `0` every call before survives a stop, once the device did what it
 /// was told.
-pub fn sync<D: SectorDevice>(fs: &mut Option<Fs<InSectors<D>>>, access: Access) -> i32
-    ensures serves { ServesChange (in_sectors D.state) access fs.old fs.new Sync result }
+pub fn sync<D: SectorDevice>(fs: &mut Option<Fs<InVolume<D>>>, access: Access) -> i32
+    ensures serves { ServesChange (by_volume D.state) access fs.old fs.new Sync result }
 {
     match (fs, access) {
         (Some(fs), Access::ReadWrite) => done(fs.sync()),
@@ -33,8 +33,8 @@ pub fn sync<D: SectorDevice>(fs: &mut Option<Fs<InSectors<D>>>, access: Access) 
 }
 
 /// Cleans segments until a quarter of them is clean.
-pub fn clean<D: SectorDevice>(fs: &mut Option<Fs<InSectors<D>>>, access: Access) -> i32
-    ensures serves { ServesChange (in_sectors D.state) access fs.old fs.new Clean result }
+pub fn clean<D: SectorDevice>(fs: &mut Option<Fs<InVolume<D>>>, access: Access) -> i32
+    ensures serves { ServesChange (by_volume D.state) access fs.old fs.new Clean result }
 {
     match (fs, access) {
         (Some(fs), Access::ReadWrite) => done(fs.clean()),
@@ -45,7 +45,7 @@ pub fn clean<D: SectorDevice>(fs: &mut Option<Fs<InSectors<D>>>, access: Access)
 
 /// 1 where fewer than a quarter of the segments is clean, so that a cleaning has something to do;
 /// else 0.
-pub fn is_cleaning_due<D: SectorDevice>(fs: &Option<Fs<InSectors<D>>>) -> i32
+pub fn is_cleaning_due<D: SectorDevice>(fs: &Option<Fs<InVolume<D>>>) -> i32
     ensures { TellsDue fs.now result }
 {
     match fs {
@@ -56,9 +56,9 @@ pub fn is_cleaning_due<D: SectorDevice>(fs: &Option<Fs<InSectors<D>>>) -> i32
 
 /// One pass of the cleaner where that is so, and none else. What isn't saved is saved before it. The
 /// device is told at most 520 orders, and 8 more for each segment.
-pub fn clean_once<D: SectorDevice>(fs: &mut Option<Fs<InSectors<D>>>, access: Access) -> i32
-    ensures serves { ServesChange (in_sectors D.state) access fs.old fs.new Clean result }
-    ensures once { CleansOnceIn (in_sectors D.state) fs.old fs.new result }
+pub fn clean_once<D: SectorDevice>(fs: &mut Option<Fs<InVolume<D>>>, access: Access) -> i32
+    ensures serves { ServesChange (by_volume D.state) access fs.old fs.new Clean result }
+    ensures once { CleansOnceIn (by_volume D.state) fs.old fs.new result }
 {
     match (fs, access) {
         (Some(fs), Access::ReadWrite) => done(fs.clean_once()),
@@ -68,8 +68,8 @@ pub fn clean_once<D: SectorDevice>(fs: &mut Option<Fs<InSectors<D>>>, access: Ac
 }
 
 /// The version of the volume's layout: 1 or 2.
-pub fn version<D: SectorDevice>(fs: &mut Option<Fs<InSectors<D>>>) -> i32
-    ensures serves { ServesCall (in_sectors D.state) fs.old fs.new Version result }
+pub fn version<D: SectorDevice>(fs: &mut Option<Fs<InVolume<D>>>) -> i32
+    ensures serves { ServesCall (by_volume D.state) fs.old fs.new Version result }
 {
     match fs {
         Some(fs) => counted(fs.version()),
@@ -78,8 +78,8 @@ pub fn version<D: SectorDevice>(fs: &mut Option<Fs<InSectors<D>>>) -> i32
 }
 
 /// Raises the version of the volume's layout to 2.
-pub fn upgrade<D: SectorDevice>(fs: &mut Option<Fs<InSectors<D>>>, access: Access) -> i32
-    ensures serves { ServesChange (in_sectors D.state) access fs.old fs.new Upgrade result }
+pub fn upgrade<D: SectorDevice>(fs: &mut Option<Fs<InVolume<D>>>, access: Access) -> i32
+    ensures serves { ServesChange (by_volume D.state) access fs.old fs.new Upgrade result }
 {
     match (fs, access) {
         (Some(fs), Access::ReadWrite) => done(fs.upgrade()),

@@ -1,6 +1,6 @@
 //! What is told of an object and of the volume (POSIX.1-2017: stat, lstat, readlink).
 ghost use Rattle.lfs_model.specs.Call as call;
-ghost use Rattle.lfs_model.specs.Device.{in_sectors};
+ghost use Rattle.lfs_fs.specs.VolumeUnits.{by_volume};
 ghost use Rattle.lfs_model.specs.Call.{StatOf, LstatOf, Readlink, Status};
 ghost use Rattle.std.specs.Prelude.{◌≡◌};
 ghost use Rattle.lfs_fs.specs.Answers.{status_of};
@@ -12,8 +12,8 @@ ghost use Rattle.pansuyog_calls.specs.Telling.{IsStat, ServesSpace, ServesStat, 
 use crate::bytes::put;
 use crate::codes::{NOT_MOUNTED, code_of};
 use crate::rows::{Space, Stat};
-use lfs_device::{InSectors, SectorDevice};
-use lfs_fs::{Fs, FsError};
+use lfs_device::SectorDevice;
+use lfs_fs::{Fs, FsError, InVolume};
 use lfs_model::Kind;
 
 /// The number of a kind.
@@ -54,8 +54,8 @@ fn tell(found: Result<lfs_fs::Stat, FsError>, out: &mut Stat) -> i32
 }
 
 /// What is told of the object of a path.
-pub fn stat<D: SectorDevice>(fs: &mut Option<Fs<InSectors<D>>>, path: &[u8], out: &mut Stat) -> i32
-    ensures serves { ServesStat (in_sectors D.state) fs.old fs.new (StatOf path.now) result
+pub fn stat<D: SectorDevice>(fs: &mut Option<Fs<InVolume<D>>>, path: &[u8], out: &mut Stat) -> i32
+    ensures serves { ServesStat (by_volume D.state) fs.old fs.new (StatOf path.now) result
         out.old out.new }
 {
     match fs {
@@ -65,8 +65,8 @@ pub fn stat<D: SectorDevice>(fs: &mut Option<Fs<InSectors<D>>>, path: &[u8], out
 }
 
 /// The same, where the last piece of the path may be a link that isn't followed.
-pub fn lstat<D: SectorDevice>(fs: &mut Option<Fs<InSectors<D>>>, path: &[u8], out: &mut Stat) -> i32
-    ensures serves { ServesStat (in_sectors D.state) fs.old fs.new (LstatOf path.now) result
+pub fn lstat<D: SectorDevice>(fs: &mut Option<Fs<InVolume<D>>>, path: &[u8], out: &mut Stat) -> i32
+    ensures serves { ServesStat (by_volume D.state) fs.old fs.new (LstatOf path.now) result
         out.old out.new }
 {
     match fs {
@@ -76,8 +76,8 @@ pub fn lstat<D: SectorDevice>(fs: &mut Option<Fs<InSectors<D>>>, path: &[u8], ou
 }
 
 /// Reads the text of a link into C's memory.
-fn read_link<D: SectorDevice>(fs: &mut Fs<InSectors<D>>, path: &[u8], out: &mut [u8]) -> i32
-    ensures { Answers (in_sectors D.state) fs.old fs.new (Readlink path.now)
+fn read_link<D: SectorDevice>(fs: &mut Fs<InVolume<D>>, path: &[u8], out: &mut [u8]) -> i32
+    ensures { Answers (by_volume D.state) fs.old fs.new (Readlink path.now)
         (TellsBytes result out.old out.new) }
 {
     match fs.readlink(path) {
@@ -88,11 +88,11 @@ fn read_link<D: SectorDevice>(fs: &mut Fs<InSectors<D>>, path: &[u8], out: &mut 
 
 /// The text of the link of a path, as much as there is room for: its whole length.
 pub fn readlink<D: SectorDevice>(
-    fs: &mut Option<Fs<InSectors<D>>>,
+    fs: &mut Option<Fs<InVolume<D>>>,
     path: &[u8],
     out: &mut [u8],
 ) -> i32
-    ensures serves { ServesBytes (in_sectors D.state) fs.old fs.new (Readlink path.now) result
+    ensures serves { ServesBytes (by_volume D.state) fs.old fs.new (Readlink path.now) result
         out.old out.new }
 {
     match fs {
@@ -102,8 +102,8 @@ pub fn readlink<D: SectorDevice>(
 }
 
 /// Tells C what the tree needs.
-fn measure<D: SectorDevice>(fs: &mut Fs<InSectors<D>>, out: &mut Space) -> i32
-    ensures { Answers (in_sectors D.state) fs.old fs.new call.Space
+fn measure<D: SectorDevice>(fs: &mut Fs<InVolume<D>>, out: &mut Space) -> i32
+    ensures { Answers (by_volume D.state) fs.old fs.new call.Space
         (TellsSpace result out.old out.new) }
 {
     match fs.space() {
@@ -121,8 +121,8 @@ fn measure<D: SectorDevice>(fs: &mut Fs<InSectors<D>>, out: &mut Space) -> i32
 }
 
 /// What the tree needs, and the most that it may need.
-pub fn space<D: SectorDevice>(fs: &mut Option<Fs<InSectors<D>>>, out: &mut Space) -> i32
-    ensures serves { ServesSpace (in_sectors D.state) fs.old fs.new result out.old out.new }
+pub fn space<D: SectorDevice>(fs: &mut Option<Fs<InVolume<D>>>, out: &mut Space) -> i32
+    ensures serves { ServesSpace (by_volume D.state) fs.old fs.new result out.old out.new }
 {
     match fs {
         Some(fs) => measure(fs, out),

@@ -1,12 +1,12 @@
 //! A volume as C has it.
 use crate::access::Access;
-use lfs_device::{InSectors, SectorDevice};
-use lfs_fs::{Entry, Fs};
+use lfs_device::SectorDevice;
+use lfs_fs::{Entry, Fs, InVolume};
 
 /// A volume over a device: mounted or not, with the names that were listed last.
 #[derive(Drop)]
 pub struct VolumeIn<D: SectorDevice> {
-    pub fs: Option<Fs<InSectors<D>>>,
+    pub fs: Option<Fs<InVolume<D>>>,
     /// A device on which no volume is mounted.
     pub device: Option<D>,
     pub listing: Vec<Entry>,

@@ -5,28 +5,28 @@ use Rattle.pansuyog_calls.specs.Serving as calls
 use Rattle.pansuyog_calls.specs.Telling as telling
 use Rattle.pansuyog_calls.specs.declared.rows.Space.{Space}
 use Rattle.pansuyog_calls.specs.declared.rows.Stat.{Stat}
-use Rattle.pansuyog_file.specs.Devices.{file_state}
+use Rattle.pansuyog_file.specs.Devices.{volume_state}
 use Rattle.pansuyog_file.specs.declared.handle.Volume.{Volume}
 
 abbrev pub ServesCall : Volume → Volume → Call → ℤ → Type 0
-ServesCall old new call code = calls.ServesCall file_state old.inner.fs new.inner.fs call code
+ServesCall old new call code = calls.ServesCall volume_state old.inner.fs new.inner.fs call code
 
 -- a call that may write: where the volume is only read it is refused
 abbrev pub ServesChange : Volume → Volume → Call → ℤ → Type 0
-ServesChange old new call code = calls.ServesChange file_state old.inner.access old.inner.fs new.inner.fs call code
+ServesChange old new call code = calls.ServesChange volume_state old.inner.access old.inner.fs new.inner.fs call code
 
 abbrev pub ServesBytes : Volume → Volume → Call → ℤ → List ℕ → List ℕ → Type 0
-ServesBytes old new call code before after = calls.ServesBytes file_state old.inner.fs new.inner.fs call code before after
+ServesBytes old new call code before after = calls.ServesBytes volume_state old.inner.fs new.inner.fs call code before after
 
 abbrev pub ServesStat : Volume → Volume → Call → ℤ → Stat → Stat → Type 0
-ServesStat old new call code before after = telling.ServesStat file_state old.inner.fs new.inner.fs call code before after
+ServesStat old new call code before after = telling.ServesStat volume_state old.inner.fs new.inner.fs call code before after
 
 abbrev pub ServesSpace : Volume → Volume → ℤ → Space → Space → Type 0
-ServesSpace old new code before after = telling.ServesSpace file_state old.inner.fs new.inner.fs code before after
+ServesSpace old new code before after = telling.ServesSpace volume_state old.inner.fs new.inner.fs code before after
 
 abbrev pub ServesListing : Volume → Volume → Call → ℤ → Type 0
 ServesListing old new call code =
-    telling.ServesListing file_state old.inner.fs new.inner.fs call code old.inner.listing new.inner.listing
+    telling.ServesListing volume_state old.inner.fs new.inner.fs call code old.inner.listing new.inner.listing
 
 -- the volume is as it was
 abbrev pub IsUnchanged : Volume → Volume → Type 0

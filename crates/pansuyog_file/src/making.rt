@@ -1,4 +1,5 @@
 //! A volume is made, mounted and unmounted.
+ghost use Rattle.lfs_model.specs.Device.{in_sectors};
 ghost use Rattle.pansuyog_calls.specs.Volumes.{MakesFrom, MountsFrom, Unmounts};
 ghost use Rattle.pansuyog_file.specs.Devices.{file_state};
 
@@ -9,8 +10,8 @@ use std::alloc::Global;
 /// Makes an empty volume of so many segments, in a version of the layout, in the file that was taken.
 #[unsafe(no_mangle)]
 pub extern "C" fn pansuyog_file_format(volume: &mut Handle, segments: u32, version: u32) -> i32
-    ensures { MakesFrom file_state segments version volume.old.value.inner volume.new.value.inner
-        result }
+    ensures { MakesFrom (in_sectors file_state) segments version volume.old.value.inner
+        volume.new.value.inner result }
 {
     making::format(&mut volume.volume().inner, segments, version)
 }

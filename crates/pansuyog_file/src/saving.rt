@@ -1,6 +1,6 @@
 //! Calls on the whole volume (POSIX.1-2017: fsync, sync), and those that the volume has besides.
 ghost use Rattle.lfs_model.specs.Call.{Fsync, Sync, Clean, Version, Upgrade};
-ghost use Rattle.pansuyog_file.specs.Devices.{file_state};
+ghost use Rattle.pansuyog_file.specs.Devices.{volume_state};
 ghost use Rattle.pansuyog_calls.specs.Cleaning.{CleansOnceIn, TellsDue};
 ghost use Rattle.pansuyog_file.specs.Serving.{IsUnchanged, KeepsRest, ServesCall, ServesChange};
 
@@ -52,7 +52,7 @@ pub extern "C" fn pansuyog_file_is_cleaning_due(volume: &mut Handle) -> i32
 #[unsafe(no_mangle)]
 pub extern "C" fn pansuyog_file_clean_once(volume: &mut Handle) -> i32
     ensures serves { ServesChange volume.old.value volume.new.value Clean result }
-    ensures once { CleansOnceIn file_state volume.old.value.inner.fs volume.new.value.inner.fs result }
+    ensures once { CleansOnceIn volume_state volume.old.value.inner.fs volume.new.value.inner.fs result }
     ensures rest { KeepsRest volume.old.value volume.new.value }
 {
     let volume = &mut volume.volume().inner;

@@ -1,4 +1,5 @@
 -- The ends of calls that draft and save, from the records of the store to the call as a step of the model.
+use Rattle.lfs_fs.proofs.Prelude.{shape_of}
 use Rattle.lfs_fs.proofs.Prelude.{◌≡◌, ◌≤◌, ◌<◌, ◌^◌, ℕ, true, false, refl, sym, ◌∙◌, subst, inr, arith, Call, Answer, Refuse}
 use Rattle.lfs_fs.proofs.Prelude.{CheckpointValue, StandsForOn, DeviceState, IsLawful, Carries, LeavesOnly, IsLogMap, Refusal, Halted}
 use Rattle.lfs_fs.proofs.Prelude.{Point, StepsOr, acknowledges, LogMap, State, drop_nameless, LeavesOne, dropped, IsLogOf, Accepts, Commits}
@@ -34,7 +35,7 @@ module _ {D : Type 0} (state : D → DeviceState) where
       pub next : State
       pub runs : Runs state new next
       pub steps : StepsOr (segments_of old) call p a (point_of state new next)
-      pub moment : LeavesOnly (state old.log.device) (state new.log.device) (StandsForOn k.segments m0 (dropped m))
+      pub moment : LeavesOnly (state old.log.device) (state new.log.device) (StandsForOn (shape_of k) m0 (dropped m))
       pub saves : acknowledges call a ≡ true → LeavesOne (state new.log.device) (drop_nameless next)
 
     pub runs_on : {a : Answer} → (a ≡ Refuse Halted → ⊥) → Behaves state old new call a → new.log.halted ≡ false
@@ -81,17 +82,15 @@ module _ {D : Type 0} (state : D → DeviceState) where
     -- ---- a commit is done
     module _ (rest : IsRest old new) (done : Commits state old.log new.log) where
       over : (k : CheckpointValue) (m0 m : LogMap) → (state new.log.device).keeps_model → (holds : Holds state old.log k m0 m)
-          → IsLogMap (dropped m) → HoldsNext state k.segments m0 m new.log m
+          → IsLogMap (dropped m) → HoldsNext state (shape_of k) m0 m new.log m
       over k m0 m keeps holds log =
           let next = done.holds k m0 m keeps holds log in
-          let before = holds.segments in
-          let now = next.1.segments in
           record {
             checkpoint = next.0;
             acknowledged = dropped m;
             either = inr refl;
-            same = now ∙ done.segments ∙ sym before;
-            holds = next.1;
+            same = next.1;
+            holds = next.2;
           }
 
       -- what a stop leaves then is the state without its nodes of no name

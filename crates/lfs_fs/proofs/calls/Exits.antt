@@ -10,6 +10,8 @@ use Rattle.lfs_steps.proofs.volume.Stops.{leaves_states}
 use Rattle.lfs_store.specs.memory.Present.{Looks}
 use Rattle.lfs_fs.proofs.calls.AnyDevice.{IsOrdinary, halted_behaves, not_halted, kept_behaves}
 use Rattle.lfs_model.specs.Run.{Answers}
+use Rattle.lfs_fs.proofs.Prelude.{KeepsUnits, shape_of}
+use Rattle.lfs_model.proofs.UnitsKept.{units_settled, units_still}
 
 -- a refusal is never acknowledged
 pub not_acknowledged : (call : Call) (r : Refusal) → acknowledges call (Refuse r) ≡ true → ⊥
@@ -67,15 +69,18 @@ module _ {D : Type 0} (state : D → DeviceState) where
       was : AllLeft d (λ c. (s : State) × Stands c s × (Left d s ⊎ Contains ss s))
       was c left = let is = some c left in (is.0, is.1, inl (record { content = c; may_leave = left; stands = is.1 }))
 
+  units_read : {d d' : DeviceState} → IsLawful d → Looks d d' → KeepsUnits d d'
+  units_read lawful looks = units_still lawful looks.carries looks.time looks.untouched.crash
+
   -- what a stop leaves while nothing is written is what is saved
   pub quiet : {h : LogState D} (h' : LogState D) → IsLawful (state h.device) → Looks (state h.device) (state h'.device)
       → {k : CheckpointValue} {m0 m : LogMap} → Holds state h k m0 m
-      → LeavesOnly (state h.device) (state h'.device) (StandsForOn k.segments m0 (dropped m))
+      → LeavesOnly (state h.device) (state h'.device) (StandsForOn (shape_of k) m0 (dropped m))
   quiet {h} h' lawful looks {k} {m0} {m} holds =
-      goes_on (StandsForOn k.segments m0 (dropped m)) (started (StandsForOn k.segments m0 (dropped m)) lawful here)
+      goes_on (StandsForOn (shape_of k) m0 (dropped m)) (started (StandsForOn (shape_of k) m0 (dropped m)) lawful here)
       looks.carries looks.time (λ c left. here c (looks.untouched.crash c left))
     where
-      here : AllLeft (state h.device) (StandsForOn k.segments m0 (dropped m))
+      here : AllLeft (state h.device) (StandsForOn (shape_of k) m0 (dropped m))
       here c left = inl (acknowledged state holds c left)
 
   -- the volume as it is seen, in this state
@@ -129,6 +134,7 @@ module _ {D : Type 0} (state : D → DeviceState) where
         answers = answers_on is still.reads.looks.carries (let same = still.reads.number in omega (arith, same)) behaves
             (steps p keeps is r.checkpoint r.saved r.present r.is) was (still.reads.halted ∙ was) fine;
         leaves = left_still (drop_nameless p.state ∷ drop_nameless p.state ∷ []) lawful is.leaves still.reads.looks;
+        units = units_read lawful still.reads.looks;
         saves = λ e. absurd (none e);
       });
     }
@@ -156,6 +162,7 @@ module _ {D : Type 0} (state : D → DeviceState) where
       answers = answers_by is carries_none (omega arith) (halted_behaves state v call was)
           (inr (Halted, refl, inl (is.halted ∙ was), refl)) (λ e. refl) (λ e. was) (λ e. refl);
       leaves = left_still (drop_nameless p.state ∷ drop_nameless p.state ∷ []) lawful is.leaves (reads_none state v.log).looks;
+      units = units_read lawful (reads_none state v.log).looks;
       saves = λ e. absurd (not_acknowledged call Halted e);
     };
   }
@@ -168,7 +175,7 @@ module _ {D : Type 0} (state : D → DeviceState) where
       pub map_dropped : IsLogMap (dropped m)
       map_dropped = dropped_log (segments_of old) m s is.log is.map
 
-      leaves_by : (ss : List State) → LeavesOnly (state old.log.device) (state new.log.device) (StandsForOn k.segments m0 (dropped m))
+      leaves_by : (ss : List State) → LeavesOnly (state old.log.device) (state new.log.device) (StandsForOn (shape_of k) m0 (dropped m))
           → LeavesStates (state old.log.device) (state new.log.device) (drop_nameless s ∷ ss)
       leaves_by = leaves_states lawful (carries.kept_before keeps) k m0 (settled state is.holds)
           (subst (λ (n : ℕ). IsTree n m0) (sym is.holds.segments) is.acknowledged) m s
@@ -176,9 +183,12 @@ module _ {D : Type 0} (state : D → DeviceState) where
 
     module _ (call : Call) (p : Point) (at : IsAt state old p) {k : CheckpointValue} {m0 m : LogMap} (is : IsIn state old k m0 m p.state)
         (was : old.log.halted ≡ false) (later : old.log.number ≤ new.log.number)
-        (moment : LeavesOnly (state old.log.device) (state new.log.device) (StandsForOn k.segments m0 (dropped m))) where
+        (moment : LeavesOnly (state old.log.device) (state new.log.device) (StandsForOn (shape_of k) m0 (dropped m))) where
       states : (next : State) → LeavesStates (state old.log.device) (state new.log.device) (drop_nameless p.state ∷ drop_nameless next ∷ [])
       states next = leaves_by is (drop_nameless next ∷ []) moment
+
+      same_units : KeepsUnits (state old.log.device) (state new.log.device)
+      same_units = units_settled lawful k m0 (dropped m) (carries.kept_before keeps) (settled state is.holds) moment
 
       -- what is left at the end is left meanwhile
       some_left : (next : State) → LeavesSome state (state new.log.device)
@@ -194,6 +204,7 @@ module _ {D : Type 0} (state : D → DeviceState) where
         at = at_state new (λ e. runs) (some_left next);
         answers = answers_on at carries later behaves steps was running fine;
         leaves = states next;
+        units = same_units;
         saves = saves;
       }
 
@@ -206,5 +217,6 @@ module _ {D : Type 0} (state : D → DeviceState) where
         answers = answers_by at carries later behaves
             (inr (Halted, refl, inr (let o = at.failed_orders in omega (arith, o, rose)), refl)) (λ e. refl) (λ e. halted) (λ e. refl);
         leaves = states p.state;
+        units = same_units;
         saves = λ e. absurd (not_acknowledged call Halted e);
       }

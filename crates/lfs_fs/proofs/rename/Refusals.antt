@@ -6,7 +6,7 @@ use Rattle.lfs_fs.proofs.Prelude.{EntryFault, Source, Target, is_directory}
 use Rattle.lfs_fs.proofs.Prelude.{GivesObject, GivesNumber, ChecksRename, HasBothNames, RefusesRename}
 use Rattle.lfs_fs.proofs.Prelude.{at_most, not_at_most, IsReached, dots_is, entry_is, free_is, full_is, gives_is, has_piece, holder}
 use Rattle.lfs_fs.proofs.Prelude.{kind_is, last_dots_is, links_are, long_is, piece_is, short_is, slash_is, target_is, there_is, IsRename}
-use Rattle.lfs_fs.proofs.Prelude.{StopsAt, conditions, rename_stops, shape_of}
+use Rattle.lfs_fs.proofs.Prelude.{StopsAt, conditions, rename_stops, shaped_map}
 use Rattle.std.proofs.lemmas.Bool.{eqb-true}
 use Rattle.lfs_model.specs.Refusal as refusals
 use Rattle.lfs_model.specs.Step.{is_there, is_within}
@@ -273,7 +273,7 @@ module _ {S D : Type 0} (f f' : FilesState S D) {N : ℕ} {m : LogMap} {s : Stat
     renames = record {
       first = subst (λ (q : ℕ). IsReached N m s a q l) (sym first.directory) g.first;
       second = subst (λ (q : ℕ). IsReached N m s b q o) (sym second.directory) g.second;
-      shaped = shape_of N g.first.map g.first.headers;
+      shaped = shaped_map N g.first.map g.first.headers;
       named_a = first.named;
       named_b = second.named;
       looks_a = subst (λ (q : ℕ). GivesObject m q l.name.now source.holder (Some source.object)) (sym first.directory) (looks_a first);

@@ -1,7 +1,8 @@
 -- What a mounted volume's log map is, how a volume that runs on is put together again after a call, and what an open leaves.
+use Rattle.lfs_fs.proofs.Prelude.{shape_of}
 use Rattle.lfs_fs.proofs.Prelude.{◌≡◌, ◌⊎◌, ◌≤◌, ◌<◌, ◌+◌, ◌/◌, ◌^◌, ℕ, true, false, List, Some, sym, ◌∙◌, subst, ⊎_elim}
 use Rattle.lfs_fs.proofs.Prelude.{CheckpointValue, DeviceState, IsHeaderOf, LogMap, State, is_dir, least_handle, node, IsTree, dropped, At}
-use Rattle.lfs_fs.proofs.Prelude.{Resolve, HasClean, HoldsNext, AreTotals, IsIn, Mounted, Runs, segments_of, IsMapOf, IsShaped, shape_of}
+use Rattle.lfs_fs.proofs.Prelude.{Resolve, HasClean, HoldsNext, AreTotals, IsIn, Mounted, Runs, segments_of, IsMapOf, IsShaped, shaped_map}
 use Rattle.lfs_model.specs.Entry.{Header}
 use Rattle.lfs_model.proofs.Committed.{dropped_tree}
 use Rattle.lfs_model.proofs.Keeps.{open_keeps}
@@ -24,7 +25,7 @@ module _ {D : Type 0} {state : D → DeviceState} {v : Mounted D} {k : Checkpoin
   headers_of_volume = map_headers state v.log k m is.holds
 
   pub shape_of_volume : IsShaped m
-  shape_of_volume = shape_of (segments_of v) map_of_volume headers_of_volume
+  shape_of_volume = shaped_map (segments_of v) map_of_volume headers_of_volume
 
 -- ---- the volume after a call
 
@@ -38,7 +39,7 @@ module _ {D : Type 0} {state : D → DeviceState} {old : Mounted D} (new : Mount
       (λ (e : next ≡ dropped m). subst (IsTree (segments_of old)) (sym e) (dropped_tree (segments_of old) m s is.log).tree)
       either
 
-  pub runs_over : {m' : LogMap} (next : State) → HoldsNext state k.segments m0 m new.log m' → segments_of new ≡ segments_of old
+  pub runs_over : {m' : LogMap} (next : State) → HoldsNext state (shape_of k) m0 m new.log m' → segments_of new ≡ segments_of old
       → IsMapOf (segments_of old) m' next
       → next.handles ≡ new.table → AreTotals m' new.log.totals
       → (new.log.saved ≡ false → HasClean new.log × (new.log.number ≤ 2 ^ 62 + segments_of new / 8)) → Runs state new next

@@ -3,7 +3,7 @@ use Rattle.lfs_fs.proofs.Prelude.{◌≡◌, ◌≤◌, ◌<◌, ◌+◌, ◌*�
 use Rattle.lfs_fs.proofs.Prelude.{cases_eq, ne_eqb, Done, Refuse, Widen, IsLogMap, IsForm, need, IsDirectory, IsHeaderOf, NoSpace, LogMap}
 use Rattle.lfs_fs.proofs.Prelude.{widened, with_tree, IsCounted, State, Tree, form_of, is_dir, links, names_in, node, slot_len, tree_in, At}
 use Rattle.lfs_fs.proofs.Prelude.{Resolve, totals_of_tree, WidensNames, HasHeader, MayWiden, map_by, IsMapOf, IsShaped, need_shaped}
-use Rattle.lfs_fs.proofs.Prelude.{shape_of, Step}
+use Rattle.lfs_fs.proofs.Prelude.{shaped_map, Step}
 use Rattle.lfs_model.specs.declared.Kind.TheVariants as kind
 use Rattle.lfs_model.specs.Entry as entry
 use Rattle.lfs_model.specs.Inode.{IsSize}
@@ -36,7 +36,7 @@ module _ {N : ℕ} {m : LogMap} {s : State} (here : IsMapOf N m s)
   few = sized.1
 
   shaped : IsShaped m
-  shaped = shape_of N here headers
+  shaped = shaped_map N here headers
 
   formed : IsDirectory m n (as_header head)
   formed = shaped.directories n (as_header head) there dir

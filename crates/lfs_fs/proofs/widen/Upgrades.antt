@@ -4,7 +4,7 @@ use Rattle.lfs_fs.proofs.Prelude.{Result, Ok, Err, OnOk, OnErr, IfErr, Call, Don
 use Rattle.lfs_fs.proofs.Prelude.{IsLawful, Worn, acknowledges, LogMap, Step, State, Tree, links, Store, AreTotals}
 use Rattle.lfs_fs.proofs.Prelude.{totals_of_tree, draft_of, drafted_of, volume_of, with_draft, FsError, Fs, StagesDraft, TurnsDown}
 use Rattle.lfs_fs.proofs.Prelude.{Begins, answer_by, seen, IsIn, IsStill, Mounted, Serves, segments_of, IsMapOf, room_shaped}
-use Rattle.lfs_fs.proofs.Prelude.{arith, ne_eqb, asked_by, length, shape_of}
+use Rattle.lfs_fs.proofs.Prelude.{arith, ne_eqb, asked_by, length, shaped_map}
 use Rattle.std.proofs.lemmas.Bool.{cond-false}
 use Rattle.lfs_model.specs.Entry.{Header}
 use Rattle.lfs_model.specs.Raising.{raised}
@@ -117,7 +117,7 @@ module _ {D : Type 0} {state : D → DeviceState} (lawful : (d : D) → IsLawful
       headers n h there = ap (λ (x : LogMap). x.header n) (sym (drafts.map m)) ∙ there
 
       room : (drafted_of b).data_blocks + 7 * (drafted_of b).meta_blocks + 720 ≤ 47 * segments_of (seen mid)
-      room = room_shaped totals_of_tree (segments_of (seen mid)) after (shape_of (segments_of (seen mid)) after
+      room = room_shaped totals_of_tree (segments_of (seen mid)) after (shaped_map (segments_of (seen mid)) after
           (λ n h there. headers_of_volume is n h (headers n h there))) totals
 
     -- it asks for next to nothing

@@ -1,4 +1,5 @@
 -- Calls that draft a change, from what they read to what becomes of the draft, as steps of the model.
+use Rattle.lfs_fs.proofs.Prelude.{shape_of}
 use Rattle.lfs_fs.proofs.Prelude.{◌≡◌, ◌<◌, ◌≤◌, ◌+◌, ◌/◌, ◌^◌, ℕ, Bool, true, false, length, Ok, Err, refl, sym, ◌∙◌, ap, subst, inl, inr}
 use Rattle.lfs_fs.proofs.Prelude.{⊎_elim, arith, List, ◌*◌, ◌&&◌, IsTrue, Result, OnOk, IfErr, Call, Answer, Refuse, changes, is_ok}
 use Rattle.lfs_fs.proofs.Prelude.{may_write, takes_no_memory, cleans, never_for_device, CheckpointValue, StandsForOn, DeviceState, IsLawful}
@@ -96,10 +97,11 @@ module _ {D : Type 0} (state : D → DeviceState) (lawful : (d : D) → IsLawful
 
       -- what a stop leaves after the reads is what it leaves from before them
       leaves_after : {k : CheckpointValue} {m0 m : LogMap} → Holds state a k m0 m
-          → LeavesOnly (state b.device) (state h.device) (StandsForOn k.segments m0 (dropped m))
-          → LeavesOnly (state a.device) (state h.device) (StandsForOn k.segments m0 (dropped m))
+          → LeavesOnly (state b.device) (state h.device) (StandsForOn (shape_of k) m0 (dropped m))
+          → LeavesOnly (state a.device) (state h.device) (StandsForOn (shape_of k) m0 (dropped m))
       leaves_after {k} {m0} {m} holds later =
-          joined (StandsForOn k.segments m0 (dropped m)) (StandsForOn k.segments m0 (dropped m)) (StandsForOn k.segments m0 (dropped m))
+          joined (StandsForOn (shape_of k) m0 (dropped m)) (StandsForOn (shape_of k) m0 (dropped m))
+          (StandsForOn (shape_of k) m0 (dropped m))
           (quiet state b (lawful a.device) reads.looks holds) later (λ c x. x) (λ c x. x)
 
       saves_after : SavesFew b h → SavesFew a h

@@ -173,8 +173,9 @@ pub record IsShaped (m : LogMap) : Type 0 where
   pub directories : (n : ℕ) (h : Header) → m.header n ≡ Some h → h.kind ≡ kind.Directory → IsDirectory m n h
 
 -- That of a volume is one, where its headers are those of inodes.
-pub shape_of : (N : ℕ) {m : LogMap} {s : State} → IsMapOf N m s → ((n : ℕ) (h : Header) → m.header n ≡ Some h → IsHeaderOf n h) → IsShaped m
-shape_of N is fits = record {
+pub shaped_map : (N : ℕ) {m : LogMap} {s : State} → IsMapOf N m s → ((n : ℕ) (h : Header) → m.header n ≡ Some h → IsHeaderOf n h)
+    → IsShaped m
+shaped_map N is fits = record {
   map = is.map;
   long = is.long;
   directories = λ n h there dir.
@@ -202,7 +203,7 @@ pub need_counted : TotalsOfTree → (N : ℕ) (m : LogMap) (s : State) → IsMap
     → {blocks others : ℕ} → IsCounted m blocks others → (need s.tree ≡ blocks + 7 * others + 720) × (data_blocks s.tree ≡ blocks)
     × (meta_blocks s.tree ≡ others)
 need_counted totals N m s is fits {blocks} {others} counted =
-    let all = need_shaped totals (shape_of N is fits) counted in
+    let all = need_shaped totals (shaped_map N is fits) counted in
     (ap need is.log.is ∙ all.0, ap data_blocks is.log.is ∙ all.1, ap meta_blocks is.log.is ∙ all.2)
 
 -- so what space tells

@@ -1,5 +1,4 @@
 use Rattle.std.proofs.Common.{rules, ◌≡◌, ◌+◌, ◌%◌, ◌^◌, ◌∙◌, ℕ, refl, ap₂, arith}
-use Rattle.lfs_memory.specs.segments.Table.{used_of}
 use Rattle.lfs_memory.specs.Memory.{PadsChunk}
 use Rattle.lfs_memory.proofs.Padded.{pads_begun, pads_memory, pads_only, pads_used, to_full}
 use Rattle.lfs_log.proofs.committing.pad_rest.Goals as goal

@@ -1,6 +1,6 @@
 use Rattle.std.proofs.Common.{◌+◌, ◌∙◌, length, ap, arith}
 use Rattle.lfs_memory.specs.segments.Chunk.{Chunk}
-use Rattle.lfs_memory.specs.segments.Table.{UsageTable, clean_in}
+use Rattle.lfs_memory.specs.segments.Table.{clean_in}
 use Rattle.lfs_memory.specs.inodes.Blocks.{TableValue}
 use Rattle.lfs_log.proofs.Saves.{segments_taken, room_there, many_spare}
 use Rattle.lfs_log.proofs.Padding.{anew_still}

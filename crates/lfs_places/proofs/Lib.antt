@@ -1,0 +1,4 @@
+pub mod DeviceUnits
+pub mod OldPlaces
+pub mod PlacedStates
+pub mod Placing

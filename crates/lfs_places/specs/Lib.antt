@@ -1,0 +1,4 @@
+pub mod Lawful
+pub mod PlaceLaws
+pub mod Placed
+pub mod Places
