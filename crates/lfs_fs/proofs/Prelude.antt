@@ -43,7 +43,7 @@ pub use Rattle.lfs_model.specs.Totals.{IsCounted, TotalsOfTree}
 pub use Rattle.lfs_model.specs.Tree.{Dir, File, Handles, Names, Node, State, Tree, drop_nameless, form_of, is_dir, least_handle, links}
 pub use Rattle.lfs_model.specs.Tree.{names, names_in, names_of, node, opened, slot_len, without}
 pub use Rattle.lfs_model.specs.TreeOf.{IsTree, LeavesOne, LeavesStates, Left, Stands, dropped, node_by, object, tree_in}
-pub use Rattle.lfs_model.specs.UnitLaws.{KeepsUnits}
+pub use Rattle.lfs_model.specs.UnitLaws.{LeavesShape}
 pub use Rattle.lfs_model.specs.Use.{StandsForSome}
 pub use Rattle.lfs_model.specs.Volume.{IsLogOf, LeavesPrefix}
 pub use Rattle.lfs_model.specs.Walk.{At, End, Parent, Refused, Resolve}

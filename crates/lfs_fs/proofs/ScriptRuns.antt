@@ -14,7 +14,7 @@ use Rattle.lfs_model.proofs.Lefts.{left_only}
 use Rattle.lfs_model.proofs.Moments.{weaker}
 use Rattle.lfs_model.proofs.Pendings.{at_final}
 use Rattle.lfs_model.proofs.SinceRuns.{get_snoc, kept_more, kept_none, kept_told}
-use Rattle.lfs_model.proofs.UnitsKept.{units_then}
+use Rattle.lfs_model.proofs.UnitsKept.{shape_then}
 use Rattle.lfs_model.specs.Device.{Carries}
 use Rattle.lfs_model.specs.Since.{AreKeptUntil}
 use Rattle.lfs_model.specs.Use.{AreUnstuck, left_states}
@@ -139,7 +139,7 @@ module _ {D : Type 0} {state : D → DeviceState} (lawful : (d : D) → IsLawful
         run = tt;
         at = at;
         leaves = leaves;
-        units = λ c left. (c, left, refl);
+        shape = λ c left. (c, left, refl);
         moments = moments_from p [] leaves;
         pending = leaves_first d p;
       }
@@ -194,7 +194,7 @@ module _ {D : Type 0} {state : D → DeviceState} (lawful : (d : D) → IsLawful
           run = run_more (LineAnswers (segments_of old)) p lines answers ran.points line answer step.next ran.run step.does;
           at = subst (IsAt state new) (sym (final_more p ran.points step.next)) step.at;
           leaves = leaves;
-          units = units_then (state old.log.device) (state mid.log.device) (lawful new.log.device) ran.units step.units;
+          shape = shape_then (state old.log.device) (state mid.log.device) (lawful new.log.device) ran.shape step.shape;
           moments = moments_from p (ran.points ++ step.next ∷ []) leaves;
           pending = λ one. rw (calls_more lines line) (leaves_more (state mid.log.device) (state new.log.device) answers
               step.next (call_of line) answer (so_far (segments_of old) p lines answers ran.points ran.run) (lawful new.log.device)

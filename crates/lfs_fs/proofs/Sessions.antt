@@ -11,7 +11,7 @@ use Rattle.lfs_model.specs.Since.{UsesNoted, UsesUntil}
 use Rattle.lfs_model.specs.Use.{Continues, IsNumbered, UsesVolume}
 use Rattle.lfs_model.specs.Volume.{StandsForPrefix}
 use Rattle.lfs_model.proofs.Committed.{nothing_dropped}
-use Rattle.lfs_model.proofs.UnitsKept.{units_alone}
+use Rattle.lfs_model.proofs.UnitsKept.{shape_alone}
 use Rattle.lfs_fs.specs.Mounting.{MountsAt}
 use Rattle.lfs_fs.specs.Volume.{LeavesAll}
 
@@ -126,7 +126,7 @@ module _ {D : Type 0} {state : D → DeviceState} (d : D) (lawful : IsLawful (st
         orders_before = at.at.failed_orders ∙ same_orders carries no_failure;
         orders_after = ran.at.failed_orders;
         number_after = numbered state new ran.at;
-        same_units = units_alone (state (seen v).log.device) (state new.log.device) (state d).content (durable kept) ran.units;
+        same_shape = shape_alone (state (seen v).log.device) (state new.log.device) (state d).content (durable kept) ran.shape;
         moments = moments_by (state d).may_leave (λ c left. left);
         pending = ran.pending alone;
         continues = goes_on_from;

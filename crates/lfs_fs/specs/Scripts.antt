@@ -8,7 +8,7 @@ use Rattle.lfs_model.specs.Script.{Line, call_of}
 use Rattle.lfs_model.specs.Since.{AreKeptSince, AreKeptUntil}
 use Rattle.lfs_model.specs.Tree.{drop_nameless}
 use Rattle.lfs_model.specs.TreeOf.{LeavesOne, LeavesStates}
-use Rattle.lfs_model.specs.UnitLaws.{HasUnitsOf}
+use Rattle.lfs_model.specs.UnitLaws.{HasShapeOf}
 use Rattle.lfs_model.specs.Use.{AreUnstuck, StandsForSome, left_states}
 use Rattle.lfs_model.specs.Volume.{LeavesPrefix}
 use Rattle.lfs_fs.specs.Volume.{IsAt, Mounted, Serves, segments_of}
@@ -34,7 +34,7 @@ module _ {D : Type 0} (state : D → DeviceState) where
     pub run : LineRun (segments_of old) p lines answers points
     pub at : IsAt state new (final p points)
     pub leaves : LeavesStates (state old.log.device) (state new.log.device) (left_states (p ∷ points))
-    pub units : AllLeft (state new.log.device) (HasUnitsOf (state old.log.device))
+    pub shape : AllLeft (state new.log.device) (HasShapeOf (state old.log.device))
     -- where a stop at the start left its state alone
     pub moments : LeavesOne (state old.log.device) (drop_nameless p.state)
         → LeavesOnly (state old.log.device) (state new.log.device) (StandsForSome (p ∷ points))

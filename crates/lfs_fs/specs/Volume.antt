@@ -13,7 +13,7 @@ use Rattle.lfs_model.specs.Run.{Point, Answers, acknowledges}
 use Rattle.lfs_model.specs.Stands.{LogMap}
 use Rattle.lfs_model.specs.Tree.{Handles, State, drop_nameless}
 use Rattle.lfs_model.specs.TreeOf.{IsTree, LeavesOne, LeavesStates, Stands}
-use Rattle.lfs_model.specs.UnitLaws.{KeepsUnits}
+use Rattle.lfs_model.specs.UnitLaws.{LeavesShape}
 use Rattle.lfs_model.specs.Volume.{IsLogOf}
 use Rattle.lfs_store.specs.log.LogState.{Holds, LogState, Reads}
 use Rattle.lfs_store.specs.log.Saving.{commit_orders}
@@ -174,7 +174,7 @@ module _ {D : Type 0} (state : D → DeviceState) where
     pub at : IsAt new next
     pub answers : Answers (segments_of old) call p answer next
     pub leaves : LeavesStates (state old.log.device) (state new.log.device) (drop_nameless p.state ∷ drop_nameless next.state ∷ [])
-    pub units : KeepsUnits (state old.log.device) (state new.log.device)
+    pub shape : LeavesShape (state old.log.device) (state new.log.device)
     pub saves : acknowledges call answer ≡ true → LeavesOne (state new.log.device) (drop_nameless next.state)
 
   -- A call: what holds over any device, and what holds at each point where the device keeps the model.

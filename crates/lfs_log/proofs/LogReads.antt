@@ -102,7 +102,7 @@ module _ {D : Type 0} (state : D → DeviceState) where
     segments = is.segments ∙ sym reads.segments;
     number = is.number ∙ sym reads.number;
     version = is.version ∙ sym reads.version;
-    unit = rw reads.version is.unit;
+    fits = rw reads.version is.fits;
     running = reads.halted ∙ is.running;
     nothing_new = λ all. is.nothing_new (sym reads.saved ∙ all);
     rest = λ all. rest_reads a b reads (is.rest (sym reads.saved ∙ all));

@@ -3,7 +3,7 @@ use Rattle.std.proofs.Common.{◌≡◌, ◌<◌, ◌≤◌, ⊎_elim, ◌⊎◌
 use Rattle.std.proofs.Common.{true, None, refl, sym, ◌∙◌, ap, subst, arith}
 use Rattle.std.proofs.lemmas.Bool.{cases_lt}
 use Rattle.std.proofs.lemmas.List.{get_or_past}
-use Rattle.lfs_model.specs.Checkpoint.{CheckpointValue, FitsCheckpoint, layout_version}
+use Rattle.lfs_model.specs.Checkpoint.{CheckpointValue, FitsCheckpoint, MayHave, is_last, layout_version, most_unit_power}
 use Rattle.lfs_model.specs.Content.{Content, block, newest}
 use Rattle.lfs_model.specs.Committing.{IsMountedTables}
 use Rattle.std.specs.Prelude.{Result, Ok, Err}
@@ -126,6 +126,15 @@ module _ {c : Content} {k : CheckpointValue} (fits : FitsCheckpoint k) {m : LogM
     stale = fresh_ages;
   }
 
+-- a volume may have its own version
+own_version : {k : CheckpointValue} {version : ℕ} → FitsCheckpoint k → (x : CheckpointValue) → x ≡ k → layout_version k ≡ version
+    → MayHave x version
+own_version {k} {version} fits x one says = record {
+  unit = subst (λ (y : CheckpointValue). y.unit_power ≤ most_unit_power version) (sym one)
+      (subst (λ (n : ℕ). k.unit_power ≤ most_unit_power n) says fits.unit);
+  last = ap (λ (y : CheckpointValue). is_last (layout_version y)) one ∙ ap is_last says;
+}
+
 -- ---- the log
 module _ {D : Type 0} (state : D → DeviceState) (h : Held D) (lawful : IsLawful (state h.device))
     (whole : HasWholeUnits (state h.device))
@@ -199,7 +208,7 @@ module _ {D : Type 0} (state : D → DeviceState) (h : Held D) (lawful : IsLawfu
         rw one (log_at _ (rw (← one) is.stands)),
         ap (λ (x : CheckpointValue). x.number) one ∙ (says keeps).number,
         is.stands.holds.version ∙ ap layout_version one ∙ (says keeps).version,
-        rw (one, ← (says keeps).version) (fits keeps).unit,
+        own_version (fits keeps) is.checkpoint one (says keeps).version,
       )
 
   -- these are its totals

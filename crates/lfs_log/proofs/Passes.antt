@@ -27,7 +27,7 @@ use Rattle.lfs_log.proofs.Cleaned.{at_one, beside, emptied_least, log_beside}
 use Rattle.lfs_log.proofs.Fitting.{overfilled}
 use Rattle.lfs_log.proofs.LogReads.{reads_looked, held_still, looks_leave}
 use Rattle.lfs_log.proofs.Unsaved.{none_left}
-use Rattle.lfs_log.proofs.Volumes.{acknowledged, same_unit}
+use Rattle.lfs_log.proofs.Volumes.{acknowledged, still_fits}
 
 -- ---- room
 fewer_taken : (blocks count : ℕ) → 2 ≤ count → blocks ≤ most_brought count → segments_for blocks ≤ count - 1
@@ -166,7 +166,7 @@ module _ {D : Type 0} {state : D → DeviceState} where
                 segments = sym n.2.segments;
                 number = n.1;
                 version = is.holds.version;
-                unit = same_unit k n.0 h.version n.3 is.holds.unit;
+                fits = still_fits k n.0 h.version n.3 is.holds.fits;
                 running = running;
                 nothing_new = λ all. refl;
                 rest = λ all. record { nothing = nothing; untaken = done.untaken; many = done.many };

@@ -4,7 +4,7 @@ use Rattle.std.proofs.Common.{List, [], length, get_or, None, refl, sym, ◌∙�
 use Rattle.std.proofs.lemmas.Bool.{cases_eq, cases_lt, cond-true, cond-false, false_from_ne_true}
 use Rattle.std.proofs.lemmas.List.{get_or_past}
 use Rattle.lfs_model.specs.Entry.{Inode, Map, Usage}
-use Rattle.lfs_model.specs.Checkpoint.{CheckpointValue, checkpoint_sector, shape_of}
+use Rattle.lfs_model.specs.Checkpoint.{CheckpointValue, checkpoint_sector, is_last, shape_of}
 use Rattle.lfs_model.specs.Content.{Content}
 use Rattle.lfs_model.specs.Crash.{StandsForOn}
 use Rattle.lfs_model.specs.Device.{AllLeft, Carries, ComesFrom, DeviceState, IsLawful, LeavesOnly, MayWriteUnit, Only}
@@ -192,7 +192,8 @@ module _ (d d1 : DeviceState) (v : LogMemory) (version number : ℕ) (lawful : I
         number = is.number ∙ ap (λ (n : ℕ). n + 1) (sym held.same);
         segments = is.segments ∙ held.log.segments;
         same = is.same_version ∙ sym held.same_version;
-        unit = is.unit (omega (arith, held.log.unit, held.unit)) ∙ held.log.unit;
+        last = ap is_last is.same_version ∙ sym held.fits.last;
+        unit = is.unit (omega (arith, held.log.unit, held.fits.unit)) ∙ held.log.unit;
         map = array_is next.map 32 is.fits.map_length is.map
             (λ j ge. let at = running.tables.at (Map j) refl in
             sym at ∙ map_past m running.memory j running.laid (λ one. out.maps j (sym at ∙ one)) ge);
@@ -201,7 +202,7 @@ module _ (d d1 : DeviceState) (v : LogMemory) (version number : ℕ) (lawful : I
       }
 
       same : shape_of next ≡ shape_of k
-      same i = record { segments = leads.segments i; unit_power = leads.unit i }
+      same i = record { segments = leads.segments i; unit_power = leads.unit i; last = leads.last i }
 
       planned : IsPlanned k d1.content (next.number % 2) (checkpoint_sector next) next (dropped m)
       planned = planning d1 (blocks_of v.dirty) (tables_of v) k next m0 m 1024 (next.number % 2)
@@ -242,7 +243,7 @@ module _ (d d1 : DeviceState) (v : LogMemory) (version number : ℕ) (lawful : I
             running = as_chunk (sym (closed_segment v.chunk no_chunk)) (sym (closed_chunk v.chunk no_chunk)) r;
             hidden = held.log.hidden;
             segments = go.size ∙ sym is.segments;
-            unit = go.unit ∙ sym (is.unit (omega (arith, held.log.unit, held.unit)));
+            unit = go.unit ∙ sym (is.unit (omega (arith, held.log.unit, held.fits.unit)));
             tight = held.log.tight;
           }
 

@@ -52,7 +52,7 @@ acknowledged_on : {a : DeviceState} (b : DeviceState) {v : LogMemory} (v' : LogM
     → (k : CheckpointValue) {m0 : LogMap} (m : LogMap) → IsAcknowledged a v version number k m0 m
     → IsAcknowledged b v' version number k m0 m
 acknowledged_on b v' n goes keeps k {m0} m is =
-    record { log = goes.log k m0 m keeps is.log; map = is.map; same = is.same; same_version = is.same_version; unit = is.unit }
+    record { log = goes.log k m0 m keeps is.log; map = is.map; same = is.same; same_version = is.same_version; fits = is.fits }
 
 either_then : (a b c : DeviceState) (v v' : LogMemory) (n version number : ℕ) → Goes a b v v' n → (c.keeps_model → b.keeps_model)
     → LeavesEither b c v' version number → LeavesEither a c v version number

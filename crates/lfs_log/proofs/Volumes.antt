@@ -4,7 +4,7 @@ use Rattle.std.proofs.lemmas.Bool.{and_parts}
 use Rattle.std.proofs.Common.{◌≡◌, ◌<◌, ◌≤◌, ◌+◌, ◌*◌, ◌&&◌, ◌||◌, cond, ℕ, Bool}
 use Rattle.std.proofs.Common.{true, false, length, refl, sym, ◌∙◌, ap, subst}
 use Rattle.std.proofs.Common.{arith}
-use Rattle.lfs_model.specs.Checkpoint.{CheckpointValue, Shape, most_unit_power, shape_of}
+use Rattle.lfs_model.specs.Checkpoint.{CheckpointValue, MayHave, Shape, is_last, layout_version, most_unit_power, shape_of}
 use Rattle.lfs_model.specs.declared.limits.TheConstants.{FILE_NUMBERS}
 use Rattle.lfs_model.specs.Crash.{StandsOn}
 use Rattle.lfs_model.specs.Device.{AllLeft, DeviceState, IsLawful}
@@ -58,16 +58,19 @@ still_untaken : (before : UsageTable) {between after : UsageTable} → after ≡
     → ((segment : ℕ) → kept_of between segment ≡ kept_of before segment) → AreUntaken before → AreUntaken after
 still_untaken before same used kept untaken = rw same (λ segment. kept segment ∙ untaken segment ∙ sym (used segment))
 
--- a checkpoint of the same shape has units that the version has
-pub same_unit : (k next : CheckpointValue) (version : ℕ) → shape_of next ≡ shape_of k → k.unit_power ≤ most_unit_power version
-    → next.unit_power ≤ most_unit_power version
-same_unit k next version same few = subst (λ (x : Shape). x.unit_power ≤ most_unit_power version) (sym same) few
+-- a volume of the same shape may have the same versions
+pub still_fits : (k next : CheckpointValue) (version : ℕ) → shape_of next ≡ shape_of k → MayHave k version → MayHave next version
+still_fits k next version same is = record {
+  unit = subst (λ (x : Shape). x.unit_power ≤ most_unit_power version) (sym same) is.unit;
+  last = ap (λ (x : Shape). x.last) same ∙ is.last;
+}
 
--- a version that is raised is the first, which has sectors as its units
-unit_raised : {power version : ℕ} (raised : Bool) → power ≤ most_unit_power version → (raised ≡ true → version ≡ 1)
-    → power ≤ most_unit_power (cond raised 2 version)
-unit_raised {power} true few first = subst (λ (n : ℕ). power ≤ most_unit_power n) (first refl) few
-unit_raised false few first = few
+-- a version that is raised is the first, which has what the second has
+fits_raised : {k : CheckpointValue} {version : ℕ} (raised : Bool) → MayHave k version → (raised ≡ true → version ≡ 1)
+    → MayHave k (cond raised 2 version)
+fits_raised {k} {version} true is first =
+    let one = subst (MayHave k) (first refl) is in record { unit = one.unit; last = one.last }
+fits_raised false is first = is
 
 raises_first : (m : LogMap) (l : Loss) → FitsLoss m l → raises l ≡ true → m.version ≡ 1
 raises_first m loss.Nothing fits on = absurd (cc)
@@ -80,7 +83,7 @@ module _ {D : Type 0} {state : D → DeviceState} where
   -- what is to be saved, where the log holds a log map and memory stands for it
   pub acknowledged : (h : Held D) {v : LogMemory} {k : CheckpointValue} {m0 m : LogMap} → Holds state (seen h) k m0 m
       → IsLog (state h.device) v k m0 m → IsLogMap (dropped m) → IsAcknowledged (state h.device) v h.version h.number k m0 m
-  acknowledged h is log map = record { log = log; map = map; same = is.number; same_version = is.version; unit = is.unit }
+  acknowledged h is log map = record { log = log; map = map; same = is.number; same_version = is.version; fits = is.fits }
 
   pub saves : {h h' : Held D} → length h.memory.dirty.blocks ≤ 456 → CommitsAll (state h.device) (state h'.device) h.memory h'.memory
       h.version h.number → h'.number ≡ h.number + 1 → h'.version ≡ h.version → h'.upgraded ≡ false → h'.saved ≡ true → h'.halted ≡ false
@@ -120,7 +123,7 @@ module _ {D : Type 0} {state : D → DeviceState} where
               segments = sym n.2.segments;
               number = n.1 ∙ sym number;
               version = is.version ∙ sym version;
-              unit = rw version (same_unit k n.0 h.version n.3 is.unit);
+              fits = rw version (still_fits k n.0 h.version n.3 is.fits);
               running = running;
               nothing_new = λ all. refl;
               rest = λ all. record { nothing = nothing; untaken = c.untaken; many = c.many };
@@ -188,7 +191,7 @@ module _ {D : Type 0} {state : D → DeviceState} where
         segments = sym log.segments;
         number = is.number ∙ sym number;
         version = same ∙ ap (λ (n : ℕ). cond raised 2 n) is.version ∙ sym version;
-        unit = rw version (unit_raised raised is.unit (λ on. sym is.version ∙ first on));
+        fits = rw version (fits_raised raised is.fits (λ on. sym is.version ∙ first on));
         running = halted ∙ is.running;
         nothing_new = nothing_new;
         rest = rest;

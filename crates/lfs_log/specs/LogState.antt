@@ -2,7 +2,7 @@
 use Rattle.std.specs.Prelude.{◌≡◌, ◌⊎◌, ◌<◌, ◌≤◌, ◌+◌, ◌-◌, ◌*◌, ◌^◌, ◌||◌, cond, max, ℕ, Bool, true, false, List}
 use Rattle.std.specs.Prelude.{length, Option, None, Result, OnErr, IsErrOf}
 use Rattle.lfs_model.specs.declared.limits.TheConstants.{FILE_NUMBERS, MOST_UNSAVED}
-use Rattle.lfs_model.specs.Checkpoint.{CheckpointValue, Shape, most_unit_power, shape_of}
+use Rattle.lfs_model.specs.Checkpoint.{CheckpointValue, MayHave, Shape, shape_of}
 use Rattle.lfs_model.specs.Content.{Content}
 use Rattle.lfs_model.specs.Crash.{StandsOn, StandsForOn}
 use Rattle.lfs_model.specs.Device.{DeviceState, Carries, LeavesOnly, AllLeft}
@@ -88,8 +88,8 @@ module _ {D : Type 0} (state : D → DeviceState) where
     pub segments : k.segments ≡ h.segments
     pub number : k.number ≡ h.number
     pub version : m.version ≡ h.version
-    -- the version has such units
-    pub unit : k.unit_power ≤ most_unit_power h.version
+    -- a volume of the checkpoint may have the version
+    pub fits : MayHave k h.version
     pub running : h.halted ≡ false
     pub nothing_new : h.saved ≡ true → m0 ≡ dropped m
     pub rest : h.saved ≡ true → IsAtRest h

@@ -1,6 +1,6 @@
 -- What a mount makes of the tables: the memory of a log that runs.
 use Rattle.std.specs.Prelude.{◌≡◌, ◌≤◌, ◌+◌, ◌*◌, ℕ, [], length, None}
-use Rattle.lfs_model.specs.Checkpoint.{most_unit_power}
+use Rattle.lfs_model.specs.Checkpoint.{MayHave}
 use Rattle.lfs_model.specs.Device.{DeviceState}
 use Rattle.lfs_model.specs.declared.limits.TheConstants.{CHECKPOINT_SLOTS, MOST_UNSAVED, SEGMENT_SECTORS}
 use Rattle.lfs_model.specs.Stands.{LogMap, StandsLog}
@@ -24,7 +24,7 @@ pub record IsOpened (v : LogMemory) (size : ℕ) : Type 0 where
 abbrev pub Opens : DeviceState → DeviceState → LogMemory → ℕ → ℕ → Type 0
 Opens d d' v version number = (m : LogMap) → d'.keeps_model → (is : StandsLog d.content m)
     → IsLog d' v is.checkpoint m m × (is.checkpoint.number ≡ number) × (m.version ≡ version)
-    × (is.checkpoint.unit_power ≤ most_unit_power version)
+    × MayHave is.checkpoint version
 
 -- These are the totals of the log map for which the content stands.
 abbrev pub CountsOpened : DeviceState → DeviceState → BlockTotals → Type 0

@@ -1,6 +1,6 @@
 -- What the end of a commit does: the checkpoint that leads to all that is out.
 use Rattle.std.specs.Prelude.{◌≡◌, ◌<◌, ◌≤◌, ◌+◌, ◌*◌, ℕ, false, [], length, get_or}
-use Rattle.lfs_model.specs.Checkpoint.{CheckpointValue, FitsCheckpoint, layout_version, most_unit_power, shape_of}
+use Rattle.lfs_model.specs.Checkpoint.{CheckpointValue, FitsCheckpoint, MayHave, layout_version, most_unit_power, shape_of}
 use Rattle.lfs_model.specs.Crash.{StandsForOn}
 use Rattle.lfs_model.specs.declared.limits.TheConstants.{MAP_BLOCKS, USAGE_BLOCKS}
 use Rattle.lfs_model.specs.Device.{DeviceState, Carries, Elapses, IsUntouched, LeavesOnly, AllLeft}
@@ -46,7 +46,7 @@ pub record IsAcknowledged (d : DeviceState) (v : LogMemory) (version number : �
   pub map : IsLogMap (dropped m)
   pub same : k.number ≡ number
   pub same_version : m.version ≡ version
-  pub unit : k.unit_power ≤ most_unit_power version
+  pub fits : MayHave k version
 
 -- a stop at any moment leaves what was acknowledged, or all that is out, on a volume of the same shape
 abbrev pub LeavesEither : DeviceState → DeviceState → LogMemory → ℕ → ℕ → Type 0

@@ -173,7 +173,7 @@ module _ (c : Content) (m : LogMap) (s : StandsLog c m) (e : Content) (keeps : K
   at_written : StandsLog (set e (next.number % 2) (Some bytes)) m'
   at_written = record {
     checkpoint = next;
-    newest = newest_next (set e (next.number % 2) (Some bytes)) s.checkpoint next ready.number (here (Some bytes))
+    newest = newest_next (set e (next.number % 2) (Some bytes)) s.checkpoint next ready.number ready.last (here (Some bytes))
         (there (Some bytes) ∙ ap (with_parity (next.number % 2)) ready.spelt ∙ parity);
     stands = stands_at_same e (set e (next.number % 2) (Some bytes)) next m' ready.stands (length-set e (next.number % 2) (Some bytes))
         (λ at protected. sector_other e (next.number % 2) (Some bytes) at

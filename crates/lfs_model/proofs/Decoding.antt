@@ -1,8 +1,8 @@
 -- What a sector spells, as a function: the laws that every decoder meets.
 use Rattle.std.proofs.Common.{◌≡◌, ◌≤◌, ◌<◌, ◌+◌, ◌-◌, ◌*◌, ◌^◌, ◌↔◌, ◌&&◌, ◌==◌, Bool, true, false, cond, nat_le, nat_lt, not, ℕ, zero}
-use Rattle.std.proofs.Common.{suc, List, [], ◌∷◌, length, get_or, drop, Option, Some, None, IfSome, IfNone, inl, inr, ⊎_elim, ◌||◌, refl}
+use Rattle.std.proofs.Common.{suc, List, [], ◌∷◌, length, get_or, drop, Option, Some, None, IfSome, IfNone, refl}
 use Rattle.std.proofs.Common.{sym, ap, subst, ◌∙◌, arith}
-use Rattle.std.proofs.lemmas.Bool.{and_from, and_parts, leb-true, le-leb, ltb-true, lt-ltb, eqb-true, eq-eqb, ne_eqb, cases_Bool}
+use Rattle.std.proofs.lemmas.Bool.{and_from, and_parts, leb-true, le-leb, ltb-true, lt-ltb, eqb-true, eq-eqb, ne_eqb}
 use Rattle.std.proofs.lemmas.List.{get_or-drop, length-drop}
 use Rattle.std.proofs.lemmas.Slice.Eq.{bytes_eq-Decides}
 use Rattle.std.specs.List.{list_all}

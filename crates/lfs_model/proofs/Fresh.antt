@@ -1,5 +1,5 @@
 -- A new volume is sound.
-use Rattle.std.proofs.Common.{◌≡◌, ◌≢◌, refl, sym, ap, subst, ℕ, ◌≤◌, true, List, [], Option, Some, None, arith, cond, inl}
+use Rattle.std.proofs.Common.{◌≡◌, ◌≢◌, refl, sym, ap, subst, ℕ, ◌≤◌, true, List, [], Option, Some, None, arith, cond}
 use Rattle.std.specs.Prelude.{unwrap_or}
 use Rattle.std.specs.FinMap.{find}
 use Rattle.lfs_model.specs.Tree.{Node, File, Dir, entry, byte_cmp, names_of, node, is_dir, links}

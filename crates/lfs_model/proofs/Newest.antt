@@ -1,13 +1,15 @@
 -- The newest checkpoint of a content: what the two slots hold, and what a write to one of them makes of it.
-use Rattle.std.proofs.Common.{◌≡◌, ◌<◌, ◌≤◌, ◌⊎◌, inl, inr, ⊎_elim, ◌+◌, ◌%◌, ◌==◌, ◌&&◌, nat_le, nat_lt, Bool, true, false, cond, ℕ, zero}
+use Rattle.std.proofs.Common.{◌≡◌, ◌<◌, ◌≤◌, ◌⊎◌, inl, inr, ⊎_elim, ◌+◌, ◌%◌, ◌^◌, ◌==◌, ◌&&◌, nat_le, nat_lt, Bool, true, false, cond, ℕ}
+use Rattle.std.proofs.Common.{zero}
 use Rattle.std.proofs.Common.{suc, List, [], set, Option, Some, None, refl, sym, ◌∙◌, ap, ap₂, arith, get_or-set_other}
 use Rattle.std.proofs.lemmas.Bool.{and_parts, leb-true, cases_eq, cases_lt, cases_Bool, eqb-true, eq-eqb, cond-true, cond-false, lt-ltb}
 use Rattle.std.proofs.lemmas.Bool.{le-ltb}
 use Rattle.std.specs.List.{AllByRecursion}
-use Rattle.lfs_model.specs.Checkpoint.{CheckpointValue, IsVersion, checkpoint_in, checkpoint_of, checkpoint_sector, is_segment_count}
-use Rattle.lfs_model.specs.Checkpoint.{is_version, layout_version, may_be_checkpoint, most_unit_power}
+use Rattle.lfs_model.specs.Checkpoint.{CheckpointValue, IsVersion, checkpoint_in, checkpoint_of, checkpoint_sector, is_last}
+use Rattle.lfs_model.specs.Checkpoint.{is_segment_count}
+use Rattle.lfs_model.specs.Checkpoint.{is_version, layout_version, may_be_checkpoint, most_unit_power, rank}
 use Rattle.lfs_model.specs.Fields.{part, read32, read64}
-use Rattle.lfs_model.specs.Content.{Content, NewestFits, bytes_of, slot, newer, newest, with_parity}
+use Rattle.lfs_model.specs.Content.{Content, LastStandsAlone, NewestFits, bytes_of, slot, newer, newest, with_parity}
 use Rattle.lfs_model.specs.Device.{Cell, cell_at, IsSector, AreSectorBytes}
 use Rattle.lfs_model.specs.Slots.{HoldsCheckpoint, IsNewest, HasNoCheckpoint}
 use Rattle.lfs_model.proofs.Cells.{sector_at}
@@ -37,9 +39,9 @@ newer_inv None y k h = inr h
 newer_inv (Some x) None k h = inl h
 newer_inv (Some x) (Some y) k h =
     ⊎_elim
-    (λ (t : nat_lt x.number y.number ≡ true). inr (sym (cond-true (nat_lt x.number y.number) (Some y) (Some x) t) ∙ h))
-    (λ (f : nat_lt x.number y.number ≡ false). inl (sym (cond-false (nat_lt x.number y.number) (Some y) (Some x) f) ∙ h))
-    (cases_Bool (nat_lt x.number y.number))
+    (λ (t : nat_lt (rank x) (rank y) ≡ true). inr (sym (cond-true (nat_lt (rank x) (rank y)) (Some y) (Some x) t) ∙ h))
+    (λ (f : nat_lt (rank x) (rank y) ≡ false). inl (sym (cond-false (nat_lt (rank x) (rank y)) (Some y) (Some x) f) ∙ h))
+    (cases_Bool (nat_lt (rank x) (rank y)))
 
 -- the newest checkpoint stands in its own slot
 pub slot_newest : (c : Content) (k : CheckpointValue) → newest c ≡ Some k → slot c (k.number % 2) ≡ Some k
@@ -49,11 +51,26 @@ slot_newest c k h =
     (λ (o : slot c 1 ≡ Some k). ap (slot c) (with_parity_inv 1 (checkpoint_in (bytes_of (cell_at c 1))) k o).1 ∙ o)
     (newer_inv (slot c 0) (slot c 1) k h)
 
-pub newer_lt : (k n : CheckpointValue) → k.number < n.number → newer (Some k) (Some n) ≡ Some n
-newer_lt k n lt = cond-true (nat_lt k.number n.number) (Some n) (Some k) (lt-ltb k.number n.number lt)
+pub newer_lt : (k n : CheckpointValue) → rank k < rank n → newer (Some k) (Some n) ≡ Some n
+newer_lt k n lt = cond-true (nat_lt (rank k) (rank n)) (Some n) (Some k) (lt-ltb (rank k) (rank n) lt)
 
-pub newer_ge : (k n : CheckpointValue) → k.number < n.number → newer (Some n) (Some k) ≡ Some n
-newer_ge k n lt = cond-false (nat_lt n.number k.number) (Some k) (Some n) (le-ltb n.number k.number (omega arith))
+pub newer_ge : (k n : CheckpointValue) → rank k < rank n → newer (Some n) (Some k) ≡ Some n
+newer_ge k n lt = cond-false (nat_lt (rank n) (rank k)) (Some k) (Some n) (le-ltb (rank n) (rank k) (omega arith))
+
+-- the next number of a volume has a greater rank
+pub rank_next : (k n : CheckpointValue) → n.number ≡ k.number + 1 → is_last (layout_version n) ≡ is_last (layout_version k)
+    → rank n ≡ rank k + 1
+rank_next k n is last = ap₂ (λ (b : Bool) (i : ℕ). cond b 0 (2 ^ 64) + i) last is ∙ omega arith
+
+-- a rank is of one number
+by_rank : (b c : Bool) (i j : ℕ) → i < 2 ^ 64 → j < 2 ^ 64 → cond b 0 (2 ^ 64) + i ≡ cond c 0 (2 ^ 64) + j → i ≡ j
+by_rank true true i j fits others same = omega (arith, same)
+by_rank true false i j fits others same = absurd (omega (arith, fits, same))
+by_rank false true i j fits others same = absurd (omega (arith, others, same))
+by_rank false false i j fits others same = omega (arith, same)
+
+pub rank_number : (j k : CheckpointValue) → j.number < 2 ^ 64 → k.number < 2 ^ 64 → rank j ≡ rank k → j.number ≡ k.number
+rank_number j k fits others same = by_rank (is_last (layout_version j)) (is_last (layout_version k)) j.number k.number fits others same
 
 -- the other slot, at the next number
 pub newest_alone : (d : Content) (k : CheckpointValue) (p : ℕ) → p ≡ (k.number + 1) % 2 → slot d (k.number % 2) ≡ Some k → slot d p ≡ None
@@ -69,17 +86,19 @@ newest_alone d k p is here there =
     ap₂ newer (ap (slot d) (sym z) ∙ there) (ap (slot d) (sym o) ∙ here))
     (cases_eq (k.number % 2) 0)
 
-pub newest_next : (d : Content) (k n : CheckpointValue) → n.number ≡ k.number + 1 → slot d (k.number % 2) ≡ Some k
+pub newest_next : (d : Content) (k n : CheckpointValue) → n.number ≡ k.number + 1
+    → is_last (layout_version n) ≡ is_last (layout_version k) → slot d (k.number % 2) ≡ Some k
     → slot d (n.number % 2) ≡ Some n → newest d ≡ Some n
-newest_next d k n is here there =
+newest_next d k n is last here there =
+    let more = rank_next k n is last in
     ⊎_elim
     (λ (z : k.number % 2 ≡ 0).
     let o : n.number % 2 ≡ 1 = omega arith in
-    ap₂ newer (ap (slot d) (sym z) ∙ here) (ap (slot d) (sym o) ∙ there) ∙ newer_lt k n (omega arith))
+    ap₂ newer (ap (slot d) (sym z) ∙ here) (ap (slot d) (sym o) ∙ there) ∙ newer_lt k n (omega (arith, more)))
     (λ (ne : k.number % 2 ≡ 0 → ⊥).
     let o : k.number % 2 ≡ 1 = omega arith in
     let z : n.number % 2 ≡ 0 = omega arith in
-    ap₂ newer (ap (slot d) (sym z) ∙ there) (ap (slot d) (sym o) ∙ here) ∙ newer_ge k n (omega arith))
+    ap₂ newer (ap (slot d) (sym z) ∙ there) (ap (slot d) (sym o) ∙ here) ∙ newer_ge k n (omega (arith, more)))
     (cases_eq (k.number % 2) 0)
 
 -- What a write to another sector leaves.
@@ -115,32 +134,32 @@ slot_to c all p k e =
     let i = with_parity_inv p (checkpoint_in (bytes_of (cell_at c p))) k e in
     held_by c p k (cell_at c p) (sector_at c p all) refl i.0 i.1
 
--- the newest of two has the greater number
+-- the newest of two has the greater rank
 newer_least : (x y : Option CheckpointValue) (k d : CheckpointValue) → newer x y ≡ Some k → (x ≡ Some d) ⊎ (y ≡ Some d)
-    → d.number ≤ k.number
+    → rank d ≤ rank k
 newer_least None y k d h (inl e) = absurd (cc)
 newer_least None y k d h (inr e) = let s : Some k ≡ Some d = sym h ∙ e in let is : k ≡ d = cc in
-    let n = ap (λ (z : CheckpointValue). z.number) is in omega arith
+    let n = ap rank is in omega (arith, n)
 newer_least (Some x) None k d h (inl e) = let s : Some k ≡ Some d = sym h ∙ e in let is : k ≡ d = cc in
-    let n = ap (λ (z : CheckpointValue). z.number) is in omega arith
+    let n = ap rank is in omega (arith, n)
 newer_least (Some x) None k d h (inr e) = absurd (cc)
 newer_least (Some x) (Some y) k d h which =
     ⊎_elim
-    (λ (lt : x.number < y.number).
+    (λ (lt : rank x < rank y).
     let e : Some y ≡ Some k = sym (newer_lt x y lt) ∙ h in
     let is : y ≡ k = cc in
-    go (let n = ap (λ (z : CheckpointValue). z.number) is in omega arith) (let n = ap (λ (z : CheckpointValue). z.number) is in omega arith)
+    go (let n = ap rank is in omega (arith, n)) (let n = ap rank is in omega (arith, n))
     which)
-    (λ (le : y.number ≤ x.number).
-    let e : Some x ≡ Some k = sym (cond-false (nat_lt x.number y.number) (Some y) (Some x) (le-ltb x.number y.number le)) ∙ h in
+    (λ (le : rank y ≤ rank x).
+    let e : Some x ≡ Some k = sym (cond-false (nat_lt (rank x) (rank y)) (Some y) (Some x) (le-ltb (rank x) (rank y) le)) ∙ h in
     let is : x ≡ k = cc in
-    go (let n = ap (λ (z : CheckpointValue). z.number) is in omega arith) (let n = ap (λ (z : CheckpointValue). z.number) is in omega arith)
+    go (let n = ap rank is in omega (arith, n)) (let n = ap rank is in omega (arith, n))
     which)
-    (cases_lt x.number y.number)
+    (cases_lt (rank x) (rank y))
   where
-    go : x.number ≤ k.number → y.number ≤ k.number → (Some x ≡ Some d) ⊎ (Some y ≡ Some d) → d.number ≤ k.number
-    go le le' (inl e) = let is : x ≡ d = cc in let n = ap (λ (z : CheckpointValue). z.number) is in omega arith
-    go le le' (inr e) = let is : y ≡ d = cc in let n = ap (λ (z : CheckpointValue). z.number) is in omega arith
+    go : rank x ≤ rank k → rank y ≤ rank k → (Some x ≡ Some d) ⊎ (Some y ≡ Some d) → rank d ≤ rank k
+    go le le' (inl e) = let is : x ≡ d = cc in let n = ap rank is in omega (arith, n)
+    go le le' (inr e) = let is : y ≡ d = cc in let n = ap rank is in omega (arith, n)
 
 slot_below : (c : Content) (p : ℕ) (d : CheckpointValue) → p < 2 → slot c p ≡ Some d → (slot c 0 ≡ Some d) ⊎ (slot c 1 ≡ Some d)
 slot_below c zero d lt e = inl e
@@ -157,7 +176,7 @@ newest_to c all k h = record {
 newer_none : (x y : Option CheckpointValue) → newer x y ≡ None → (x ≡ None) × (y ≡ None)
 newer_none None y h = (refl, h)
 newer_none (Some x) None h = absurd (cc)
-newer_none (Some x) (Some y) h = absurd (not_none (nat_lt x.number y.number) x y h)
+newer_none (Some x) (Some y) h = absurd (not_none (nat_lt (rank x) (rank y)) x y h)
   where
     not_none : (b : Bool) (x y : CheckpointValue) → cond b (Some y) (Some x) ≡ None → ⊥
     not_none true x y e = cc
@@ -187,7 +206,8 @@ newest_from c all k is = go (newest c) refl
         let at = newest_to c all j h in
         let up = at.greatest (k.number % 2) k (omega arith) is.held in
         let down = is.greatest (j.number % 2) j (omega arith) at.held in
-        same_number c j k h (slot_from c (k.number % 2) k is.held) (omega arith)
+        same_number c j k h (slot_from c (k.number % 2) k is.held)
+        (rank_number j k at.held.fits.number_fits is.held.fits.number_fits (omega (arith, up, down)))
 
 pub no_checkpoint_from : (c : Content) → AllByRecursion IsSector c → HasNoCheckpoint c → newest c ≡ None
 no_checkpoint_from c all none = go (newest c) refl
@@ -198,6 +218,16 @@ no_checkpoint_from c all none = go (newest c) refl
 
 pub newest_fits : NewestFits
 newest_fits c all = ((λ k. (newest_to c all k, newest_from c all k)), (no_checkpoint_to c, no_checkpoint_from c all))
+
+-- a checkpoint of an older version has a greater rank
+older_first : (b : Bool) (i j n : ℕ) → j < 2 ^ 64 → cond b 0 (2 ^ 64) + i ≤ n → n ≡ 0 + j → b ≡ true
+older_first true i j n fits less is = refl
+older_first false i j n fits less is = absurd (omega (arith, fits, less, is))
+
+pub last_stands_alone : LastStandsAlone
+last_stands_alone c all k h last p d lt e =
+    older_first (is_last (layout_version d)) d.number k.number (rank k) (newest_to c all k h).held.fits.number_fits
+    (newer_least (slot c 0) (slot c 1) k d h (slot_below c p d lt e)) (ap (λ (b : Bool). cond b 0 (2 ^ 64) + k.number) last)
 
 -- its sector spells it
 pub newest_spelt : (c : Content) (k : CheckpointValue) → newest c ≡ Some k → (bytes : List ℕ) × (checkpoint_in bytes ≡ Some k)

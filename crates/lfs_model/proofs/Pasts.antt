@@ -1,5 +1,5 @@
 -- The moments of a device's past.
-use Rattle.std.proofs.Common.{◌≡◌, ◌⊎◌, inl, inr, ℕ, ◌≤◌, List, [], ◌∷◌, length, arith}
+use Rattle.std.proofs.Common.{inl, inr, ℕ, ◌≤◌, List, [], ◌∷◌, length, arith}
 use Rattle.std.specs.Prelude.{◌↔◌}
 use Rattle.lfs_model.specs.Device.{Cell}
 use Rattle.lfs_model.specs.Past.{AtSince, AtUntil, HoldsUntil}

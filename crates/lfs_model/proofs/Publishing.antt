@@ -169,6 +169,7 @@ planning d dirty t k next m0 m none slot bytes w formed out many leads spelt pla
   place = place;
   ready = record {
     number = leads.number;
+    last = leads.last;
     spelt = spelt;
     stands = finishing d.content m w.memory none next formed w.laid
         (out_done d.content m w.memory none dirty t k next w.laid w.opened w.segments w.cached w.tables w.fresh w.whole

@@ -1,6 +1,6 @@
 -- What units may have: a power of 2, at most 64 sectors. So whole units fill a segment.
-use Rattle.std.proofs.Common.{◌≡◌, ◌<◌, ◌≤◌, ◌+◌, ◌-◌, ◌*◌, ◌/◌, ◌%◌, ◌^◌, cond, Bool, true, false, ℕ, zero, suc, Some, refl, sym, ◌∙◌, ap}
-use Rattle.std.proofs.Common.{subst, arith}
+use Rattle.std.proofs.Common.{◌≡◌, ◌<◌, ◌≤◌, ◌+◌, ◌-◌, ◌*◌, ◌/◌, ◌%◌, ◌^◌, cond, Bool, true, false, ℕ, zero, suc, Some, refl, ◌∙◌, ap}
+use Rattle.std.proofs.Common.{arith}
 use Rattle.lfs_model.specs.Checkpoint.{CheckpointValue, unit_sectors}
 use Rattle.lfs_model.specs.Content.{Content, newest}
 use Rattle.lfs_model.specs.Crash.{IsFreeSector}

@@ -1,5 +1,5 @@
 -- A device as one of larger units.
-use Rattle.std.proofs.Common.{◌≡◌, ◌⊎◌, inl, inr, ℕ, ◌≤◌, List, refl, sym, ap, arith, subst}
+use Rattle.std.proofs.Common.{◌≡◌, inl, inr, ℕ, List, refl, sym, ap, arith, subst}
 use Rattle.std.proofs.Math.Nat.{ℕ_set}
 use mathlib.Core.Equiv.{Iso, iso_to_equiv}
 use Rattle.lfs_model.specs.Device.{Carries, Cell, CrashWritesUnit, DeviceState, Elapses, IsLawful, IsUntouched}

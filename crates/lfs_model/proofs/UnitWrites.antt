@@ -1,5 +1,5 @@
 -- Units of several sectors.
-use Rattle.std.proofs.Common.{◌≡◌, ◌≢◌, ◌⊎◌, inl, inr, ◌<◌, ◌≤◌, ◌+◌, ◌-◌, ◌*◌, ◌/◌, ℕ, zero, suc, List}
+use Rattle.std.proofs.Common.{◌≡◌, ◌⊎◌, inl, inr, ◌<◌, ◌≤◌, ◌+◌, ◌-◌, ◌*◌, ◌/◌, ℕ, zero, suc, List}
 use Rattle.std.proofs.Common.{[], ◌∷◌, length, set, Some, None, refl, sym, ◌∙◌}
 use Rattle.std.proofs.Common.{ap, ap₂, subst, arith, length-set, get_or-set_same, get_or-set_other}
 use Rattle.std.specs.List.{AllByRecursion}
@@ -8,9 +8,9 @@ use Rattle.std.proofs.lemmas.List.{ext_get_or}
 use Rattle.std.proofs.Math.Nat.{le-div_iff_mul-le, add-mul, mul_assoc}
 use Rattle.lfs_model.specs.Checkpoint.{CheckpointValue, checkpoint_in}
 use Rattle.lfs_model.specs.Content.{Content, bytes_of, newest, newer, with_parity}
-use Rattle.lfs_model.specs.Device.{AreSectorBytes, AreSectors, Cell, CrashWrites, CrashWritesUnit, DeviceState}
+use Rattle.lfs_model.specs.Device.{AreSectorBytes, Cell}
 use Rattle.lfs_model.specs.Device.{LieWithin, IsSector, MayWrite, MayWriteUnit}
-use Rattle.lfs_model.specs.Device.{cell_at, in_units, left_bad, left_new, left_old, put}
+use Rattle.lfs_model.specs.Device.{cell_at, left_bad, left_new, left_old, put}
 use Rattle.lfs_model.specs.Reach.{view, segment_start}
 use Rattle.lfs_model.specs.Stands.{LogMap, StandsLog, Protected, used_in}
 use Rattle.lfs_model.specs.Crash.{Keeps, IsFreeSector}

@@ -1,5 +1,5 @@
 -- An upgrade keeps a state sound, and so does a directory that gets form 1.
-use Rattle.std.proofs.Common.{◌≡◌, ◌<◌, refl, ap, subst, ℕ, zero, suc, ◌*◌, ◌≤◌, Bool, true, false, List, [], ◌∷◌}
+use Rattle.std.proofs.Common.{◌≡◌, ◌<◌, refl, subst, ℕ, zero, suc, ◌*◌, ◌≤◌, Bool, true, false, List, [], ◌∷◌}
 use Rattle.std.proofs.Common.{Some, arith, length}
 use Rattle.std.specs.Prelude.{not, ◌==◌, nat_lt}
 use Rattle.std.specs.List.{AllByRecursion}

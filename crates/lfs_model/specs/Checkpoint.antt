@@ -17,15 +17,6 @@ pub record CheckpointValue : Type 0 where
   pub map : List ℕ
   pub usage : List ℕ
 
--- how many segments a volume has, and its units: no commit changes them
-pub record Shape : Type 0 where
-  pub segments : ℕ
-  pub unit_power : ℕ
-
--- those that a checkpoint names
-abbrev pub shape_of : CheckpointValue → Shape
-shape_of c = record { segments = c.segments; unit_power = c.unit_power }
-
 -- The text that a checkpoint begins with.
 unfoldable pub checkpoint_text : List ℕ
 checkpoint_text = codes "SLFSCKP1"
@@ -42,9 +33,33 @@ IsSectorVersion version = (1 ≤ version) × (version ≤ LAST_SECTOR_VERSION)
 abbrev pub layout_version : CheckpointValue → ℕ
 layout_version c = c.version
 
+-- it is the last version
+abbrev pub is_last : ℕ → Bool
+is_last version = version == LAST_VERSION
+
+-- how many segments a volume has, its units, and whether its version is the last: no commit changes them
+pub record Shape : Type 0 where
+  pub segments : ℕ
+  pub unit_power : ℕ
+  pub last : Bool
+
+-- those that a checkpoint names
+abbrev pub shape_of : CheckpointValue → Shape
+shape_of c = record { segments = c.segments; unit_power = c.unit_power; last = is_last (layout_version c) }
+
+-- Of two checkpoints the one with the greater rank counts: one of the versions before the last goes before each of the last, and else the
+-- greater number counts.
+abbrev pub rank : CheckpointValue → ℕ
+rank c = cond (is_last (layout_version c)) 0 (2 ^ 64) + c.number
+
 -- what that is at most in a version
 abbrev pub most_unit_power : ℕ → ℕ
-most_unit_power version = cond (version == LAST_VERSION) MOST_UNIT_POWER 0
+most_unit_power version = cond (is_last version) MOST_UNIT_POWER 0
+
+-- A volume of this checkpoint may come to have this version: the version has its units, and is the last one where that is.
+pub record MayHave (c : CheckpointValue) (version : ℕ) : Type 0 where
+  pub unit : c.unit_power ≤ most_unit_power version
+  pub last : is_last (layout_version c) ≡ is_last version
 
 -- how many sectors a unit has
 abbrev pub unit_sectors : CheckpointValue → ℕ
@@ -53,11 +68,11 @@ unit_sectors c = 2 ^ c.unit_power
 -- The 8 bytes behind the version. In the last version they begin with the logarithms to base 2 of how many sectors a unit has and how many
 -- a segment, and how many bytes a block.
 abbrev pub shape_bytes : ℕ → ℕ → List ℕ
-shape_bytes version unit_power = cond (version == LAST_VERSION) (unit_power ∷ 6 ∷ 9 ∷ zeros 5) (zeros 8)
+shape_bytes version unit_power = cond (is_last version) (unit_power ∷ 6 ∷ 9 ∷ zeros 5) (zeros 8)
 
 -- the number in the last 4 bytes, by all before them: in the last version their checksum
 abbrev pub sum_of : ℕ → List ℕ → ℕ
-sum_of version bytes = cond (version == LAST_VERSION) (crc32c_of bytes) 0
+sum_of version bytes = cond (is_last version) (crc32c_of bytes) 0
 
 -- a checkpoint's fields in a version of the layout, but the last
 unfoldable pub checkpoint_fields : ℕ → CheckpointValue → List (List ℕ)

@@ -5,7 +5,7 @@
 use Rattle.std.specs.Prelude.{◌≡◌, ◌<◌, ◌≤◌, ◌⊎◌, ◌+◌, ◌*◌, ◌-◌, ◌%◌, ◌==◌, ℕ, suc, true, false, List, [], ◌∷◌, ◌++◌, length, get_or}
 use Rattle.std.specs.Prelude.{Option, Some, None}
 use Rattle.lfs_model.specs.Entry.{Entry, Inode, Map, Usage, entries_in, word}
-use Rattle.lfs_model.specs.Checkpoint.{CheckpointValue, checkpoint_in, layout_version, unit_sectors, usage_blocks}
+use Rattle.lfs_model.specs.Checkpoint.{CheckpointValue, checkpoint_in, is_last, layout_version, unit_sectors, usage_blocks}
 use Rattle.lfs_model.specs.Device.{DeviceState, CrashWritesUnit, IsUntouched, put}
 use Rattle.lfs_model.specs.Content.{Content}
 use Rattle.lfs_model.specs.Decodes.{IsSized}
@@ -136,6 +136,7 @@ pub record LeadsTo (t : Tables) (version : ℕ) (k next : CheckpointValue) : Typ
   pub number : next.number ≡ k.number + 1
   pub segments : next.segments ≡ k.segments
   pub same : layout_version next ≡ version
+  pub last : is_last (layout_version next) ≡ is_last (layout_version k)
   pub unit : next.unit_power ≡ k.unit_power
   pub map : (j : ℕ) → get_or next.map j 0 ≡ t.at (Map j)
   pub usage : (j : ℕ) → get_or next.usage j 0 ≡ t.at (Usage j)

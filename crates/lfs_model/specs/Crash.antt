@@ -2,7 +2,7 @@
 -- That a checkpoint alone leads to a consistent state, and blocks that
 -- it needs aren't overwritten: the Sprite LFS paper (1992, section 4.1).
 use Rattle.std.specs.Prelude.{◌≡◌, ◌<◌, ◌≤◌, ◌⊎◌, ◌+◌, ◌%◌, ℕ, List, length, Some}
-use Rattle.lfs_model.specs.Checkpoint.{CheckpointValue, Shape, checkpoint_in, shape_of}
+use Rattle.lfs_model.specs.Checkpoint.{CheckpointValue, Shape, checkpoint_in, is_last, layout_version, shape_of}
 use Rattle.lfs_model.specs.Content.{Content, newest}
 use Rattle.lfs_model.specs.Device.{MayWrite, cell_at, put}
 use Rattle.lfs_model.specs.Reach.{view, segment_start}
@@ -27,6 +27,7 @@ pub record IsFreeSector (c : Content) (k : CheckpointValue) (at : ℕ) : Type 0 
 -- the content is ready for the checkpoint `next`, which isn't in its slot yet
 pub record IsReadyFor (c : Content) (k next : CheckpointValue) (bytes : List ℕ) (m : LogMap) : Type 0 where
   pub number : next.number ≡ k.number + 1
+  pub last : is_last (layout_version next) ≡ is_last (layout_version k)
   pub spelt : checkpoint_in bytes ≡ Some next
   pub stands : StandsAt c next m
 

@@ -1,6 +1,6 @@
 -- The calls, row by row: what refuses each, in the order in which it is checked, and then its answer and its change.
 -- The meanings are those of POSIX.1-2017 for the call named beside each row; the order of the refusals is an own choice.
-use Rattle.std.specs.Prelude.{ℕ, ◌+◌, ◌-◌, ◌*◌, ◌≡◌, cond, Bool, true, false, not, ◌&&◌, ◌||◌, List, [], ◌∷◌, ◌++◌, map, length, take, ◌==◌}
+use Rattle.std.specs.Prelude.{ℕ, ◌+◌, ◌*◌, ◌≡◌, cond, Bool, true, false, not, ◌&&◌, ◌||◌, List, [], ◌∷◌, ◌++◌, map, length, take, ◌==◌}
 use Rattle.std.specs.Prelude.{if◌then◌else◌, nat_lt, nat_le, is_some, is_none, unwrap_or, option_map, flat_map, suc, zero}
 use Rattle.std.specs.List.{list_any}
 use Rattle.std.specs.Ordering.{nat_cmp}

@@ -2,7 +2,7 @@
 -- of 4 KiB and more (their reports of a physical sector: SCSI's READ CAPACITY, ATA's IDENTIFY DEVICE). What one makes of them is an own
 -- choice.
 use Rattle.std.specs.Prelude.{◌≡◌, ◌↔◌, ◌<◌, ◌≤◌, ◌+◌, ◌*◌, ◌/◌, ℕ, zero, suc, List, Option, Some, None}
-use Rattle.lfs_model.specs.Checkpoint.{CheckpointValue, layout_version, unit_sectors}
+use Rattle.lfs_model.specs.Checkpoint.{CheckpointValue, Shape, layout_version, shape_of, unit_sectors}
 use Rattle.lfs_model.specs.Content.{Content, newest}
 use Rattle.lfs_model.specs.Crash.{Keeps, IsFreeSector}
 use Rattle.lfs_model.specs.Device.{AreSectors, Cell, CrashWrites, CrashWritesUnit, DeviceState, LieWithin, MayWrite, MayWriteUnit}
@@ -31,13 +31,26 @@ abbrev pub UnitsOfSectors : Type 0
 UnitsOfSectors = (c : Content) (k : CheckpointValue) → newest c ≡ Some k → layout_version k ≤ LAST_SECTOR_VERSION
     → units_of c ≡ (λ (j : ℕ). j)
 
--- a volume with the units of one that a stop of this device may leave
-abbrev pub HasUnitsOf : DeviceState → Content → Type 0
-HasUnitsOf d c = (b : Content) × d.may_leave b × (units_of c ≡ units_of b)
+-- the shape of a checkpoint, where there is one
+abbrev pub shape_by : Option CheckpointValue → Option Shape
+shape_by None = None
+shape_by (Some k) = Some (shape_of k)
+
+-- that of the volume that this is
+abbrev pub shape_in : Content → Option Shape
+shape_in c = shape_by (newest c)
+
+-- Volumes of one shape have the same units.
+abbrev pub UnitsByShape : Type 0
+UnitsByShape = (c b : Content) → shape_in c ≡ shape_in b → units_of c ≡ units_of b
+
+-- a volume with the shape of one that a stop of this device may leave
+abbrev pub HasShapeOf : DeviceState → Content → Type 0
+HasShapeOf d c = (b : Content) × d.may_leave b × (shape_in c ≡ shape_in b)
 
 -- A stop at any moment since `old` leaves such a one.
-abbrev pub KeepsUnits : DeviceState → DeviceState → Type 0
-KeepsUnits old new = LeavesOnly old new (HasUnitsOf old)
+abbrev pub LeavesShape : DeviceState → DeviceState → Type 0
+LeavesShape old new = LeavesOnly old new (HasShapeOf old)
 
 -- A write to a sector that is a unit by itself does what it does where all units are sectors.
 abbrev pub UnitOfOne : Type 0

@@ -11,7 +11,7 @@ use Rattle.lfs_model.specs.Run.{IsPending, LineRun, Point, final}
 use Rattle.lfs_model.specs.Script.{Line, call_of}
 use Rattle.lfs_model.specs.Tree.{State, drop_nameless}
 use Rattle.lfs_model.specs.TreeOf.{Stands}
-use Rattle.lfs_model.specs.UnitLaws.{units_of}
+use Rattle.lfs_model.specs.UnitLaws.{shape_in}
 use Rattle.lfs_model.specs.Volume.{LeavesPrefix, StandsForPrefix}
 
 -- the states of these points as a mount after a stop gives them: without files of no name
@@ -57,8 +57,8 @@ pub record UsesVolume (d d' : DeviceState) (lines : List Line) (answers : List A
   pub orders_after : (final first points).failed_orders ≡ d'.failed_orders
   -- the last number is that of the checkpoint which a stop now leaves, unless a commit failed
   pub number_after : (final first points).halted ≡ false → AllLeft d' (IsNumbered (final first points).number)
-  -- a stop at the end leaves a volume with the units of the one that was mounted
-  pub same_units : AllLeft d' (λ c. units_of c ≡ units_of d.content)
+  -- a stop at the end leaves a volume with the shape of the one that was mounted
+  pub same_shape : AllLeft d' (λ c. shape_in c ≡ shape_in d.content)
   -- a stop at any moment, in the mount too, leaves what one before it might have left, or the state after some of the lines
   pub moments : LeavesOnly d d' (λ c. d.may_leave c ⊎ StandsForSome (first ∷ points) c)
   -- and one at the end the state after lines that hold every line up to the last acknowledged sync

@@ -1,6 +1,6 @@
 //! What a content stands for: the laws of its definitions, each the contract of a function that
 //! does nothing.
-ghost use Rattle.lfs_model.specs.Content.{NewestFits};
+ghost use Rattle.lfs_model.specs.Content.{LastStandsAlone, NewestFits};
 ghost use Rattle.lfs_model.specs.Crash.{Locality, SingleLog, FreeWrites, SlotWrite};
 ghost use Rattle.lfs_model.specs.Encodes.{Encoding};
 ghost use Rattle.lfs_model.specs.Decodes.{Decoding};
@@ -12,6 +12,11 @@ ghost use Rattle.lfs_model.specs.Volume.{SingleState, StateLocality, StateSlotWr
 /// The newest checkpoint, as a function, is the one that the slots' contents determine.
 pub fn newest_fits()
     ensures { NewestFits }
+{}
+
+/// Where the newest checkpoint is of the last version, no slot holds one of an older version.
+pub fn last_stands_alone()
+    ensures { LastStandsAlone }
 {}
 
 /// A content that has the protected sectors of another, and its newest checkpoint, stands for the

@@ -1,6 +1,6 @@
 //! The laws of units, each the contract of a function that does nothing.
 
-ghost use Rattle.lfs_model.specs.UnitLaws.{AlignedFree, FreeUnitWrites, UnitOfOne, UnitsOfSectors, UnitsWithin};
+ghost use Rattle.lfs_model.specs.UnitLaws.{AlignedFree, FreeUnitWrites, UnitOfOne, UnitsByShape, UnitsOfSectors, UnitsWithin};
 
 /// A sector that is a unit by itself is written as where all units are sectors.
 pub fn unit_of_one()
@@ -10,6 +10,11 @@ pub fn unit_of_one()
 /// A volume of version 1 or 2 has sectors as its units.
 pub fn units_of_sectors()
     ensures { UnitsOfSectors }
+{}
+
+/// Volumes of one shape have the same units.
+pub fn units_by_shape()
+    ensures { UnitsByShape }
 {}
 
 /// Units within larger ones do no more harm than those may.

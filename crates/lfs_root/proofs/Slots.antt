@@ -1,12 +1,14 @@
 -- What a write of the next checkpoint makes of the newest.
-use Rattle.std.proofs.Common.{◌≡◌, ◌≢◌, ◌⊎◌, inl, inr, ℕ, zero, suc, ◌+◌, ◌%◌, ◌<◌, ◌≤◌, Option, Some, None, Result, Ok, Err, OnOk, List}
+use Rattle.std.proofs.Common.{◌≡◌, ◌≢◌, ◌⊎◌, inl, inr, Bool, true, false, cond, nat_lt, ℕ, zero, suc, ◌+◌, ◌%◌, ◌^◌, ◌<◌, ◌≤◌, Option, Some}
+use Rattle.std.proofs.Common.{None, Result, Ok, Err, OnOk, List}
 use Rattle.std.proofs.Common.{length, refl, sym, ◌∙◌, ap, subst, arith, get_or-set_same, get_or-set_other}
-use Rattle.std.proofs.lemmas.Bool.{cases_eq}
-use Rattle.lfs_model.specs.Checkpoint.{CheckpointValue, FitsCheckpoint, checkpoint_sector}
+use Rattle.std.proofs.lemmas.Bool.{cases_eq, le-ltb, lt-ltb}
+use Rattle.lfs_model.specs.Checkpoint.{CheckpointValue, FitsCheckpoint, checkpoint_sector, is_last, layout_version, rank}
 use Rattle.lfs_model.specs.Device.{Cell, cell_at, put, MayWriteUnit, AreSectors, DeviceState, IsLawful, Only, AllLeft, LeavesOnly}
 use Rattle.lfs_model.specs.Device.{ComesFrom}
 use Rattle.lfs_model.proofs.Moments.{weaker}
 use Rattle.lfs_model.specs.Slots.{HoldsCheckpoint, SlotHolds, IsNewest, NewestIs, NewestIsOneOf}
+use Rattle.lfs_model.proofs.Newest.{rank_next, rank_number}
 use Rattle.lfs_model.proofs.Slots.{held_same}
 use Rattle.lfs_model.proofs.CheckpointPlaces.{one_checkpoint}
 use Rattle.lfs_root.specs.Apart.{SlotsApart}
@@ -23,9 +25,9 @@ one_held {content} {c} {d} same one two =
 -- a content has one newest checkpoint
 pub one_newest : (content : List Cell) (c d : CheckpointValue) → IsNewest content c → IsNewest content d → c ≡ d
 one_newest content c d one two =
-    let below : c.number ≤ d.number = two.greatest (c.number % 2) c (omega arith) one.held in
-    let above : d.number ≤ c.number = one.greatest (d.number % 2) d (omega arith) two.held in
-    let same : c.number ≡ d.number = omega (arith, below, above) in
+    let below : rank c ≤ rank d = two.greatest (c.number % 2) c (omega arith) one.held in
+    let above : rank d ≤ rank c = one.greatest (d.number % 2) d (omega arith) two.held in
+    let same : c.number ≡ d.number = rank_number c d one.held.fits.number_fits two.held.fits.number_fits (omega (arith, below, above)) in
     one_held (ap (λ (n : ℕ). n % 2) same) one.held two.held
 
 slot_cases : (slot : ℕ) → slot < 2 → (slot ≡ 0) ⊎ (slot ≡ 1)
@@ -50,7 +52,8 @@ units_differ unit apart j k low high ne same = elim (slot_cases j low) [
 pub sectors_apart : {unit : ℕ → ℕ} → AreSectors unit → SlotsApart unit
 sectors_apart sectors same = let e : 0 ≡ 1 = sectors 0 1 same in absurd (omega (arith, e))
 
-module _ {last next : CheckpointValue} (follows : next.number ≡ last.number + 1) (fits : FitsCheckpoint next) {content : List Cell}
+module _ {last next : CheckpointValue} (follows : next.number ≡ last.number + 1)
+    (same_kind : is_last (layout_version next) ≡ is_last (layout_version last)) (fits : FitsCheckpoint next) {content : List Cell}
     (newest : IsNewest content last) where
   abbrev at : ℕ
   at = next.number % 2
@@ -92,9 +95,10 @@ module _ {last next : CheckpointValue} (follows : next.number ≡ last.number + 
           held = written;
           greatest = λ slot d lt held. elim (cases_eq slot at) [
             | inl same ↦ (let is : d ≡ next = one_held same held written in
-                let n : d.number ≡ next.number = ap (λ (c : CheckpointValue). c.number) is in omega (arith, n))
+                let n : rank d ≡ rank next = ap rank is in omega (arith, n))
             | inr ne ↦ (let was = held_same content d (sym (elsewhere slot lt ne)) held in
-                let le : d.number ≤ last.number = newest.greatest slot d lt was in omega (arith, le, follows))
+                let le : rank d ≤ rank last = newest.greatest slot d lt was in
+                let more : rank next ≡ rank last + 1 = rank_next last next follows same_kind in omega (arith, le, more))
           ];
         }
 
@@ -116,6 +120,19 @@ module _ {last next : CheckpointValue} (follows : next.number ≡ last.number + 
       newest_written (λ slot lt ne. get_or-set_other content at slot (Some (checkpoint_sector next)) None ne)
       (let lt : at < 2 = omega arith in get_or-set_same content at (Some (checkpoint_sector next)) None (omega (arith, lt, long)))
 
+-- one of an older version counts before one of the last
+pub last_before : (b c : Bool) (i j : ℕ) → i < 2 ^ 64 → b ≡ true → c ≡ false
+    → true ≡ nat_lt (cond b 0 (2 ^ 64) + i) (cond c 0 (2 ^ 64) + j)
+last_before true true i j fits is other = absurd (cc other)
+last_before true false i j fits is other = sym (lt-ltb (0 + i) (2 ^ 64 + j) (omega (arith, fits)))
+last_before false c i j fits is other = absurd (cc is)
+
+pub older_not_before : (b c : Bool) (i j : ℕ) → j < 2 ^ 64 → b ≡ false → c ≡ true
+    → false ≡ nat_lt (cond b 0 (2 ^ 64) + i) (cond c 0 (2 ^ 64) + j)
+older_not_before true c i j fits is other = absurd (cc is)
+older_not_before false true i j fits is other = sym (le-ltb (2 ^ 64 + i) (0 + j) (omega (arith, fits)))
+older_not_before false false i j fits is other = absurd (cc other)
+
 -- the greater of what the two slots hold
 held_by : (content : List Cell) (slot : ℕ) {x : Option CheckpointValue} {a : CheckpointValue} → x ≡ Some a → SlotHolds content slot x
     → HoldsCheckpoint content slot a
@@ -126,31 +143,32 @@ at_parity : {content : List Cell} {slot : ℕ} {a : CheckpointValue} → HoldsCh
 at_parity {content} {a} held = subst (λ (s : ℕ). HoldsCheckpoint content s a) (sym held.parity) held
 
 both : {content : List Cell} (a b : CheckpointValue) {c : CheckpointValue} → HoldsCheckpoint content 0 a → HoldsCheckpoint content 1 b
-    → HoldsCheckpoint content (c.number % 2) c → a.number ≤ c.number → b.number ≤ c.number
+    → HoldsCheckpoint content (c.number % 2) c → rank a ≤ rank c → rank b ≤ rank c
     → IsNewest content c
 both {content} a b one two held first second = record {
   held = held;
   greatest = λ slot d lt has. elim (slot_cases slot lt) [
     | inl zero_is ↦ (let is : d ≡ a = one_held zero_is has one in
-        let n : d.number ≡ a.number = ap (λ (x : CheckpointValue). x.number) is in omega (arith, n, first))
+        let n : rank d ≡ rank a = ap rank is in omega (arith, n, first))
     | inr one_is ↦ (let is : d ≡ b = one_held one_is has two in
-        let n : d.number ≡ b.number = ap (λ (x : CheckpointValue). x.number) is in omega (arith, n, second))
+        let n : rank d ≡ rank b = ap rank is in omega (arith, n, second))
   ];
 }
 
 pub newest_second : {content : List Cell} (x y : Option CheckpointValue) (a b : CheckpointValue) → x ≡ Some a → y ≡ Some b
-    → a.number < b.number → SlotHolds content 0 x → SlotHolds content 1 y → IsNewest content b
+    → (FitsCheckpoint a → FitsCheckpoint b → rank a < rank b) → SlotHolds content 0 x → SlotHolds content 1 y → IsNewest content b
 newest_second {content} x y a b x_is y_is lt first second =
     let one = held_by content 0 x_is first in
     let two = held_by content 1 y_is second in
-    both a b one two (at_parity two) (omega (arith, lt)) (omega arith)
+    let less = lt one.fits two.fits in
+    both a b one two (at_parity two) (omega (arith, less)) (omega arith)
 
 pub newest_first : {content : List Cell} (x y : Option CheckpointValue) (a b : CheckpointValue) → x ≡ Some a → y ≡ Some b
-    → b.number ≤ a.number → SlotHolds content 0 x → SlotHolds content 1 y → IsNewest content a
+    → (FitsCheckpoint a → FitsCheckpoint b → rank b ≤ rank a) → SlotHolds content 0 x → SlotHolds content 1 y → IsNewest content a
 newest_first {content} x y a b x_is y_is le first second =
     let one = held_by content 0 x_is first in
     let two = held_by content 1 y_is second in
-    both a b one two (at_parity one) (omega arith) le
+    both a b one two (at_parity one) (omega arith) (le one.fits two.fits)
 
 pub newest_alone : {content : List Cell} (x y : Option CheckpointValue) (a : CheckpointValue) → x ≡ Some a → y ≡ None
     → SlotHolds content 0 x → SlotHolds content 1 y → IsNewest content a
@@ -161,7 +179,7 @@ newest_alone {content} x y a x_is y_is first second =
       held = at_parity one;
       greatest = λ slot d lt has. elim (slot_cases slot lt) [
         | inl zero_is ↦ (let is : d ≡ a = one_held zero_is has one in
-            let n : d.number ≡ a.number = ap (λ (c : CheckpointValue). c.number) is in omega (arith, n))
+            let n : rank d ≡ rank a = ap rank is in omega (arith, n))
         | inr one_is ↦ absurd (none d (subst (λ (s : ℕ). HoldsCheckpoint content s d) one_is has))
       ];
     }
@@ -177,7 +195,7 @@ newest_default content (Some b) none second = record {
   greatest = λ slot d lt has. elim (slot_cases slot lt) [
     | inl zero_is ↦ absurd (none d (subst (λ (s : ℕ). HoldsCheckpoint content s d) zero_is has))
     | inr one_is ↦ (let is : d ≡ b = one_held one_is has second in
-        let n : d.number ≡ b.number = ap (λ (c : CheckpointValue). c.number) is in omega (arith, n))
+        let n : rank d ≡ rank b = ap rank is in omega (arith, n))
   ];
 }
 
@@ -212,10 +230,11 @@ on_ok (Err e) P Q R gives p q = tt
 
 module _ (a b : DeviceState) (last : CheckpointValue) {next : CheckpointValue} (slot : ℕ) (bytes : List ℕ) (place : slot ≡ next.number % 2)
     (spelt : bytes ≡ checkpoint_sector next) (fits : FitsCheckpoint next) (lawful : IsLawful a) (two : 2 ≤ a.size)
-    (all : AllLeft a (λ c. IsNewest c last)) (follows : next.number ≡ last.number + 1) where
+    (all : AllLeft a (λ c. IsNewest c last)) (follows : next.number ≡ last.number + 1)
+    (same_kind : is_last (layout_version next) ≡ is_last (layout_version last)) where
   pub one_of : SlotsApart a.unit → (x : List Cell) → ComesFrom a (MayWriteUnit a.unit slot bytes) x → NewestIsOneOf last next x
   one_of apart x from =
-      newest_torn follows fits (all from.0 from.1) a.unit apart
+      newest_torn follows same_kind fits (all from.0 from.1) a.unit apart
       (subst (λ (s : List ℕ). MayWriteUnit a.unit (next.number % 2) s from.0 x) spelt
       (subst (λ (k : ℕ). MayWriteUnit a.unit k bytes from.0 x) place from.2))
 
@@ -229,4 +248,4 @@ module _ (a b : DeviceState) (last : CheckpointValue) {next : CheckpointValue} (
       let is : x ≡ put a.content (next.number % 2) (checkpoint_sector next) = only x left ∙ content
       ∙ ap (λ (s : List ℕ). put a.content slot s) spelt ∙ ap (λ (k : ℕ). put a.content k (checkpoint_sector next)) place in
       subst (λ (c : List Cell). IsNewest c next) (sym is)
-      (newest_put follows fits (all a.content present) (omega (arith, two, lawful.size)))
+      (newest_put follows same_kind fits (all a.content present) (omega (arith, two, lawful.size)))

@@ -1,15 +1,15 @@
 //! The two checkpoint slots: the newest checkpoint of a device, and its replacement by a newer one.
 #![tactic(auto)]
 
-ghost use Rattle.std.specs.Prelude.{◌≡◌, ◌+◌, ◌%◌, ◌<◌, ◌≤◌, ℕ, List, length, IsErr, IfOk, IfSome, OnOk, OnErr, IsErrOf};
-ghost use Rattle.lfs_model.specs.Checkpoint.{CheckpointValue, FitsCheckpoint, checkpoint_sector};
+ghost use Rattle.std.specs.Prelude.{◌≡◌, ◌+◌, ◌%◌, ◌<◌, ◌≤◌, nat_lt, ℕ, List, length, IsErr, IfOk, IfSome, OnOk, OnErr, IsErrOf};
+ghost use Rattle.lfs_model.specs.Checkpoint.{CheckpointValue, FitsCheckpoint, checkpoint_sector, is_last, layout_version, rank};
 ghost use Rattle.lfs_model.specs.Device.{Cell, put, MayWriteUnit, Only, AllLeft, Carries, Elapses, IsUntouched, LeavesOnly, ComesFrom};
 ghost use Rattle.lfs_model.specs.Slots.{SlotHolds, IsNewest, HasNoCheckpoint, NewestIs, NewestIsOneOf};
 ghost use Rattle.lfs_root.specs.Apart.{SlotsApart};
 
 use lfs_device::{DeviceFault, ReadFault, SectorDevice};
 use lfs_layout::Checkpoint;
-use lfs_model::limits::CHECKPOINT_SLOTS;
+use lfs_model::limits::{CHECKPOINT_SLOTS, LAST_VERSION};
 
 /// Why no checkpoint is given.
 #[derive(Clone, Copy, Debug, PartialEq, Eq)]
@@ -49,7 +49,27 @@ fn read_slot<D: SectorDevice>(device: &mut D, slot: u32) -> Result<Option<Checkp
     Ok(Some(checkpoint))
 }
 
-/// The checkpoint with the greater number.
+/// Whether it is of the last version of the layout.
+fn is_of_last(checkpoint: &Checkpoint) -> bool
+    ensures { result ≡ is_last (layout_version checkpoint.now) }
+{
+    checkpoint.version == LAST_VERSION
+}
+
+/// Whether the second counts before the first: it has the greater number, or the first alone is of
+/// the last version of the layout.
+fn is_before(first: &Checkpoint, second: &Checkpoint) -> bool
+    ensures { FitsCheckpoint first.now → FitsCheckpoint second.now
+        → result ≡ nat_lt (rank first.now) (rank second.now) }
+{
+    match (is_of_last(first), is_of_last(second)) {
+        (true, false) => true,
+        (false, true) => false,
+        _ => first.number < second.number,
+    }
+}
+
+/// The checkpoint that counts before the other.
 fn greater(first: Option<Checkpoint>, second: Option<Checkpoint>) -> Option<Checkpoint>
     ensures fits { IfSome first FitsCheckpoint → IfSome second FitsCheckpoint
         → IfSome result FitsCheckpoint }
@@ -58,7 +78,7 @@ fn greater(first: Option<Checkpoint>, second: Option<Checkpoint>) -> Option<Chec
 {
     match (first, second) {
         (Some(first), Some(second)) => {
-            if first.number < second.number {
+            if is_before(&first, &second) {
                 Some(second)
             } else {
                 Some(first)
@@ -71,7 +91,8 @@ fn greater(first: Option<Checkpoint>, second: Option<Checkpoint>) -> Option<Chec
 
 /// Syncs, and then gives the newest checkpoint of the two slots, sectors 0 and 1. A slot that is
 /// unreadable, that holds no checkpoint, or one whose number has the other slot's parity, counts as
-/// empty. After `Ok` and `Missing` all that the device holds is durable, and at no moment does a
+/// empty. Where one slot holds a checkpoint of the last version of the layout, and the other one of
+/// an older version, the older version counts. After `Ok` and `Missing` all that the device holds is durable, and at no moment does a
 /// stop leave what it couldn't leave at the start.
 ///
 /// # Errors
@@ -149,7 +170,8 @@ fn write_durably<D: SectorDevice>(
 
 /// Writes the checkpoint to its slot, the sector that is its number modulo 2, and syncs. After `Ok`
 /// nothing else has changed. A stop or a failure may also spoil the other sectors of the slot's unit.
-/// Where the newest checkpoint is the one before it in number, `Ok` makes this one the newest. If the
+/// Where the newest checkpoint is the one before it in number, and both are of the last version of
+/// the layout or neither is, `Ok` makes this one the newest. If the
 /// slots are of different units too, a stop at any moment leaves that one or this as the newest.
 ///
 /// # Errors
@@ -164,6 +186,7 @@ pub fn replace<D: SectorDevice>(device: &mut D, checkpoint: &Checkpoint) -> Resu
     ensures newest { SlotsApart (D.state device.old).unit → (last : CheckpointValue)
         → AllLeft (D.state device.old) (λ c. IsNewest c last)
         → checkpoint.now.number ≡ last.number + 1
+        → is_last (layout_version checkpoint.now) ≡ is_last (layout_version last)
         → LeavesOnly (D.state device.old) (D.state device.new) (NewestIsOneOf last checkpoint.now) }
     ensures left { AllLeft (D.state device.new)
         (ComesFrom (D.state device.old) (MayWriteUnit (D.state device.old).unit
@@ -171,6 +194,7 @@ pub fn replace<D: SectorDevice>(device: &mut D, checkpoint: &Checkpoint) -> Resu
     ensures left_newest { SlotsApart (D.state device.old).unit → (last : CheckpointValue)
         → AllLeft (D.state device.old) (λ c. IsNewest c last)
         → checkpoint.now.number ≡ last.number + 1
+        → is_last (layout_version checkpoint.now) ≡ is_last (layout_version last)
         → AllLeft (D.state device.new) (NewestIsOneOf last checkpoint.now) }
     ensures content { OnOk result ((D.state device.new).keeps_model
         → (D.state device.new).content ≡ put (D.state device.old).content
@@ -180,6 +204,7 @@ pub fn replace<D: SectorDevice>(device: &mut D, checkpoint: &Checkpoint) -> Resu
     ensures acknowledged { OnOk result ((last : CheckpointValue) → (D.state device.new).keeps_model
         → AllLeft (D.state device.old) (λ c. IsNewest c last)
         → checkpoint.now.number ≡ last.number + 1
+        → is_last (layout_version checkpoint.now) ≡ is_last (layout_version last)
         → AllLeft (D.state device.new) (λ c. IsNewest c checkpoint.now)) }
     ensures failed { OnErr result ((D.state device.old).failures < (D.state device.new).failures) }
     ensures failed_order { OnErr result

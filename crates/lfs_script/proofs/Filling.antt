@@ -212,7 +212,7 @@ module _ {D : Type 0} {state : D → DeviceState} {old new : Mounted D} {h off :
             quiet = answers.quiet;
           };
           leaves = does.leaves;
-          units = does.units;
+          shape = does.shape;
           saves = does.saves;
         });
   }
@@ -257,7 +257,7 @@ module _ {D : Type 0} {state : D → DeviceState} {old new : Mounted D} {h off :
             quiet = λ e. absurd (cc);
           };
           leaves = does.leaves;
-          units = does.units;
+          shape = does.shape;
           saves = λ e. absurd (cc);
         });
   }
@@ -289,7 +289,7 @@ module _ {D : Type 0} {state : D → DeviceState} {old new : Mounted D} {h off :
             quiet = λ e. absurd (cc);
           };
           leaves = does.leaves;
-          units = does.units;
+          shape = does.shape;
           saves = does.saves;
         });
   }

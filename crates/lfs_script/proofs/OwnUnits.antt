@@ -42,7 +42,7 @@ module _ (unit : ℕ → ℕ) (d d' : DeviceState) (lie : LieWithin d.unit unit)
     orders_before = uses.orders_before;
     orders_after = uses.orders_after;
     number_after = λ on c left. uses.number_after on c (lie', left);
-    same_units = λ c left. uses.same_units c (lie', left);
+    same_shape = λ c left. uses.same_shape c (lie', left);
     moments = leaves_own _ _ (λ c is. ⊎_elim (λ was. inl was.1) (λ some. inr some) is) uses.moments;
     pending = λ c left. uses.pending c (lie', left);
     continues = λ points calls given was. (

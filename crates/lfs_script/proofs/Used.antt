@@ -11,6 +11,7 @@ use Rattle.lfs_model.specs.Since.{AreKeptSince}
 use Rattle.lfs_model.specs.Use.{UsesVolume}
 use Rattle.lfs_model.proofs.Moments.{carries_then, goes_on, same_orders}
 use Rattle.lfs_model.proofs.UnitStates.{units_carry, units_elapse, units_only}
+use Rattle.lfs_model.proofs.UnitsKept.{units_by_shape}
 use Rattle.lfs_device.specs.Memory.{memory_lawful}
 use Rattle.lfs_device.specs.MemoryDevice.{IsStopped, device_state}
 use Rattle.lfs_device.specs.Rows.{states_of}
@@ -164,7 +165,7 @@ module _ {mid new : DeviceState} (counts : (t : ℕ) (c : Content) → t ≤ mid
     orders_before = uses.orders_before;
     orders_after = uses.orders_after ∙ sym (same_orders carries same);
     number_after = λ on c left. uses.number_after on c (was_left c left);
-    same_units = λ c left. uses.same_units c (was_left c left);
+    same_shape = λ c left. uses.same_shape c (was_left c left);
     moments = stop_leaves d _ uses.moments;
     pending = λ c left. uses.pending c (was_left c left);
     continues = λ before calls given was. (
@@ -357,7 +358,8 @@ module _ (first : MemDevice) (d d' : MemDevice) (same : units_of (device_state d
       → (in_volume device_state first d').keeps_model
       → units_of (device_state d').content ≡ units_of (device_state first).content
   same_units_later uses keeps =
-      uses.same_units (device_state d').content (keeps.0, (lawful_in_memory d').present keeps.1) ∙ same
+      units_by_shape (device_state d').content (device_state d).content
+      (uses.same_shape (device_state d').content (keeps.0, (lawful_in_memory d').present keeps.1)) ∙ same
 
 -- and where it is known what a stop leaves of it, this is known of it as one of such units
 pub alone_in_units : (unit : ℕ → ℕ) (d : MemDevice) → Only (device_state d).content (device_state d)

@@ -10,8 +10,8 @@ use Rattle.lfs_steps.proofs.volume.Stops.{leaves_states}
 use Rattle.lfs_store.specs.memory.Present.{Looks}
 use Rattle.lfs_fs.proofs.calls.AnyDevice.{IsOrdinary, halted_behaves, not_halted, kept_behaves}
 use Rattle.lfs_model.specs.Run.{Answers}
-use Rattle.lfs_fs.proofs.Prelude.{KeepsUnits, shape_of}
-use Rattle.lfs_model.proofs.UnitsKept.{units_settled, units_still}
+use Rattle.lfs_fs.proofs.Prelude.{LeavesShape, shape_of}
+use Rattle.lfs_model.proofs.UnitsKept.{shape_settled, shape_still}
 
 -- a refusal is never acknowledged
 pub not_acknowledged : (call : Call) (r : Refusal) → acknowledges call (Refuse r) ≡ true → ⊥
@@ -69,8 +69,8 @@ module _ {D : Type 0} (state : D → DeviceState) where
       was : AllLeft d (λ c. (s : State) × Stands c s × (Left d s ⊎ Contains ss s))
       was c left = let is = some c left in (is.0, is.1, inl (record { content = c; may_leave = left; stands = is.1 }))
 
-  units_read : {d d' : DeviceState} → IsLawful d → Looks d d' → KeepsUnits d d'
-  units_read lawful looks = units_still lawful looks.carries looks.time looks.untouched.crash
+  shape_read : {d d' : DeviceState} → IsLawful d → Looks d d' → LeavesShape d d'
+  shape_read lawful looks = shape_still lawful looks.carries looks.time looks.untouched.crash
 
   -- what a stop leaves while nothing is written is what is saved
   pub quiet : {h : LogState D} (h' : LogState D) → IsLawful (state h.device) → Looks (state h.device) (state h'.device)
@@ -134,7 +134,7 @@ module _ {D : Type 0} (state : D → DeviceState) where
         answers = answers_on is still.reads.looks.carries (let same = still.reads.number in omega (arith, same)) behaves
             (steps p keeps is r.checkpoint r.saved r.present r.is) was (still.reads.halted ∙ was) fine;
         leaves = left_still (drop_nameless p.state ∷ drop_nameless p.state ∷ []) lawful is.leaves still.reads.looks;
-        units = units_read lawful still.reads.looks;
+        shape = shape_read lawful still.reads.looks;
         saves = λ e. absurd (none e);
       });
     }
@@ -162,7 +162,7 @@ module _ {D : Type 0} (state : D → DeviceState) where
       answers = answers_by is carries_none (omega arith) (halted_behaves state v call was)
           (inr (Halted, refl, inl (is.halted ∙ was), refl)) (λ e. refl) (λ e. was) (λ e. refl);
       leaves = left_still (drop_nameless p.state ∷ drop_nameless p.state ∷ []) lawful is.leaves (reads_none state v.log).looks;
-      units = units_read lawful (reads_none state v.log).looks;
+      shape = shape_read lawful (reads_none state v.log).looks;
       saves = λ e. absurd (not_acknowledged call Halted e);
     };
   }
@@ -187,8 +187,8 @@ module _ {D : Type 0} (state : D → DeviceState) where
       states : (next : State) → LeavesStates (state old.log.device) (state new.log.device) (drop_nameless p.state ∷ drop_nameless next ∷ [])
       states next = leaves_by is (drop_nameless next ∷ []) moment
 
-      same_units : KeepsUnits (state old.log.device) (state new.log.device)
-      same_units = units_settled lawful k m0 (dropped m) (carries.kept_before keeps) (settled state is.holds) moment
+      same_shape : LeavesShape (state old.log.device) (state new.log.device)
+      same_shape = shape_settled lawful k m0 (dropped m) (carries.kept_before keeps) (settled state is.holds) moment
 
       -- what is left at the end is left meanwhile
       some_left : (next : State) → LeavesSome state (state new.log.device)
@@ -204,7 +204,7 @@ module _ {D : Type 0} (state : D → DeviceState) where
         at = at_state new (λ e. runs) (some_left next);
         answers = answers_on at carries later behaves steps was running fine;
         leaves = states next;
-        units = same_units;
+        shape = same_shape;
         saves = saves;
       }
 
@@ -217,6 +217,6 @@ module _ {D : Type 0} (state : D → DeviceState) where
         answers = answers_by at carries later behaves
             (inr (Halted, refl, inr (let o = at.failed_orders in omega (arith, o, rose)), refl)) (λ e. refl) (λ e. halted) (λ e. refl);
         leaves = states p.state;
-        units = same_units;
+        shape = same_shape;
         saves = λ e. absurd (not_acknowledged call Halted e);
       }

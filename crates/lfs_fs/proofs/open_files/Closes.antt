@@ -77,7 +77,7 @@ module _ {D : Type 0} {state : D → DeviceState} {old new : Mounted D} (was : o
       first_halted = sync.answers.first_halted;
     };
     leaves = sync.leaves;
-    units = sync.units;
+    shape = sync.shape;
     saves = sync.saves;
   }
 

@@ -5,8 +5,8 @@ use Rattle.lfs_fs.proofs.Prelude.{drop_nameless, LeavesOne, LeavesStates, Left, 
 use Rattle.lfs_fs.proofs.Prelude.{Mounted, Serves, segments_of, Contains}
 use Rattle.lfs_model.specs.Refusal.{NoMemory}
 use Rattle.lfs_model.specs.Run.{Answers}
-use Rattle.lfs_model.specs.UnitLaws.{KeepsUnits}
-use Rattle.lfs_model.proofs.UnitsKept.{units_none}
+use Rattle.lfs_model.specs.UnitLaws.{LeavesShape}
+use Rattle.lfs_model.proofs.UnitsKept.{shape_none}
 use Rattle.lfs_fs.proofs.calls.Drafts.{not_acknowledged}
 
 module _ {D : Type 0} (state : D → DeviceState) where
@@ -16,7 +16,7 @@ module _ {D : Type 0} (state : D → DeviceState) where
     pub at : IsAt state new next
     pub does : Answers N call p answer next
     pub leaves : LeavesStates (state old.log.device) (state new.log.device) (drop_nameless p.state ∷ drop_nameless next.state ∷ [])
-    pub units : KeepsUnits (state old.log.device) (state new.log.device)
+    pub shape : LeavesShape (state old.log.device) (state new.log.device)
     pub saves : acknowledges call answer ≡ true → LeavesOne (state new.log.device) (drop_nameless next.state)
 
   -- a line of one
@@ -25,7 +25,7 @@ module _ {D : Type 0} (state : D → DeviceState) where
     pub at : IsAt state new next
     pub does : LineAnswers N line p answer next
     pub leaves : LeavesStates (state old.log.device) (state new.log.device) (drop_nameless p.state ∷ drop_nameless next.state ∷ [])
-    pub units : KeepsUnits (state old.log.device) (state new.log.device)
+    pub shape : LeavesShape (state old.log.device) (state new.log.device)
     pub saves : acknowledges (call_of line) answer ≡ true → LeavesOne (state new.log.device) (drop_nameless next.state)
 
   -- what may be left is left, where nothing is done
@@ -43,7 +43,7 @@ module _ {D : Type 0} (state : D → DeviceState) where
       at = at;
       does = does;
       leaves = left_none (drop_nameless p.state ∷ drop_nameless p.state ∷ []) (lawful v.log.device) at.leaves;
-      units = units_none (lawful v.log.device);
+      shape = shape_none (lawful v.log.device);
       saves = λ e. absurd (none e);
     }
 
@@ -67,7 +67,7 @@ module _ {D : Type 0} (state : D → DeviceState) where
         quiet = λ e. refl;
       };
       leaves = left_none (drop_nameless p.state ∷ drop_nameless p.state ∷ []) (lawful v.log.device) at.leaves;
-      units = units_none (lawful v.log.device);
+      shape = shape_none (lawful v.log.device);
       saves = λ e. absurd (not_acknowledged call Halted e);
     }
 
@@ -85,7 +85,7 @@ module _ {D : Type 0} (state : D → DeviceState) where
                 at = served.at;
                 does = rw (same was) at served.answers;
                 leaves = served.leaves;
-                units = served.units;
+                shape = served.shape;
                 saves = served.saves;
               })
         ] refl
@@ -97,7 +97,7 @@ module _ {D : Type 0} (state : D → DeviceState) where
           → StepsLine N old new line answer p
       line_steps N same keeps at (inl serves) =
           let step = call_steps old new (call_of line) answer N same keeps at serves in
-          record { next = step.next; at = step.at; does = inl step.does; leaves = step.leaves; units = step.units; saves = step.saves }
+          record { next = step.next; at = step.at; does = inl step.does; leaves = step.leaves; shape = step.shape; saves = step.saves }
       line_steps N {p} same keeps at (inr none) =
           rw none.2 (stays N old line {answer = answer} p at (inr (none.0, none.1, refl))
           (λ e. not_acknowledged (call_of line) NoMemory (rw none.1 at e)))
