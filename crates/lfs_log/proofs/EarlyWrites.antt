@@ -51,7 +51,7 @@ module _ {D : Type 0} {state : D → DeviceState} where
           segments = is.segments ∙ sym goes.segments;
           number = is.number;
           version = is.version;
-          unit = is.unit;
+          fits = is.fits;
           running = running;
           nothing_new = is.nothing_new;
           rest = λ all. rest_early (is.rest all);

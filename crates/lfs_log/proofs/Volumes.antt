@@ -156,7 +156,7 @@ module _ {D : Type 0} {state : D → DeviceState} where
         segments = sym o.0.segments;
         number = o.1;
         version = o.2;
-        unit = o.3;
+        fits = o.3;
         running = running;
         nothing_new = λ all. all_linked m (are_sized (state d).content lawful.now) is.stands;
         rest = λ all. record { nothing = nothing; untaken = untaken keeps; many = many keeps };
