@@ -233,7 +233,8 @@ class Walk:
         found = [it for it in (checkpoint_of(slot, self.sector(slot)) for slot in (0, 1)) if it]
         if not found:
             raise Refused("NoCheckpoint")
-        return max(found, key=lambda it: it.number)
+        # A checkpoint of an older version counts before one of the last.
+        return max(found, key=lambda it: (it.version < SUMMED_VERSION, it.number))
 
     def ask(self, holds):
         if not holds:

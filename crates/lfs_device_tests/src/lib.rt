@@ -1,5 +1,5 @@
-//! Tests of devices, places on them, orders that wait, kept sectors, sectors, checkpoint slots, the
-//! walk, segments, inodes and what a log holds in memory.
+//! Tests of devices, where volumes are found on them, orders that wait, kept sectors, sectors,
+//! checkpoint slots, the walk, segments, inodes and what a log holds in memory.
 #![tactic(auto)]
 
 #[cfg(test)]
@@ -17,8 +17,6 @@ mod layout;
 #[cfg(test)]
 mod memory;
 #[cfg(test)]
-mod places;
-#[cfg(test)]
 mod queue;
 #[cfg(test)]
 mod root;
@@ -28,3 +26,5 @@ mod segments;
 mod verify;
 #[cfg(test)]
 mod victims;
+#[cfg(test)]
+mod volume;

@@ -1,15 +1,15 @@
--- A device as a volume on it sees it is lawful, and one of sectors where its units are sectors.
+-- A device as a volume on it sees it is lawful.
 use Rattle.std.specs.Prelude.{◌≡◌, ℕ, zero, suc, ◌+◌, ◌-◌, ◌^◌, ◌<◌, [], ◌∷◌, length, None, refl}
 use Rattle.std.specs.List.{AllByRecursion}
 use Rattle.std.proofs.Common.{sym, ◌∙◌, ap, subst, arith, length-drop}
 use Rattle.std.proofs.lemmas.Bool.Decides.{nat_tests}
 use Rattle.std.proofs.lemmas.List.{get_or-drop}
 use Rattle.lfs_model.specs.Content.{Content}
-use Rattle.lfs_model.specs.Device.{AreSectors, DeviceState, IsLawful, IsSector, cell_at}
+use Rattle.lfs_model.specs.Device.{DeviceState, IsLawful, IsSector, cell_at}
 use Rattle.lfs_model.proofs.Cells.{sector_at}
 use Rattle.lfs_places.specs.declared.Places.{Places}
 use Rattle.lfs_places.specs.declared.Places.TheVariants.{Old, New}
-use Rattle.lfs_places.specs.Placed.{Held, IsOfOne, by_places, placed}
+use Rattle.lfs_places.specs.Placed.{IsOfOne, placed}
 use Rattle.lfs_places.specs.PlaceLaws.{CellsStand, PlacesLeadBack, SizesStand}
 use Rattle.lfs_places.specs.Places.{place_of, slots_and_rest, volume_content, volume_sector, volume_size}
 
@@ -68,7 +68,7 @@ module _ (places : Places) where
   size_is : (c : Content) (n : ℕ) → length c ≡ n → length (volume_content places c) ≡ volume_size places n
   size_is c n is = sizes_stand places c ∙ ap (volume_size places) is
 
-  cells_are : (c : Content) → AllByRecursion IsSector c → AllByRecursion IsSector (volume_content places c)
+  pub cells_are : (c : Content) → AllByRecursion IsSector c → AllByRecursion IsSector (volume_content places c)
   cells_are c all = all_cells (volume_content places c)
       (λ k. subst IsSector (sym (cells_stand places c k)) (sector_at c (place_of places k) all))
 
@@ -100,12 +100,3 @@ module _ (places : Places) where
     );
     earlier = λ t u c le. of_more (d.left_since u) (d.left_since t) (λ b left. is.earlier t u b le left) c;
   }
-
-pub lawful_by_places : {D : Type 0} (state : D → DeviceState) → ((d : D) → IsLawful (state d)) → (held : Held D)
-    → IsLawful (by_places state held)
-lawful_by_places state lawful held = placed_lawful held.places (state held.device) (lawful held.device)
-
-pub units_by_places : {D : Type 0} (state : D → DeviceState) → ((d : D) → AreSectors (state d).unit) → (held : Held D)
-    → AreSectors (by_places state held).unit
-units_by_places state units held j k same =
-    one_place held.places j k (units held.device (place_of held.places j) (place_of held.places k) same)

@@ -31,14 +31,3 @@ placed places d = record d {
   start = volume_content places d.start;
   told = volume_orders places d.told;
 }
-
--- a device and the places that a volume on it goes by
-pub record Held (D : Type 0) : Type 0 where
-  pub places : Places
-  pub device : D
-
-abbrev pub put_at : {D : Type 0} → Places → D → Held D
-put_at places device = record { places = places; device = device }
-
-abbrev pub by_places : {D : Type 0} → (D → DeviceState) → Held D → DeviceState
-by_places state held = placed held.places (state held.device)

@@ -1,12 +1,9 @@
 //! The two places of a volume on a device.
 #![tactic(auto)]
 
-mod device;
 pub mod laws;
 pub mod limits;
 mod place;
-
-pub use device::PlacedDevice;
 
 /// Where the sectors of a volume stand on a device.
 #[derive(Clone, Copy, Debug, PartialEq, Eq)]

@@ -1,0 +1,5 @@
+pub mod Finding
+pub mod FindingLaws
+pub mod Found
+pub mod Lawful
+pub mod Standing
