@@ -13,6 +13,8 @@ enum Holds {
     Zeros,
     Nothing,
     Number(u8),
+    /// A checkpoint of version 3, where the others are of version 1.
+    Summed(u8),
     Damaged(u8),
 }
 
@@ -61,6 +63,7 @@ fn put_slot(device: &mut MemDevice, slot: u32, holds: Holds) -> bool {
         Holds::Zeros => put(device, slot, &[0; 512]),
         Holds::Nothing => lose(device, slot),
         Holds::Number(number) => put(device, slot, &sector(number)),
+        Holds::Summed(number) => put(device, slot, &summed(u64::from(number).max(1), 4)),
         Holds::Damaged(number) => {
             let mut bytes = sector(number);
             bytes[511] = 1;
@@ -140,6 +143,10 @@ fn the_newest_of_the_two_slots(rt: HostRuntime) {
         (Holds::Number(3), Holds::Number(1), Ok(1)),
         (Holds::Number(0), Holds::Zeros, missing),
         (Holds::Number(0), Holds::Number(1), Ok(1)),
+        (Holds::Summed(4), Holds::Summed(3), Ok(4)),
+        (Holds::Nothing, Holds::Summed(3), Ok(3)),
+        (Holds::Number(2), Holds::Summed(3), Ok(2)),
+        (Holds::Summed(4), Holds::Number(1), Ok(1)),
     ];
     for (first, second, found) in rows {
         let steps = [
