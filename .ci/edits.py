@@ -209,6 +209,8 @@ class Bench:
 
     def try_one(self, crate, edit, part, kept):
         path = f"{crate.folder}/{part}/{edit}.edit"
+        # An edit that can't be applied isn't checked.
+        LAST.texts, LAST.said = {}, ""
         came_to, text = self.rt.must_fail(crate, path, ONE_JOB, kept)
         goals, meant = goals_of(LAST.said, LAST.texts, crate.folder), meant_for(path)
         # Some kits have a word for a refusal, others say whether there was one.
