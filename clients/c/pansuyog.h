@@ -74,6 +74,14 @@ int32_t pansuyog_give(pansuyog *volume, uint32_t first, const void *bytes, size_
  * Memory for `room` orders is taken, besides those that wait. INVAL, TOO_SMALL, ALREADY_MOUNTED; NO_MEMORY, also where memory for an
  * order is refused. Where sectors were given and no memory is taken for `room` orders, they are gone. */
 int32_t pansuyog_format(pansuyog *volume, uint32_t segments, uint32_t version, uint32_t room);
+/* The same of any shape: pansuyog_shape_t has what each number may be, and pansuyog_shape_sectors how many sectors it takes. It answers as
+ * pansuyog_format does, INVAL of a shape before TOO_SMALL before NO_MEMORY for an order. In version 3 a commit ends on a whole unit: where
+ * the medium writes units of several sectors, make a volume whose unit is a multiple of theirs. The orders are of single sectors, whatever
+ * the unit is. docs/LIBRARY.md has what is proved of either. */
+int32_t pansuyog_format_with(pansuyog *volume, uint32_t segments, uint32_t version, uint32_t segment_sectors, uint32_t unit, uint32_t room);
+/* How many sectors a volume of a shape takes: 2 + 64 * segments in versions 1 and 2, 256 + 64 * segments in version 3. 0 where there is no
+ * volume of it. */
+uint32_t pansuyog_shape_sectors(uint32_t segments, uint32_t version, uint32_t segment_sectors, uint32_t unit);
 /* Mounts the volume that the sectors hold, with no open handles. It writes nothing. Memory is taken as by pansuyog_format. INVAL where no
  * sectors were given; NO_MEMORY, TOO_SMALL, NO_CHECKPOINT, DAMAGED, ALREADY_MOUNTED. */
 int32_t pansuyog_mount(pansuyog *volume, uint32_t room);
@@ -136,7 +144,9 @@ int32_t pansuyog_is_cleaning_due(pansuyog *volume);
  * moments waits seldom for the cleaner in another call. */
 int32_t pansuyog_clean_once(pansuyog *volume);
 int32_t pansuyog_space(pansuyog *volume, pansuyog_space_t *space);
-/* 1 or 2. */
+/* What the volume was made with, and the version that it has now. HALTED. */
+int32_t pansuyog_shape(pansuyog *volume, pansuyog_shape_t *shape);
+/* 1 to 3. */
 int32_t pansuyog_version(pansuyog *volume);
 int32_t pansuyog_upgrade(pansuyog *volume);
 int32_t pansuyog_widen(pansuyog *volume, const char *path, size_t length);

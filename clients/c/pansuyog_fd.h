@@ -8,7 +8,7 @@
 
 enum {
     PANSUYOG_RUN = 128,              /* sectors of one read or write */
-    PANSUYOG_MOST_SECTORS = 65538    /* of a volume of 1,024 segments; what a larger device has behind them isn't read */
+    PANSUYOG_MOST_SECTORS = 65792    /* of 1,024 segments in version 3; what a larger device has behind them isn't read */
 };
 
 /* Reading and writing */
@@ -100,6 +100,14 @@ static inline int32_t pansuyog_format_fd(pansuyog *volume, int fd, uint32_t segm
     return code == PANSUYOG_OK ? pansuyog_carry(volume, fd, failed) : code;
 }
 
+/* The same of any shape: see pansuyog_format_with. */
+static inline int32_t pansuyog_format_with_fd(pansuyog *volume, int fd, uint32_t segments, uint32_t version, uint32_t segment_sectors,
+                                              uint32_t unit, uint32_t room, pansuyog_failed_t *failed) {
+    int32_t code = pansuyog_read_fd(volume, fd, failed);
+    if (code == PANSUYOG_OK) code = pansuyog_format_with(volume, segments, version, segment_sectors, unit, room);
+    return code == PANSUYOG_OK ? pansuyog_carry(volume, fd, failed) : code;
+}
+
 /* Saves: after 0 every call before this one survives a loss of power. */
 static inline int32_t pansuyog_save_fd(pansuyog *volume, int fd, pansuyog_failed_t *failed) {
     pansuyog_clear(failed);
@@ -110,24 +118,32 @@ static inline int32_t pansuyog_save_fd(pansuyog *volume, int fd, pansuyog_failed
 /* Making */
 
 /* Makes a volume in an open file. */
-static inline int32_t pansuyog_fill_made(int fd, uint32_t segments, uint32_t version, pansuyog_failed_t *failed) {
+static inline int32_t pansuyog_fill_made(int fd, uint32_t segments, uint32_t version, uint32_t segment_sectors, uint32_t unit,
+                                         pansuyog_failed_t *failed) {
     pansuyog volume;
     int32_t code = pansuyog_new(&volume);
     if (code != PANSUYOG_OK) return code;
-    code = pansuyog_format_fd(&volume, fd, segments, version, 0, failed);
+    code = pansuyog_format_with_fd(&volume, fd, segments, version, segment_sectors, unit, 0, failed);
     pansuyog_free(volume);
     return code;
 }
 
-/* Makes an empty volume of so many segments, in version 1 or 2 of the layout, in a file that isn't there yet. EXIST where something has
- * its name, be it a link that leads nowhere: that stays as it is. INVAL, NO_MEMORY, DEVICE.
+/* Makes an empty volume of a shape in a file that isn't there yet. EXIST where something has its name, be it a link that leads nowhere:
+ * that stays as it is. INVAL, NO_MEMORY, DEVICE.
  *
  * Until the volume is whole and synced its file has another name, with .lfs-make at its end, which is locked. So a stop leaves no half of
  * a volume, and the next pansuyog_make begins that file anew. On a file system without links a stop may leave an empty file beside it. */
-static inline int32_t pansuyog_make(const char *path, uint32_t segments, uint32_t version, pansuyog_failed_t *failed) {
+static inline int32_t pansuyog_make_with(const char *path, uint32_t segments, uint32_t version, uint32_t segment_sectors, uint32_t unit,
+                                         pansuyog_failed_t *failed) {
     char made[PATH_MAX];
-    int32_t fd = pansuyog_begin_made(path, made, segments, version, failed);
-    return fd < 0 ? fd : pansuyog_end_made(path, made, fd, pansuyog_fill_made(fd, segments, version, failed), failed);
+    int32_t fd = pansuyog_begin_made(path, made, pansuyog_shape_sectors(segments, version, segment_sectors, unit), failed);
+    if (fd < 0) return fd;
+    return pansuyog_end_made(path, made, fd, pansuyog_fill_made(fd, segments, version, segment_sectors, unit, failed), failed);
+}
+
+/* The same in version 1 or 2 of the layout, with units of a sector. INVAL for version 3. */
+static inline int32_t pansuyog_make(const char *path, uint32_t segments, uint32_t version, pansuyog_failed_t *failed) {
+    return pansuyog_make_with(path, segments, version, version < 3 ? PANSUYOG_SEGMENT_SECTORS : 0, 1, failed);
 }
 
 #endif

@@ -69,6 +69,13 @@ void pansuyog_file_free(pansuyog_file volume);
  * held is gone. It takes 2 + 64 * segments sectors of 512 bytes, which are there already. INVAL, also where no file was taken; TOO_SMALL,
  * DEVICE, READ_ONLY, ALREADY_MOUNTED. */
 int32_t pansuyog_file_format(pansuyog_file *volume, uint32_t segments, uint32_t version);
+/* The same of any shape: pansuyog_shape_t has what each number may be, and pansuyog_file_shape_sectors how many sectors it takes. It
+ * answers as pansuyog_file_format does, INVAL of a shape before TOO_SMALL before DEVICE. In version 3 a commit ends on a whole unit: where
+ * the medium writes units of several sectors, make a volume whose unit is a multiple of theirs. docs/LIBRARY.md has what is proved then. */
+int32_t pansuyog_file_format_with(pansuyog_file *volume, uint32_t segments, uint32_t version, uint32_t segment_sectors, uint32_t unit);
+/* How many sectors a volume of a shape takes: 2 + 64 * segments in versions 1 and 2, 256 + 64 * segments in version 3. 0 where there is no
+ * volume of it. */
+uint32_t pansuyog_file_shape_sectors(uint32_t segments, uint32_t version, uint32_t segment_sectors, uint32_t unit);
 /* Mounts the volume of the file that was taken, with no open handles. It syncs the file once, and writes nothing. INVAL where no file was
  * taken; NO_MEMORY, DEVICE, TOO_SMALL, NO_CHECKPOINT, DAMAGED, ALREADY_MOUNTED. The file stays taken where it is refused. */
 int32_t pansuyog_file_mount(pansuyog_file *volume);
@@ -116,7 +123,9 @@ int32_t pansuyog_file_is_cleaning_due(pansuyog_file *volume);
  * moments waits seldom for the cleaner in another call. */
 int32_t pansuyog_file_clean_once(pansuyog_file *volume);
 int32_t pansuyog_file_space(pansuyog_file *volume, pansuyog_space_t *space);
-/* 1 or 2. */
+/* What the volume was made with, and the version that it has now. HALTED. */
+int32_t pansuyog_file_shape(pansuyog_file *volume, pansuyog_shape_t *shape);
+/* 1 to 3. */
 int32_t pansuyog_file_version(pansuyog_file *volume);
 int32_t pansuyog_file_upgrade(pansuyog_file *volume);
 int32_t pansuyog_file_widen(pansuyog_file *volume, const char *path, size_t length);
@@ -154,39 +163,46 @@ static inline int32_t pansuyog_file_attach(pansuyog_file *volume, const char *pa
 
 /* Makes an empty volume in the file of a descriptor, which is taken by a copy of that. */
 static inline int32_t pansuyog_file_fill_made(pansuyog_file *volume, int fd, uint32_t segments, uint32_t version,
-                                              pansuyog_failed_t *failed) {
+                                              uint32_t segment_sectors, uint32_t unit, pansuyog_failed_t *failed) {
     int own = fcntl(fd, F_DUPFD_CLOEXEC, STDERR_FILENO + 1);
     if (own < 0) return pansuyog_fail(failed, PANSUYOG_AT_OPEN, 0);
     int32_t code = pansuyog_file_lend(volume, own, PANSUYOG_FILE_READ_WRITE);
-    if (code == PANSUYOG_OK) code = pansuyog_file_format(volume, segments, version);
+    if (code == PANSUYOG_OK) code = pansuyog_file_format_with(volume, segments, version, segment_sectors, unit);
     errno = pansuyog_file_errno(volume);
     return code == PANSUYOG_DEVICE && errno ? pansuyog_fail(failed, PANSUYOG_AT_CHANGE, 0) : code;
 }
 
-/* Makes an empty volume of so many segments, in version 1 or 2 of the layout, in a file that isn't there yet, and takes it as the file of
- * a volume, where none is mounted: then it is to be mounted. EXIST where something has its name, be it a link that leads nowhere: that
+/* Makes an empty volume of a shape in a file that isn't there yet, and takes it as the file of a volume, where none is mounted: then it is
+ * to be mounted. EXIST where something has its name, be it a link that leads nowhere: that
  * stays as it is. INVAL, NO_MEMORY, DEVICE, IN_USE, LOCK_FAILED, ALREADY_MOUNTED. Where it fails the volume may hold nothing.
  *
  * Until the volume is whole and synced its file has another name, with .lfs-make at its end, which is locked. So a stop leaves no half of
  * a volume, and the next pansuyog_file_make begins that file anew. On a file system without links a stop may leave an empty file beside
  * it. */
-static inline int32_t pansuyog_file_make(pansuyog_file *volume, const char *path, uint32_t segments, uint32_t version,
-                                         pansuyog_failed_t *failed) {
+static inline int32_t pansuyog_file_make_with(pansuyog_file *volume, const char *path, uint32_t segments, uint32_t version,
+                                              uint32_t segment_sectors, uint32_t unit, pansuyog_failed_t *failed) {
     char made[PATH_MAX];
     pansuyog_failed_t own;
     if (failed == NULL) failed = &own;
     pansuyog_clear(failed);
     if (pansuyog_file_version(volume) != PANSUYOG_NOT_MOUNTED) return PANSUYOG_ALREADY_MOUNTED;
-    int32_t fd = pansuyog_begin_made(path, made, segments, version, failed), code = fd;
+    uint32_t sectors = pansuyog_file_shape_sectors(segments, version, segment_sectors, unit);
+    int32_t fd = pansuyog_begin_made(path, made, sectors, failed), code = fd;
     if (fd >= 0) {
-        code = pansuyog_file_fill_made(volume, fd, segments, version, failed);
+        code = pansuyog_file_fill_made(volume, fd, segments, version, segment_sectors, unit, failed);
         code = pansuyog_end_made(path, made, fd, code, failed);
         if (code != PANSUYOG_OK) pansuyog_file_abandon(volume);
     }
     return failed->call == PANSUYOG_AT_LOCK ? PANSUYOG_IN_USE : code;
 }
 
-/* Says on standard error, in a line that begins with the image's name, why a call answered this code: `failed` has what the two calls above
+/* The same in version 1 or 2 of the layout, with units of a sector. INVAL for version 3. */
+static inline int32_t pansuyog_file_make(pansuyog_file *volume, const char *path, uint32_t segments, uint32_t version,
+                                         pansuyog_failed_t *failed) {
+    return pansuyog_file_make_with(volume, path, segments, version, version < 3 ? PANSUYOG_SEGMENT_SECTORS : 0, 1, failed);
+}
+
+/* Says on standard error, in a line that begins with the image's name, why a call answered this code: `failed` has what the calls above
  * told, and may be null, and the volume what its file refused. */
 static inline void pansuyog_file_perror(const char *image, int32_t code, pansuyog_file *volume, const pansuyog_failed_t *failed) {
     int32_t error = pansuyog_file_errno(volume);

@@ -175,19 +175,18 @@ static inline int32_t pansuyog_end_made(const char *path, const char *made, int 
     return code == PANSUYOG_OK ? pansuyog_sync_folder(path, failed) : code;
 }
 
-/* Opens, locks and cuts to its length the file in which a volume is to be made, and puts its name into `made`: the descriptor, EXIST where
- * something has the volume's name, INVAL, or DEVICE. */
-static inline int32_t pansuyog_begin_made(const char *path, char made[PATH_MAX], uint32_t segments, uint32_t version,
-                                          pansuyog_failed_t *failed) {
+/* Opens, locks and cuts to its length the file in which a volume of so many sectors is to be made, and puts its name into `made`: the
+ * descriptor, EXIST where something has the volume's name, INVAL where it has no sectors, or DEVICE. */
+static inline int32_t pansuyog_begin_made(const char *path, char made[PATH_MAX], uint32_t sectors, pansuyog_failed_t *failed) {
     pansuyog_clear(failed);
-    if (segments < 64 || segments > 1024 || segments % 8 || version < 1 || version > 2) return PANSUYOG_INVAL;
+    if (sectors == 0) return PANSUYOG_INVAL;
     errno = ENAMETOOLONG;
     if (snprintf(made, PATH_MAX, "%s.lfs-make", path) >= PATH_MAX) return pansuyog_fail(failed, PANSUYOG_AT_OPEN, 0);
     int32_t fd = pansuyog_open_made(path, made, failed), code = PANSUYOG_OK;
     /* A name that is there may be of a moment ago, by a program that was stopped. */
     if (fd == PANSUYOG_EXIST) pansuyog_sync_folder(path, NULL);
     if (fd < 0) return fd;
-    if (ftruncate(fd, 0) || ftruncate(fd, (off_t)PANSUYOG_SECTOR * (2 + 64 * (off_t)segments)))
+    if (ftruncate(fd, 0) || ftruncate(fd, (off_t)PANSUYOG_SECTOR * sectors))
         code = pansuyog_fail(failed, PANSUYOG_AT_WRITE, 0);
     return code == PANSUYOG_OK ? fd : pansuyog_end_made(path, made, fd, code, failed);
 }

@@ -100,6 +100,16 @@ typedef struct pansuyog_space_t {
     uint64_t limit;       /* the most that it may need */
 } pansuyog_space_t;
 
+/* What a volume is made with. */
+typedef struct pansuyog_shape_t {
+    uint32_t segments;        /* a multiple of 8 in 64..1024 */
+    uint32_t version;         /* of the layout: 1 to 3 */
+    uint32_t segment_sectors; /* how many sectors a segment has: PANSUYOG_SEGMENT_SECTORS */
+    uint32_t unit;            /* how many sectors a unit has: 1, or in version 3 a power of 2 in 1..64 */
+} pansuyog_shape_t;
+
+enum { PANSUYOG_SEGMENT_SECTORS = 64 };
+
 typedef struct pansuyog_entry_t {
     uint32_t number;
     uint32_t kind;

@@ -46,7 +46,7 @@ import weakref
 from typing import List, NamedTuple
 
 __all__ = ["Calls", "Files", "Volume", "ProcessVolume", "Refused", "ReadOnly", "ChildDied", "BadLine", "Omitted"]
-__all__ += ["Entry", "Space", "Stat", "TreeRow", "Written", "make", "make_over"]
+__all__ += ["Entry", "Shape", "Space", "Stat", "TreeRow", "Written", "make", "make_over", "sectors_of"]
 
 # What people are told of a call that is refused, as in crates/lfs_host/src/reason.rt: the reply to a line has the name alone.
 _NO_MEMORY = "there isn't enough memory"
@@ -131,6 +131,15 @@ class Space(NamedTuple):
     meta: int
     need: int
     limit: int
+
+
+class Shape(NamedTuple):
+    """What a volume is made with: its segments, its format, and how many sectors of 512 bytes a unit and a segment have."""
+
+    segments: int
+    format: int = 1
+    unit: int = 1
+    segment_sectors: int = 64
 
 
 class TreeRow(NamedTuple):
@@ -250,9 +259,13 @@ def _cause(errors, reply, but=None):
     return "; ".join(line[5:] if line.startswith("lfs: ") else line for line in lines) or reply
 
 
-def make(image, segments, lfs=None, format=1, *, library=None, force=False, reserve=False):
+def make(image, segments, lfs=None, format=1, *, unit=1, library=None, force=False, reserve=False):
     """Makes an empty volume in an image file: a multiple of 8 segments of 32 KiB, from 64 to 1,024. A name in it has up to 59 bytes in format
-    1, and up to 123 in format 2. The library makes it, or else the program whose path is `lfs`.
+    1, and up to 123 in later ones. The library makes it, or else the program whose path is `lfs`.
+
+    In format 3 a unit has 1, 2, 4, 8, 16, 32 or 64 sectors of 512 bytes, and a commit ends on a whole unit. For a medium that writes units of
+    several sectors, and may lose all of them in a stop, make a volume whose unit is a multiple of theirs. In formats 1 and 2 a unit is a
+    sector.
 
     Where the image is there already, also where it is empty, this is refused as `Image`. With `force=True` the volume is made in its place,
     and an earlier content is gone. With `reserve=True` each sector is written first, so that the disk has room for all of them: else the
@@ -261,18 +274,22 @@ def make(image, segments, lfs=None, format=1, *, library=None, force=False, rese
     A new image gets its name once the volume is made and synced: after any stop it is there whole or not at all. Until then it stands beside
     as IMAGE.lfs-make, and what a stop leaves of that the next `make` begins anew. Where a file can't have two names, as on vfat and exFAT, a
     stop may leave an empty file of the image's name too."""
+    shape = Shape(segments, format, unit)
     if lfs is None:
-        _make_by_library(image, segments, format, reserve, force, library)
+        _make_by_library(image, shape, reserve, force, library)
     else:
-        _make_by_program(image, segments, lfs, format, reserve, force)
+        _make_by_program(image, shape, lfs, reserve, force)
 
 
-def _make_by_program(image, segments, lfs, format, reserve, force):
+def _make_by_program(image, shape, lfs, reserve, force):
     if not force:
         with _told_of(image):
             _refuse_present(image, os.path.realpath(os.fsdecode(image)))
     words = [*["--force"] * force, *["--reserve"] * reserve]
-    with _started(lfs, ["mkfs", os.fspath(image), "--segments", str(segments), "--format", str(format), *words]) as child:
+    # The program takes a unit in format 3 alone.
+    if shape.format == 3 or shape.unit != 1:
+        words += ["--unit", str(_SECTOR * shape.unit)]
+    with _started(lfs, ["mkfs", os.fspath(image), "--segments", str(shape.segments), "--format", str(shape.format), *words]) as child:
         output, errors = child.communicate()
     reply = output.decode(errors="replace").strip()
     if reply.startswith("err "):
@@ -281,11 +298,19 @@ def _make_by_program(image, segments, lfs, format, reserve, force):
         raise ChildDied(f"lfs mkfs ended with status {child.returncode}: {_cause(errors, reply)}")
 
 
-def make_over(device, segments, format=1, *, library=None):
-    """Makes an empty volume on a device of the caller's own, as `Volume.over` takes it, whatever it holds."""
-    _check_size(_DEVICE_NAME, segments, format)
-    with contextlib.closing(_OverDevice(device, _library(_ORDERS, library))) as made:
-        made.format(segments, format)
+def make_over(device, segments, format=1, *, unit=1, library=None):
+    """Makes an empty volume on a device of the caller's own, as `Volume.over` takes it, whatever it holds. `unit` is as `make` has it. The
+    device is told writes of single sectors, whatever the unit is."""
+    shape = Shape(segments, format, unit)
+    functions = _library(_ORDERS, library)
+    _sectors_of(_DEVICE_NAME, shape, functions)
+    with contextlib.closing(_OverDevice(device, functions)) as made:
+        made.format(shape)
+
+
+def sectors_of(segments, format=1, *, unit=1, library=None):
+    """How many sectors of 512 bytes a volume takes that `make_over` makes with these numbers. `Inval` where there is no such volume."""
+    return _sectors_of(_DEVICE_NAME, Shape(segments, format, unit), _library(_ORDERS, library))
 
 
 class Calls:
@@ -380,15 +405,15 @@ class Calls:
         return self._call("space")
 
     def version(self):
-        """The version of the volume's layout, 1 or 2: the format that it has."""
+        """The version of the volume's layout, 1 to 3: the format that it has."""
         return self._call("version")
 
     def upgrade(self):
-        """Gives the volume format 2. Directories that are made from then on take names of up to 123 bytes."""
+        """Gives a volume of format 1 format 2. Directories that are made from then on take names of up to 123 bytes."""
         self._call("upgrade")
 
     def widen(self, path):
-        """Lets a directory of a volume of format 2 take such names too. It then has twice as many bytes."""
+        """Lets a directory of a volume of format 2 or later take such names too. It then has twice as many bytes."""
         self._call("widen", _bytes(path))
 
     def tree(self):
@@ -838,8 +863,8 @@ _FILES, _ORDERS = "pansuyog_file", "pansuyog"
 _SECTOR = 512
 # Sectors of one read or write.
 _RUN = 128
-# Those of a volume of 1,024 segments: what a larger device has behind them isn't read.
-_MOST_SECTORS = 65_538
+# Those of a volume of 1,024 segments in format 3: what a larger device has behind them isn't read.
+_MOST_SECTORS = 65_792
 # Bytes of one write where each sector is written before a volume is made.
 _RESERVED = 1 << 20
 _KINDS = {1: "file", 2: "dir", 3: "link"}
@@ -854,7 +879,7 @@ _VOLUME_TEXTS = {
     "NoMemory": _NO_MEMORY,
     "Device": _DEVICE,
     "TooSmall": "it is shorter than its volume, or than any volume",
-    "NoCheckpoint": "neither of its first two sectors is a checkpoint",
+    "NoCheckpoint": "neither of its two slots holds a checkpoint",
 }
 
 
@@ -876,6 +901,9 @@ def _types():
     class RawSpace(ctypes.Structure):
         _fields_ = [(name, ctypes.c_uint64) for name in ("data", "meta", "need", "limit")]
 
+    class RawShape(ctypes.Structure):
+        _fields_ = [(name, ctypes.c_uint32) for name in ("segments", "version", "segment_sectors", "unit")]
+
     class RawEntry(ctypes.Structure):
         _fields_ = [("number", ctypes.c_uint32), ("kind", ctypes.c_uint32)]
 
@@ -894,6 +922,7 @@ def _types():
         volume=RawVolume,
         stat=RawStat,
         space=RawSpace,
+        shape=RawShape,
         entry=RawEntry,
     )
 
@@ -913,12 +942,13 @@ def _signatures(c, name):
         "readlink": [*given, *taken],
         "entry": [c.size, c.pointer(c.entry), *taken],
         "space": [c.pointer(c.space)],
+        "shape": [c.pointer(c.shape)],
     }
     if name == _FILES:
-        return {**functions, "take": [c.memory, c.u32], "errno": [], "format": [c.u32] * 2, "mount": []}
+        return {**functions, "take": [c.memory, c.u32], "errno": [], "format_with": [c.u32] * 4, "mount": []}
     run = [c.u64, c.pointer(c.u32), *taken]
     orders = {**dict.fromkeys(["carried", "told", "done"], []), "begin": [c.u32], "give": [c.u32, *given], "run": run}
-    return {**functions, **orders, "format": [c.u32] * 3, "mount": [c.u32]}
+    return {**functions, **orders, "format_with": [c.u32] * 5, "mount": [c.u32]}
 
 
 def _no_library(found):
@@ -957,6 +987,8 @@ def _library(name, path):
         functions[function].restype = {"abandon": None, "carried": c.u64, "told": c.u64}.get(function, c.code)
     functions["free"] = getattr(library, f"{name}_free")
     functions["free"].argtypes, functions["free"].restype = [c.volume], None
+    functions["shape_sectors"] = getattr(library, f"{name}_shape_sectors")
+    functions["shape_sectors"].argtypes, functions["shape_sectors"].restype = [c.u32] * 4, c.u32
     return functions
 
 
@@ -1038,12 +1070,22 @@ def _refused_volume(shown, code, unread=None):
     return _refusal(name, f"{shown}: {cause}")
 
 
-def _check_size(shown, segments, format):
-    """Refuses a volume that none is made of."""
-    if segments not in range(64, 1_025, 8):
-        raise _refusal("Inval", f"{shown}: {_VOLUME_TEXTS['Inval']}")
-    if format not in (1, 2):
-        raise _refusal("Inval", f"{shown}: a volume has format 1 or 2")
+def _passed(shape):
+    """The numbers of a shape, as the libraries take them."""
+    return shape.segments, shape.format, shape.segment_sectors, shape.unit
+
+
+def _sectors_of(shown, shape, functions):
+    """How many sectors a volume of a shape takes. One is refused of which there are none."""
+    for is_so, why in (
+        (shape.segments in range(64, 1_025, 8), _VOLUME_TEXTS["Inval"]),
+        (shape.format in (1, 2, 3), "a volume has format 1, 2 or 3"),
+        (shape.unit in (1, 2, 4, 8, 16, 32, 64), "a unit has 1, 2, 4, 8, 16, 32 or 64 sectors"),
+        (shape.unit == 1 or shape.format == 3, "a unit has several sectors in format 3 alone"),
+    ):
+        if not is_so:
+            raise _refusal("Inval", f"{shown}: {why}")
+    return functions["shape_sectors"](*_passed(shape))
 
 
 @contextlib.contextmanager
@@ -1250,9 +1292,9 @@ def _naming(image, path):
         raise
 
 
-def _make_by_library(image, segments, format, reserve, force, library):
+def _make_by_library(image, shape, reserve, force, library):
     functions = _library(_FILES, library)
-    _check_size(os.fsdecode(image), segments, format)
+    sectors = _sectors_of(os.fsdecode(image), shape, functions)
     path = os.path.realpath(os.fsdecode(image))
     with _told_of(image):
         is_over = force and os.path.exists(path)
@@ -1261,8 +1303,8 @@ def _make_by_library(image, segments, format, reserve, force, library):
         file = _opened(path) if is_over else _opened_unmade(image, path)
     made = _OverFile(image, functions, file)
     with contextlib.closing(made), contextlib.nullcontext() if is_over else _naming(image, path):
-        made.empty(_SECTOR * (2 + 64 * segments), reserve)
-        made.format(segments, format)
+        made.empty(_SECTOR * sectors, reserve)
+        made.format(shape)
 
 
 def _opened_again(file):
@@ -1332,9 +1374,9 @@ class _OverFile(_Held):
                 raise _refused_image(self._image, f"there is no room for all of its sectors: {_reason(failure.error)}") from failure
             raise _refused_device(self._image, failure) from failure
 
-    def format(self, segments, version):
+    def format(self, shape):
         self._lend(read_only=False)
-        self._check(self._functions["format"](self._raw, segments, version), "write or a sync")
+        self._check(self._functions["format_with"](self._raw, *_passed(shape)), "write or a sync")
 
     def mount(self, read_only):
         if read_only:
@@ -1418,8 +1460,8 @@ class _OverDevice(_Held):
         self._device, self._unread = device, None
         self._run = _types().buffer(_RUN * _SECTOR)
 
-    def format(self, segments, version):
-        self._begin("format", segments, version)
+    def format(self, shape):
+        self._begin("format_with", *_passed(shape))
 
     def mount(self, _):
         self._begin("mount")
@@ -1563,6 +1605,10 @@ class Volume(Files):
         idle moments waits seldom for the cleaner in another call."""
         self._call("clean_once")
 
+    def shape(self):
+        """What the volume was made with, and the format that it has now: a `Shape`."""
+        return self._call("shape")
+
     def tree(self):
         """Each entry of each directory. A file is opened for its first bytes. One whose path has more than 1,023 bytes is left out with a
         warning, `Omitted`."""
@@ -1664,6 +1710,11 @@ class Volume(Files):
         self._ask(name, (), told)
         return Space(told.data, told.meta, told.need, told.limit)
 
+    def _describe(self, name):
+        told = self._types.shape()
+        self._ask(name, (), told)
+        return Shape(told.segments, told.version, told.unit, told.segment_sectors)
+
     def _save_nothing(self, name, *arguments):
         """Saves a volume that is only read, of which there is nothing to save. A handle has to be open."""
         for handle in arguments:
@@ -1678,6 +1729,7 @@ class Volume(Files):
         "lstat": _status,
         "readdir": _entries,
         "space": _measure,
+        "shape": _describe,
     }
     # Those that save, where the volume is only read.
     _SAVING = {"sync": _save_nothing, "fsync": _save_nothing}

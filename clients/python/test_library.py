@@ -191,9 +191,9 @@ def text_of(path):
 class Scripts(unittest.TestCase):
     def test_each_script_has_its_replies(self):
         paths = [os.path.splitext(it)[0] for it in glob.glob(f"{CASES}/*.script")]
-        # A bad line is a matter of the language alone, and no call of Python makes a volume of version 3.
-        paths = [it for it in paths if "bad " not in text_of(f"{it}.replies") and not it.endswith(".v3")]
-        self.assertGreaterEqual(len(paths), 67)
+        # A bad line is a matter of the language alone.
+        paths = [it for it in paths if "bad " not in text_of(f"{it}.replies")]
+        self.assertGreaterEqual(len(paths), 68)
         for path in sorted(paths):
             with self.subTest(os.path.basename(path)), tempfile.TemporaryDirectory() as folder:
                 self.carry_out(path, f"{folder}/disk.img")
@@ -203,7 +203,8 @@ class Scripts(unittest.TestCase):
 
     def carry_out(self, path, image):
         segments = 1024 if ".1024" in path else 64
-        used().make(image, segments, 2 if path.endswith(".v2") else 1)
+        version = {".v2": 2, ".v3": 3}.get(path[-3:], 1)
+        used().make(image, segments, version, unit=8 if version == 3 else 1)
         with self.mounted(image) as volume:
             replies = [reply(volume, line) for line in text_of(f"{path}.script").splitlines()]
         self.assertEqual("\n".join(replies).split("\n"), text_of(f"{path}.replies").splitlines() or [""])
@@ -215,6 +216,69 @@ class Scripts(unittest.TestCase):
 class ScriptsOnADevice(OfTheLibrary, Scripts):
     def mounted(self, image):
         return pansuyog.Volume.over(stopping.Device(image, random), library=used().orders)
+
+
+class Shapes(OfTheLibrary, OnAVolume):
+    """Volumes of format 3, and shapes of which there are none."""
+
+    # Numbers of segments, formats and units that no volume has.
+    UNKNOWN = [(0, 3, 1), (65, 3, 1), (1032, 3, 1), (64, 0, 1), (64, 4, 1), (64, 3, 0), (64, 3, 3), (64, 3, 128), (64, 1, 2), (64, 2, 8)]
+
+    def setUp(self):
+        super().setUp()
+        os.unlink(self.image)
+
+    def keeps(self, shape, mounted):
+        with mounted() as volume:
+            self.assertEqual((volume.shape(), volume.version()), (shape, shape.format))
+            volume.write_file("/f", b"a" * 3_000)
+            volume.sync()
+            volume.mkdir("/lost")
+        with mounted() as volume:
+            self.assertEqual((volume.shape(), volume.read("/f"), len(volume.readdir("/"))), (shape, b"a" * 3_000, 1))
+
+    def test_a_volume_of_format_3_keeps_its_shape(self):
+        for segments, unit in ((64, 1), (72, 8), (1024, 64)):
+            with self.subTest(segments=segments, unit=unit):
+                used().make(self.image, segments, 3, unit=unit)
+                self.assertEqual(os.path.getsize(self.image), 512 * (256 + 64 * segments))
+                self.keeps(pansuyog.Shape(segments, 3, unit), self.mounted)
+                os.unlink(self.image)
+
+    def test_a_device_of_ones_own_keeps_its_shape(self):
+        sectors = pansuyog.sectors_of(72, 3, unit=8, library=used().orders)
+        self.assertEqual(sectors, 256 + 64 * 72)
+        put(self.image, bytes(512 * sectors))
+        device = stopping.Device(self.image, random)
+        pansuyog.make_over(device, 72, 3, unit=8, library=used().orders)
+        self.keeps(pansuyog.Shape(72, 3, 8), lambda: pansuyog.Volume.over(device, library=used().orders))
+
+    def test_an_upgrade_is_told(self):
+        used().make(self.image, 64)
+        volume = self.mounted()
+        self.assertEqual(volume.shape(), pansuyog.Shape(64))
+        volume.upgrade()
+        self.assertEqual(volume.shape(), pansuyog.Shape(64, 2))
+
+    def test_what_no_volume_has_is_refused(self):
+        for segments, format, unit in self.UNKNOWN:
+            with self.subTest(segments=segments, format=format, unit=unit):
+                self.assertRaises(pansuyog.Inval, used().make, self.image, segments, format, unit=unit)
+                self.assertRaises(pansuyog.Inval, pansuyog.sectors_of, segments, format, unit=unit, library=used().orders)
+        self.assertEqual(os.listdir(os.path.dirname(self.image)), [])
+
+    def test_a_shape_is_looked_at_before_the_size_of_a_device(self):
+        put(self.image, bytes(512 * (256 + 64 * 64 - 1)))
+        device = stopping.Device(self.image, random)
+
+        def make(segments, format, unit):
+            pansuyog.make_over(device, segments, format, unit=unit, library=used().orders)
+
+        for shape in self.UNKNOWN:
+            self.assertRaises(pansuyog.Inval, make, *shape)
+        self.assertRaises(pansuyog.TooSmall, make, 64, 3, 8)
+        self.assertEqual(device.writes, 0)
+        make(64, 2, 1)
 
 
 class Sessions(OfTheLibrary, OnAVolume):
@@ -578,7 +642,7 @@ class Images(OfTheLibrary, OnAVolume):
         self.assertRaisesRegex(pansuyog.Image, "neither a regular file", used().mounted, "/dev/null")
         self.assertRaisesRegex(pansuyog.Image, "it is a folder", lambda: used().make(folder, 64, force=True))
         self.assertRaisesRegex(pansuyog.Image, "neither a regular file", used().make, "/dev/null", 64)
-        self.assertRaisesRegex(pansuyog.Inval, "format 1 or 2", used().make, self.image, 64, 3)
+        self.assertRaisesRegex(pansuyog.Inval, "format 1, 2 or 3", used().make, self.image, 64, 4)
 
     def test_a_disk_that_is_full_halts_a_volume(self):
         with self.mounted() as volume:
@@ -760,12 +824,12 @@ class Devices(OnADevice):
                 self.assertEqual((volume.version(), volume.readdir("/")), (format, []))
         with self.assertRaisesRegex(pansuyog.TooSmall, "^the device: it is shorter than its volume, or than any volume$"):
             pansuyog.make_over(device, 72, library=used().orders)
-        for segments, format in ((65, 1), (64, 3), (56, 1), (1_032, 1)):
+        for segments, format in ((65, 1), (64, 4), (56, 1), (1_032, 1)):
             self.assertRaisesRegex(pansuyog.Inval, "^the device: ", pansuyog.make_over, device, segments, format, library=used().orders)
 
     def test_what_is_no_volume_is_refused(self):
         put(self.image, bytes(3_000_000))
-        with self.assertRaisesRegex(pansuyog.NoCheckpoint, "^the device: neither of its first two sectors is a checkpoint$"):
+        with self.assertRaisesRegex(pansuyog.NoCheckpoint, "^the device: neither of its two slots holds a checkpoint$"):
             self.mounted()
         used().make(self.image, 64, force=True)
         with open(self.image, "r+b") as file:
@@ -874,7 +938,7 @@ class Devices(OnADevice):
         self.assertTrue(caught.exception.needs_restart)
         with mock.patch.object(device, "read", side_effect=broken), self.assertRaises(pansuyog.NoCheckpoint) as caught:
             self.mounted(device)
-        self.assertRegex(str(caught.exception), "is a checkpoint, and a read of it failed: Input/output error$")
+        self.assertRegex(str(caught.exception), "holds a checkpoint, and a read of it failed: Input/output error$")
 
     def test_what_is_only_read_gets_no_write(self):
         device = stopping.Device(self.image, random)

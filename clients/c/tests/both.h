@@ -9,6 +9,7 @@ static void unmounted(volume_t *v) {
     char bytes[8] = {0};
     pansuyog_stat_t stat = {0};
     pansuyog_space_t space = {0};
+    pansuyog_shape_t shape = {0};
     const int32_t none = PANSUYOG_NOT_MOUNTED;
     check(CALL(open)(v, PATH("/a")) == none && CALL(create)(v, PATH("/a")) == none && CALL(close)(v, 0) == none);
     check(CALL(pread)(v, 0, 0, bytes, 8) == none && CALL(pwrite)(v, 0, 0, bytes, 8) == none && CALL(truncate)(v, 0, 0) == none);
@@ -19,6 +20,7 @@ static void unmounted(volume_t *v) {
     check(CALL(list)(v, PATH("/")) == none && CALL(fsync)(v, 0) == none && CALL(sync)(v) == none && CALL(clean)(v) == none);
     check(CALL(is_cleaning_due)(v) == none && CALL(clean_once)(v) == none);
     check(CALL(space)(v, &space) == none && CALL(version)(v) == none && CALL(upgrade)(v) == none);
+    check(CALL(shape)(v, &shape) == none && shape.segments == 0 && shape.unit == 0);
     check(CALL(widen)(v, PATH("/")) == none);
     check(CALL(unmount)(v) == none);
     for (size_t at = 0; at < sizeof bytes; at++) check(bytes[at] == 0);
@@ -72,6 +74,13 @@ static void names(volume_t *v) {
     check(CALL(unlink)(v, PATH("/none")) == PANSUYOG_NO_ENTRY && CALL(rmdir)(v, PATH("/a")) == PANSUYOG_NOT_DIR);
 }
 
+/* Whether a mounted volume tells this shape. */
+static int is_shape(volume_t *v, uint32_t segments, uint32_t version, uint32_t unit) {
+    pansuyog_shape_t told = {9, 9, 9, 9};
+    check(CALL(shape)(v, &told) == 0);
+    return told.segments == segments && told.version == version && told.segment_sectors == PANSUYOG_SEGMENT_SECTORS && told.unit == unit;
+}
+
 static void looks(volume_t *v) {
     pansuyog_stat_t stat = {9, 9, 9, 9};
     pansuyog_space_t space;
@@ -92,10 +101,54 @@ static void looks(volume_t *v) {
     check(CALL(entry)(v, 3, &entry, name, 1) == 0 && CALL(entry)(v, SIZE_MAX, &entry, name, 1) == 0 && entry.kind == PANSUYOG_LINK);
     check(CALL(list)(v, PATH("/d")) == 1 && CALL(entry)(v, 1, &entry, name, 1) == 0);
     check(CALL(space)(v, &space) == 0 && space.limit == 47 * 128 && space.need == space.data_blocks + 7 * space.meta_blocks + 720);
-    check(CALL(version)(v) == 1 && CALL(widen)(v, PATH("/d")) == PANSUYOG_INVAL && CALL(upgrade)(v) == 0);
-    check(CALL(version)(v) == 2);
+    check(is_shape(v, 128, 1, 1) && CALL(version)(v) == 1 && CALL(widen)(v, PATH("/d")) == PANSUYOG_INVAL && CALL(upgrade)(v) == 0);
+    check(CALL(version)(v) == 2 && is_shape(v, 128, 2, 1));
     check(CALL(widen)(v, PATH("/d")) == 0 && CALL(widen)(v, PATH("/a")) == PANSUYOG_NOT_DIR);
     check(CALL(widen)(v, PATH("/none")) == PANSUYOG_NO_ENTRY);
+}
+
+/* How many sectors a volume of a shape takes, and of which there is none. */
+static void sizes(void) {
+    check(CALL(shape_sectors)(64, 1, 64, 1) == 2 + 64 * 64 && CALL(shape_sectors)(1024, 2, 64, 1) == 2 + 64 * 1024);
+    for (uint32_t unit = 1; unit <= 64; unit *= 2) check(CALL(shape_sectors)(72, 3, 64, unit) == 256 + 64 * 72);
+    check(CALL(shape_sectors)(1024, 3, 64, 64) == 256 + 64 * 1024);
+    check(CALL(shape_sectors)(0, 3, 64, 1) == 0 && CALL(shape_sectors)(56, 3, 64, 1) == 0 && CALL(shape_sectors)(65, 3, 64, 1) == 0);
+    check(CALL(shape_sectors)(1032, 3, 64, 1) == 0 && CALL(shape_sectors)(UINT32_MAX, 3, 64, 1) == 0);
+    check(CALL(shape_sectors)(64, 0, 64, 1) == 0 && CALL(shape_sectors)(64, 4, 64, 1) == 0);
+    check(CALL(shape_sectors)(64, 3, 0, 1) == 0 && CALL(shape_sectors)(64, 3, 32, 1) == 0 && CALL(shape_sectors)(64, 3, 128, 1) == 0);
+    check(CALL(shape_sectors)(64, 3, 64, 0) == 0 && CALL(shape_sectors)(64, 3, 64, 3) == 0 && CALL(shape_sectors)(64, 3, 64, 128) == 0);
+    check(CALL(shape_sectors)(64, 1, 64, 2) == 0 && CALL(shape_sectors)(64, 2, 64, 8) == 0);
+}
+
+/* A volume of version 3 is made, and keeps what was saved and its shape. */
+static void keeps(const char *path, uint32_t segments, uint32_t unit) {
+    static char bytes[3000], read[3000];
+    struct image image;
+    struct stat file;
+    memset(bytes, 'a', sizeof bytes);
+    check(make_image_with(path, (pansuyog_shape_t){segments, 3, PANSUYOG_SEGMENT_SECTORS, unit}) == 0);
+    check(stat(path, &file) == 0 && file.st_size == (off_t)SECTOR * (256 + 64 * segments));
+    check(mount_image(&image, path, 0) == 0 && is_shape(&image.volume, segments, 3, unit) && CALL(version)(&image.volume) == 3);
+    check(CALL(create)(&image.volume, PATH("/a")) == 0 && CALL(pwrite)(&image.volume, 0, 0, bytes, sizeof bytes) == sizeof bytes);
+    check(save_image(&image) == 0 && CALL(mkdir)(&image.volume, PATH("/lost")) == 0);
+    drop_image(&image);
+    check(mount_image(&image, path, 0) == 0 && is_shape(&image.volume, segments, 3, unit));
+    check(CALL(open)(&image.volume, PATH("/a")) == 0 && CALL(pread)(&image.volume, 0, 0, read, sizeof read) == sizeof read);
+    check(!memcmp(bytes, read, sizeof read) && CALL(list)(&image.volume, PATH("/")) == 1 && CALL(upgrade)(&image.volume) == 0);
+    check(is_shape(&image.volume, segments, 3, unit));
+    drop_image(&image);
+    check(unlink(path) == 0);
+}
+
+/* Volumes of shapes, at a path where nothing is. */
+static void shapes(const char *path) {
+    sizes();
+    check(make_image_with(path, (pansuyog_shape_t){64, 3, 64, 3}) == PANSUYOG_INVAL && access(path, F_OK) < 0);
+    check(make_image_with(path, (pansuyog_shape_t){64, 2, 64, 8}) == PANSUYOG_INVAL && access(path, F_OK) < 0);
+    check(make_image_with(path, (pansuyog_shape_t){64, 3, 32, 1}) == PANSUYOG_INVAL && access(path, F_OK) < 0);
+    keeps(path, 64, 1);
+    keeps(path, 72, 8);
+    keeps(path, 1024, 64);
 }
 
 /* Each code says something of its own. */

@@ -49,6 +49,21 @@ static void making(pansuyog *v, int fd) {
     check(pansuyog_carry(v, fd, NULL) == 0 && pansuyog_carried(v) == pansuyog_told(v));
 }
 
+/* A shape is looked at before the device's size, and only a device that is made on changes. */
+static void refused_shapes(pansuyog *v) {
+    const uint32_t sectors = 256 + 64 * 64;
+    check(pansuyog_format_with(v, 64, 3, 64, 1, 0) == PANSUYOG_INVAL && pansuyog_begin(v, sectors - 1) == 0);
+    check(pansuyog_format_with(v, 64, 3, 64, 3, 0) == PANSUYOG_INVAL && pansuyog_format_with(v, 128, 3, 64, 3, 0) == PANSUYOG_INVAL);
+    check(pansuyog_format_with(v, 64, 4, 64, 1, 0) == PANSUYOG_INVAL && pansuyog_format_with(v, 64, 3, 32, 1, 0) == PANSUYOG_INVAL);
+    check(pansuyog_format_with(v, 64, 3, 64, 8, 0) == PANSUYOG_TOO_SMALL && pansuyog_told(v) == 0);
+    check(pansuyog_format_with(v, 64, 2, 64, 8, 0) == PANSUYOG_INVAL && pansuyog_format_with(v, 64, 2, 64, 1, 0) == 0);
+    check(pansuyog_told(v) > 0 && pansuyog_done(v) == 0 && pansuyog_mount(v, 0) == 0 && is_shape(v, 64, 2, 1));
+    check(pansuyog_format_with(v, 64, 2, 64, 8, 0) == PANSUYOG_ALREADY_MOUNTED);
+    check(pansuyog_begin(v, sectors) == 0 && pansuyog_format_with(v, 64, 3, 64, 64, 0) == 0 && pansuyog_done(v) == 0);
+    check(pansuyog_mount(v, 0) == 0 && is_shape(v, 64, 3, 64));
+    pansuyog_abandon(v);
+}
+
 /* Runs of writes are the orders that follow one another, and no more than there is room for. */
 static void runs(pansuyog *v, uint64_t first, uint64_t told) {
     static unsigned char run[64 * SECTOR];
@@ -151,6 +166,7 @@ static void images(pansuyog *v, const char *image) {
     check(pansuyog_make(made, 0, 2, NULL) == PANSUYOG_INVAL && pansuyog_make(made, 65, 2, NULL) == PANSUYOG_INVAL);
     check(pansuyog_make(made, 56, 2, NULL) == PANSUYOG_INVAL && pansuyog_make(made, 1032, 2, NULL) == PANSUYOG_INVAL);
     check(pansuyog_make(made, 64, 0, NULL) == PANSUYOG_INVAL && pansuyog_make(made, 64, 3, NULL) == PANSUYOG_INVAL);
+    check(pansuyog_make_with(image, 64, 3, 64, 8, &failed) == PANSUYOG_EXIST && failed.call == PANSUYOG_NO_CALL);
     check(pansuyog_make(image, 64, 2, &failed) == PANSUYOG_EXIST && failed.call == PANSUYOG_NO_CALL);
     check(pansuyog_make(made, 64, 1, &failed) == 0 && failed.call == PANSUYOG_NO_CALL && access(made, F_OK) == 0);
     int fd = pansuyog_open_fd(made, LOCK_SH, NULL), other = pansuyog_open_fd(made, LOCK_SH, NULL);
@@ -175,6 +191,7 @@ static void unmounting(pansuyog *v, int fd) {
 }
 
 int main(int argc, char **argv) {
+    char shaped[4096];
     check(argc == 2);
     int fd = open(argv[1], O_RDWR | O_CREAT | O_TRUNC, 0600);
     check(fd >= 0 && ftruncate(fd, (off_t)SECTOR * SECTORS(128)) == 0);
@@ -189,7 +206,10 @@ int main(int argc, char **argv) {
     cleaning(&volume, fd);
     unmounting(&volume, fd);
     images(&volume, argv[1]);
+    refused_shapes(&volume);
     pansuyog_free(volume);
+    check(snprintf(shaped, sizeof shaped, "%s.shaped", argv[1]) > 0);
+    shapes(shaped);
     texts();
     check(pansuyog_damage(-101) == 1 && pansuyog_damage(-115) == 15 && pansuyog_damage(PANSUYOG_NOT_MOUNTED) == 0);
     check(pansuyog_damage(0) == 0);

@@ -49,6 +49,27 @@ static void making(pansuyog_file *v, const char *image) {
     check(pansuyog_file_make(v, image, 64, 1, NULL) == PANSUYOG_ALREADY_MOUNTED && pansuyog_file_version(v) == 1);
 }
 
+/* A shape is looked at before the file's size, and only a file that is made on changes. */
+static void refused_shapes(pansuyog_file *v, const char *image) {
+    int fd = open(image, O_RDWR | O_CREAT | O_TRUNC, 0600);
+    check(pansuyog_file_format_with(v, 64, 3, 64, 1) == PANSUYOG_INVAL && ftruncate(fd, (off_t)SECTOR * (256 + 64 * 64 - 1)) == 0);
+    check(take(v, fd, 0) == 0 && pansuyog_file_format_with(v, 64, 3, 64, 3) == PANSUYOG_INVAL);
+    check(pansuyog_file_format_with(v, 128, 3, 64, 3) == PANSUYOG_INVAL && pansuyog_file_format_with(v, 64, 4, 64, 1) == PANSUYOG_INVAL);
+    check(pansuyog_file_format_with(v, 64, 3, 32, 1) == PANSUYOG_INVAL && pansuyog_file_format_with(v, 64, 3, 64, 8) == PANSUYOG_TOO_SMALL);
+    check(pansuyog_file_mount(v) == PANSUYOG_NO_CHECKPOINT && pansuyog_file_format_with(v, 64, 2, 64, 8) == PANSUYOG_INVAL);
+    check(pansuyog_file_format_with(v, 64, 2, 64, 1) == 0 && pansuyog_file_mount(v) == 0 && is_shape(v, 64, 2, 1));
+    check(pansuyog_file_format_with(v, 64, 2, 64, 8) == PANSUYOG_ALREADY_MOUNTED && pansuyog_file_unmount(v) == 0);
+    check(truncate(image, (off_t)SECTOR * (256 + 64 * 64)) == 0);
+    pansuyog_file_abandon(v);
+    check(pansuyog_file_attach(v, image, PANSUYOG_FILE_READ_ONLY, NULL) == 0);
+    check(pansuyog_file_format_with(v, 64, 3, 64, 8) == PANSUYOG_READ_ONLY && pansuyog_file_mount(v) == 0 && is_shape(v, 64, 2, 1));
+    pansuyog_file_abandon(v);
+    check(pansuyog_file_attach(v, image, PANSUYOG_FILE_READ_WRITE, NULL) == 0 && pansuyog_file_format_with(v, 64, 3, 64, 64) == 0);
+    check(pansuyog_file_mount(v) == 0 && is_shape(v, 64, 3, 64));
+    pansuyog_file_abandon(v);
+    check(unlink(image) == 0);
+}
+
 /* What is saved is there for another mount, and what isn't goes with an unmount. */
 static void saving(pansuyog_file *v, const char *image) {
     char bytes[16];
@@ -209,6 +230,7 @@ static void images(pansuyog_file *v, const char *image) {
 }
 
 int main(int argc, char **argv) {
+    char shaped[4096];
     check(argc == 2);
     int fd = open(argv[1], O_RDWR | O_CREAT | O_TRUNC, 0600);
     check(fd >= 0 && ftruncate(fd, (off_t)SECTOR * SECTORS(128)) == 0 && close(fd) == 0);
@@ -226,6 +248,9 @@ int main(int argc, char **argv) {
     beside(&volume, argv[1]);
     writing_nowhere(&volume, argv[1]);
     images(&volume, argv[1]);
+    check(snprintf(shaped, sizeof shaped, "%s.shaped", argv[1]) > 0);
+    refused_shapes(&volume, shaped);
+    shapes(shaped);
     int32_t last = take(&volume, fd = open(argv[1], O_RDWR), 0);
     pansuyog_file_free(volume);
     check(last == 0 && fcntl(fd, F_GETFD) < 0);

@@ -30,6 +30,14 @@ static inline int32_t make_image(const char *path, uint32_t segments, uint32_t v
     return code;
 }
 
+static inline int32_t make_image_with(const char *path, pansuyog_shape_t it) {
+    pansuyog_file volume;
+    check(pansuyog_file_new(&volume) == 0);
+    int32_t code = pansuyog_file_make_with(&volume, path, it.segments, it.version, it.segment_sectors, it.unit, NULL);
+    pansuyog_file_free(volume);
+    return code;
+}
+
 static inline int32_t mount_image(struct image *image, const char *path, int is_read_only) {
     check(pansuyog_file_new(&image->volume) == 0);
     int32_t code = pansuyog_file_attach(&image->volume, path, is_read_only ? PANSUYOG_FILE_READ_ONLY : PANSUYOG_FILE_READ_WRITE, NULL);
@@ -48,6 +56,10 @@ static inline void drop_image(struct image *image) {
 
 static inline int32_t make_image(const char *path, uint32_t segments, uint32_t version) {
     return pansuyog_make(path, segments, version, NULL);
+}
+
+static inline int32_t make_image_with(const char *path, pansuyog_shape_t it) {
+    return pansuyog_make_with(path, it.segments, it.version, it.segment_sectors, it.unit, NULL);
 }
 
 static inline int32_t mount_image(struct image *image, const char *path, int is_read_only) {

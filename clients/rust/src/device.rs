@@ -7,7 +7,7 @@ pub const SECTOR: usize = 512;
 /// A sector of a device.
 pub type Sector = [u8; SECTOR];
 
-/// How many sectors a volume of so many segments takes.
+/// How many sectors a volume of so many segments takes in versions 1 and 2: [`Shape::sectors`](crate::Shape::sectors) tells it of any.
 pub const fn sectors_of(segments: u32) -> u64 {
     2 + 64 * segments as u64
 }

@@ -2,6 +2,7 @@
 use crate::backend::Mounted;
 use crate::error::Error;
 use crate::library::{Access, Answer, FileLibrary, Library, Refused};
+use crate::shape::Shape;
 use std::fs::{self, File, TryLockError};
 use std::io::{self, ErrorKind};
 use std::os::unix::fs::FileTypeExt;
@@ -86,15 +87,15 @@ impl InImage {
         volume.mounted()
     }
 
-    pub fn format(path: &Path, segments: u32, version: u32) -> Result<InImage> {
+    pub fn format(path: &Path, shape: Shape) -> Result<InImage> {
         let mut volume = InImage::take(open(path, Access::ReadWrite)?, Access::ReadWrite)?;
-        volume.make(segments, version)?;
+        volume.make(shape)?;
         volume.mounted()
     }
 
     /// Makes an empty volume in the file.
-    pub fn make(&mut self, segments: u32, version: u32) -> Result<()> {
-        let made = self.library.format(segments, version);
+    pub fn make(&mut self, shape: Shape) -> Result<()> {
+        let made = self.library.format(shape);
         made.map(drop).map_err(|refused| match Error::of(refused) {
             Error::Device(_) => self.failed_write(),
             error => error,

@@ -44,10 +44,12 @@ mod image;
 mod library;
 mod making;
 mod ordered;
+mod shape;
 mod volume;
 
 pub use backend::{Backend, Image};
 pub use device::{Device, SECTOR, Sector, sectors_of};
 pub use error::Error;
-pub use making::make;
-pub use volume::{Entry, Handle, Kind, Space, Stat, Version, Volume};
+pub use making::{make, make_with};
+pub use shape::{Shape, Version};
+pub use volume::{Entry, Handle, Kind, Space, Stat, Volume};

@@ -9,11 +9,12 @@ mod calls;
 mod file;
 mod orders;
 
-pub use file::{Access, FileLibrary};
+pub use file::{Access, FileLibrary, shape_sectors};
 pub use orders::OrderLibrary;
 
+use crate::shape::{Shape, Version};
 use crate::volume::{Entry, Kind, Space, Stat};
-use calls::{Calls, OfPath, OfPaths, OfStatus, Plain, Raw, RawEntry, RawSpace, RawStat};
+use calls::{Calls, OfPath, OfPaths, OfStatus, Plain, Raw, RawEntry, RawShape, RawSpace, RawStat};
 use std::ptr;
 
 /// The number of a call that was refused, as the headers have it.
@@ -208,6 +209,18 @@ impl Library {
             meta_blocks: space.meta_blocks,
             need: space.need,
             limit: space.limit,
+        })
+    }
+
+    pub fn shape(&mut self) -> Answer<Shape> {
+        let mut shape = RawShape::default();
+        // SAFETY: the shape is a place of its type.
+        answer(unsafe { (self.calls.shape)(&mut self.raw, &mut shape) })?;
+        Ok(Shape {
+            segments: shape.segments,
+            version: Version::of(shape.version),
+            segment_sectors: shape.segment_sectors,
+            unit: shape.unit,
         })
     }
 

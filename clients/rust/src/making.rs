@@ -1,9 +1,9 @@
 //! Volumes in new files.
-use crate::device::{SECTOR, sectors_of};
+use crate::device::SECTOR;
 use crate::error::Error;
 use crate::image::{InImage, lock};
 use crate::library::Access;
-use crate::volume::Version;
+use crate::shape::{Shape, Version};
 use std::fs::{self, File};
 use std::io::{self, ErrorKind};
 use std::os::unix::fs::MetadataExt;
@@ -11,8 +11,7 @@ use std::path::{Path, PathBuf};
 
 type Result<T> = std::result::Result<T, Error>;
 
-/// Makes an empty volume of 64 to 1,024 segments, a multiple of 8, in a file that isn't there yet. It takes
-/// [`sectors_of`](crate::sectors_of) sectors.
+/// Makes an empty volume of 64 to 1,024 segments, a multiple of 8, in a file that isn't there yet. Its units are sectors.
 ///
 /// Until the volume is whole and synced its file has another name, with `.lfs-make` at its end, and is locked. So a stop leaves no half of
 /// a volume, and the next `make` begins that file anew. On a file system without links a stop may leave an empty file beside it.
@@ -22,21 +21,28 @@ type Result<T> = std::result::Result<T, Error>;
 /// `NoMemory`, `Write`, `Sync` and `WriteOrSync`. `InUse` where another program is making the volume, `LockFailed`, and `Io` where the file
 /// can't be opened or named.
 pub fn make(path: impl AsRef<Path>, segments: u32, version: Version) -> Result<()> {
+    make_with(path, Shape::new(segments, version))
+}
+
+/// Makes an empty volume of a shape in a file that isn't there yet, as [`make`] makes one whose units are sectors. The file has the
+/// [`sectors`](Shape::sectors) that it takes.
+///
+/// # Errors
+/// `Inval` where there are no volumes of this shape, and those of [`make`].
+pub fn make_with(path: impl AsRef<Path>, shape: Shape) -> Result<()> {
     let path = path.as_ref();
-    if !(64..=1_024).step_by(8).any(|it| it == segments) {
-        return Err(Error::Inval);
-    }
-    let named = make_named(path, segments, version);
+    let sectors = shape.sectors().ok_or(Error::Inval)?;
+    let named = make_named(path, shape, sectors);
     // A name that is there may be of a moment ago, by a program that was stopped.
     let synced = sync_folder_of(path);
     named.and(synced)
 }
 
-fn make_named(path: &Path, segments: u32, version: Version) -> Result<()> {
+fn make_named(path: &Path, shape: Shape, sectors: u32) -> Result<()> {
     let made = made_of(path);
     // It has the lock until it is dropped.
     let file = open_made(path, &made)?;
-    let named = fill(&file, segments, version).and_then(|()| name(&made, path));
+    let named = fill(&file, shape, sectors).and_then(|()| name(&made, path));
     if named.is_err() {
         let _ = fs::remove_file(&made);
     }
@@ -78,10 +84,10 @@ fn open_made(path: &Path, made: &Path) -> Result<File> {
 }
 
 /// Makes a volume in a file, of which nothing is kept.
-fn fill(file: &File, segments: u32, version: Version) -> Result<()> {
-    let length = SECTOR as u64 * sectors_of(segments);
+fn fill(file: &File, shape: Shape, sectors: u32) -> Result<()> {
+    let length = SECTOR as u64 * u64::from(sectors);
     file.set_len(0).and_then(|()| file.set_len(length)).map_err(Error::Write)?;
-    InImage::take(file.try_clone()?, Access::ReadWrite)?.make(segments, version as u32)?;
+    InImage::take(file.try_clone()?, Access::ReadWrite)?.make(shape)?;
     file.sync_all().map_err(Error::Sync)
 }
 

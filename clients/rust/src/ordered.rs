@@ -3,11 +3,12 @@ use crate::backend::Mounted;
 use crate::device::{Device, SECTOR, Sector};
 use crate::error::Error;
 use crate::library::{Answer, Library, OrderLibrary};
+use crate::shape::Shape;
 
 type Result<T> = std::result::Result<T, Error>;
 
-/// The sectors of a volume of 1,024 segments: what a larger device has behind them isn't read.
-const MOST_SECTORS: u32 = 65_538;
+/// The sectors of a volume of 1,024 segments in version 3: what a larger device has behind them isn't read.
+const MOST_SECTORS: u32 = 65_792;
 
 /// The sectors of one read or write.
 const RUN: usize = 128;
@@ -29,9 +30,9 @@ fn room_of(sectors: u32) -> u32 {
 }
 
 impl<D: Device> OverDevice<D> {
-    pub fn format(device: D, segments: u32, version: u32) -> Result<OverDevice<D>> {
+    pub fn format(device: D, shape: Shape) -> Result<OverDevice<D>> {
         let (mut volume, room) = OverDevice::begin(device)?;
-        volume.carrying(|library| library.format(segments, version, room))?;
+        volume.carrying(|library| library.format(shape, room))?;
         volume.mounted(room)
     }
 

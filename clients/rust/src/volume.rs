@@ -5,6 +5,7 @@ use crate::error::Error;
 use crate::image::InImage;
 use crate::library::{Access, Library};
 use crate::ordered::OverDevice;
+use crate::shape::{Shape, Version};
 use std::fmt::{self, Debug, Formatter};
 use std::path::Path;
 
@@ -74,15 +75,6 @@ pub struct Space {
     pub limit: u64,
 }
 
-/// The version of a volume's layout.
-#[derive(Clone, Copy, Debug, PartialEq, Eq)]
-pub enum Version {
-    /// Names have up to 59 bytes.
-    One = 1,
-    /// Names in a new directory have up to 123 bytes.
-    Two = 2,
-}
-
 /// A mounted volume: in an image, which is a file or a block device, or over a [`Device`] of one's own.
 ///
 /// Each method is one call of a volume. Writes go out as calls make them necessary, and what isn't saved may be gone at the next mount.
@@ -127,15 +119,24 @@ impl Volume {
         InImage::mount(path.as_ref(), Access::ReadOnly).map(|mounted| Volume { mounted })
     }
 
-    /// Makes an empty volume of 64 to 1,024 segments, a multiple of 8, in an image that is there, and mounts it. It takes
-    /// [`sectors_of`](crate::sectors_of) sectors, 32 KiB a segment. Whatever the image held is gone: [`make`](crate::make) makes a volume
+    /// Makes an empty volume of 64 to 1,024 segments, a multiple of 8, in an image that is there, and mounts it. Its units are sectors:
+    /// [`format_with`](Volume::format_with) makes one of any shape. Whatever the image held is gone: [`make`](crate::make) makes a volume
     /// only where no file is.
     ///
     /// # Errors
     /// `Inval` for another number of segments, `TooSmall`, `NoMemory`, and `WriteOrSync` or `Device` where the image fails. `InUse`,
     /// `LockFailed` and `Io` as of [`mount`](Volume::mount).
     pub fn format(path: impl AsRef<Path>, segments: u32, version: Version) -> Result<Volume> {
-        InImage::format(path.as_ref(), segments, version as u32).map(|mounted| Volume { mounted })
+        Volume::format_with(path, Shape::new(segments, version))
+    }
+
+    /// Makes an empty volume of a shape, as [`format`](Volume::format) makes one whose units are sectors. It takes
+    /// [`sectors`](Shape::sectors), 32 KiB a segment.
+    ///
+    /// # Errors
+    /// `Inval` where there are no volumes of this shape, and those of [`format`](Volume::format).
+    pub fn format_with(path: impl AsRef<Path>, shape: Shape) -> Result<Volume> {
+        InImage::format(path.as_ref(), shape).map(|mounted| Volume { mounted })
     }
 }
 
@@ -151,13 +152,22 @@ impl<D: Device> Volume<D> {
         OverDevice::mount(device).map(|mounted| Volume { mounted })
     }
 
-    /// Makes an empty volume of 64 to 1,024 segments, a multiple of 8, and mounts it. It takes [`sectors_of`](crate::sectors_of) sectors.
-    /// Whatever the device held is gone.
+    /// Makes an empty volume of 64 to 1,024 segments, a multiple of 8, and mounts it. Its units are sectors. Whatever the device held is
+    /// gone.
     ///
     /// # Errors
     /// `Inval` for another number of segments, `TooSmall`, `NoMemory`, and `Write`, `Sync` or `Io` where the device fails.
     pub fn format_over(device: D, segments: u32, version: Version) -> Result<Volume<D>> {
-        OverDevice::format(device, segments, version as u32).map(|mounted| Volume { mounted })
+        Volume::format_over_with(device, Shape::new(segments, version))
+    }
+
+    /// Makes an empty volume of a shape, as [`format_over`](Volume::format_over) makes one whose units are sectors. It takes
+    /// [`sectors`](Shape::sectors). The device is told the writes of single sectors, whatever the unit is.
+    ///
+    /// # Errors
+    /// `Inval` where there are no volumes of this shape, and those of [`format_over`](Volume::format_over).
+    pub fn format_over_with(device: D, shape: Shape) -> Result<Volume<D>> {
+        OverDevice::format(device, shape).map(|mounted| Volume { mounted })
     }
 
     /// The device, as the last call left it. Nothing is saved: call [`sync`](Volume::sync) before.
@@ -365,11 +375,18 @@ impl<D: Backend> Volume<D> {
     /// # Errors
     /// None of its own.
     pub fn version(&mut self) -> Result<Version> {
-        let number = self.mounted.look(Library::version)?;
-        Ok(if number == 1 { Version::One } else { Version::Two })
+        self.mounted.look(Library::version).map(Version::of)
     }
 
-    /// Makes version 2 of the layout's version. There is no way back.
+    /// What the volume was made with, and the version that it has now: [`make_with`](crate::make_with) makes another one like it.
+    ///
+    /// # Errors
+    /// None of its own.
+    pub fn shape(&mut self) -> Result<Shape> {
+        self.mounted.look(Library::shape)
+    }
+
+    /// Makes version 2 of version 1 of the layout. There is no way back. A later version stays.
     ///
     /// # Errors
     /// None of its own.
@@ -377,7 +394,7 @@ impl<D: Backend> Volume<D> {
         self.mounted.change(Library::upgrade).map(drop)
     }
 
-    /// Lets a directory of a volume of version 2 take names of up to 123 bytes. It then has twice as many bytes.
+    /// Lets a directory of a volume of version 2 or later take names of up to 123 bytes. It then has twice as many bytes.
     ///
     /// # Errors
     /// Those of the path, `NotDir`, `Inval` in version 1, `NoSpace`.

@@ -2,7 +2,7 @@
 mod common;
 
 use common::{Ground, refusal};
-use pansuyog::{Backend, Entry, Handle, Kind, Space, Stat, Version, Volume};
+use pansuyog::{Backend, Entry, Handle, Kind, Shape, Space, Stat, Version, Volume};
 use std::thread;
 
 over_both! {
@@ -15,6 +15,7 @@ over_both! {
     idle_moments_clean_pass_by_pass
     a_damaged_volume_tells_its_stage
     a_volume_goes_to_another_thread
+    a_volume_keeps_its_shape
 }
 
 fn bytes_of<D: Backend>(volume: &mut Volume<D>, path: &str) -> Vec<u8> {
@@ -234,4 +235,32 @@ where
         scope.spawn(|| volume.mkdir("/made").unwrap());
     });
     assert_eq!(volume.stat("/made").unwrap().kind, Kind::Directory);
+}
+
+fn a_volume_keeps_its_shape(ground: &mut impl Ground) {
+    let sectors = Shape::new(64, Version::Three);
+    for shape in [
+        sectors,
+        Shape { unit: 8, ..sectors },
+        Shape {
+            unit: 64,
+            segments: 1_024,
+            ..sectors
+        },
+    ] {
+        let mut volume = ground.format_with(shape);
+        assert_eq!((volume.shape().unwrap(), volume.version().unwrap()), (shape, Version::Three));
+        let handle = volume.create("/f").unwrap();
+        volume.pwrite(handle, 0, &[97; 3_000]).unwrap();
+        volume.sync().unwrap();
+        volume.upgrade().unwrap();
+        let mut volume = ground.stopped(volume);
+        assert_eq!(volume.shape().unwrap(), shape);
+        assert!(bytes_of(&mut volume, "/f") == [97; 3_000]);
+    }
+    let mut volume = ground.format(72, Version::One);
+    assert_eq!(volume.shape().unwrap(), Shape::new(72, Version::One));
+    volume.upgrade().unwrap();
+    volume.sync().unwrap();
+    assert_eq!(ground.stopped(volume).shape().unwrap(), Shape::new(72, Version::Two));
 }

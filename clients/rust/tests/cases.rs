@@ -2,7 +2,7 @@
 mod common;
 
 use common::Ground;
-use pansuyog::{Backend, Error, Handle, Kind, Stat, Version, Volume};
+use pansuyog::{Backend, Error, Handle, Kind, Shape, Stat, Version, Volume};
 use std::fs;
 use std::path::{Path, PathBuf};
 use std::str::from_utf8;
@@ -183,9 +183,16 @@ fn text_of(path: &Path, extension: &str) -> Option<String> {
 fn difference(path: &Path, ground: &mut impl Ground) -> Option<String> {
     let name = path.file_name().unwrap().to_str().unwrap();
     let segments = if name.contains(".1024.") { 1024 } else { 64 };
-    let version = if name.contains(".v2.") { Version::Two } else { Version::One };
+    let shape = match name {
+        _ if name.contains(".v2.") => Shape::new(segments, Version::Two),
+        _ if name.contains(".v3.") => Shape {
+            unit: 8,
+            ..Shape::new(segments, Version::Three)
+        },
+        _ => Shape::new(segments, Version::One),
+    };
     let mut script = Script {
-        volume: ground.format(segments, version),
+        volume: ground.format_with(shape),
     };
     let (lines, replies) = (text_of(path, "script").unwrap(), text_of(path, "replies").unwrap());
     let mut wanted = replies.lines();
@@ -208,20 +215,19 @@ fn difference(path: &Path, ground: &mut impl Ground) -> Option<String> {
     (found.trim_end() != tree.trim_end()).then(|| format!("{name}: the tree is {found}"))
 }
 
-/// The scripts that have no bad line, which is a matter of the language alone, and none on volumes of version 3, which no call makes.
+/// The scripts that have no bad line, which is a matter of the language alone.
 fn scripts() -> Vec<PathBuf> {
     let folder = Path::new(env!("CARGO_MANIFEST_DIR")).join("../../crates/lfs_trials/data");
     let files = fs::read_dir(folder).unwrap().map(|it| it.unwrap().path());
     let has_bad_line = |it: &PathBuf| text_of(it, "replies").unwrap().contains("bad ");
-    let is_of_version_3 = |it: &PathBuf| it.with_extension("").extension().is_some_and(|it| it == "v3");
     files
-        .filter(|it| it.extension().is_some_and(|it| it == "script") && !has_bad_line(it) && !is_of_version_3(it))
+        .filter(|it| it.extension().is_some_and(|it| it == "script") && !has_bad_line(it))
         .collect()
 }
 
 fn each_script_has_its_replies(ground: &mut impl Ground) {
     let scripts = scripts();
-    assert!(scripts.len() >= 67);
+    assert!(scripts.len() >= 68);
     let differences: Vec<String> = scripts.iter().filter_map(|it| difference(it, ground)).collect();
     assert_eq!(differences, Vec::<String>::new());
 }

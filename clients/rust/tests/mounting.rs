@@ -2,7 +2,7 @@
 mod common;
 
 use common::{Ground, MemoryDevice, TemporaryImage, refusal};
-use pansuyog::{Error, Version, Volume};
+use pansuyog::{Error, Shape, Version, Volume};
 use std::fs::{self, File};
 use std::io::ErrorKind;
 use std::path::Path;
@@ -189,4 +189,92 @@ fn a_volume_is_made_in_place_of_what_an_image_holds() {
     let mut volume = Volume::mount(image.path()).unwrap();
     assert_eq!(volume.version().unwrap(), Version::One);
     assert_eq!(volume.readdir("/").unwrap().len(), 1);
+}
+
+/// Shapes of which there are no volumes.
+fn unknown_shapes() -> [Shape; 6] {
+    let shape = Shape::new(64, Version::Three);
+    [
+        Shape { segments: 65, ..shape },
+        Shape {
+            segment_sectors: 32,
+            ..shape
+        },
+        Shape { unit: 0, ..shape },
+        Shape { unit: 3, ..shape },
+        Shape { unit: 128, ..shape },
+        Shape {
+            version: Version::Two,
+            unit: 2,
+            ..shape
+        },
+    ]
+}
+
+#[test]
+fn a_shape_has_its_sectors() {
+    assert_eq!(Shape::new(64, Version::One).sectors(), Some(2 + 64 * 64));
+    assert_eq!(Shape::new(1_024, Version::Two).sectors(), Some(2 + 64 * 1_024));
+    for unit in [1, 2, 4, 8, 16, 32, 64] {
+        assert_eq!(
+            Shape {
+                unit,
+                ..Shape::new(72, Version::Three)
+            }
+            .sectors(),
+            Some(256 + 64 * 72)
+        );
+    }
+    assert_eq!(unknown_shapes().map(Shape::sectors), [None; 6]);
+}
+
+/// The shape is looked at before the image's size, and what is refused leaves the image as it was.
+#[test]
+fn a_volume_of_a_shape_is_made_or_refused() {
+    let image = TemporaryImage::new("shaped");
+    let shape = Shape {
+        unit: 8,
+        ..Shape::new(72, Version::Three)
+    };
+    for unknown in unknown_shapes() {
+        assert_eq!(refusal(pansuyog::make_with(image.path(), unknown)), "Inval");
+    }
+    assert!(!image.path().exists());
+    pansuyog::make_with(image.path(), shape).unwrap();
+    assert_eq!(fs::metadata(image.path()).unwrap().len(), 512 * (256 + 64 * 72));
+    assert_eq!(refusal(pansuyog::make_with(image.path(), shape)), "Exist");
+    let before = fs::read(image.path()).unwrap();
+    for unknown in unknown_shapes() {
+        assert_eq!(
+            refusal(Volume::format_with(
+                image.path(),
+                Shape {
+                    segments: unknown.segments + 64,
+                    ..unknown
+                }
+            )),
+            "Inval"
+        );
+    }
+    assert_eq!(
+        refusal(Volume::format_with(image.path(), Shape { segments: 80, ..shape })),
+        "TooSmall"
+    );
+    assert!(fs::read(image.path()).unwrap() == before);
+    let mut volume = Volume::format_with(image.path(), Shape { unit: 64, ..shape }).unwrap();
+    assert_eq!(volume.shape().unwrap(), Shape { unit: 64, ..shape });
+}
+
+/// A device that is one sector too short for version 3 may have a volume of version 2.
+#[test]
+fn a_volume_of_a_shape_is_made_on_a_device_or_refused() {
+    let shape = Shape::new(64, Version::Three);
+    let mut device = MemoryDevice::of(256 + 64 * 64 - 1);
+    for unknown in unknown_shapes() {
+        assert_eq!(refusal(Volume::format_over_with(&mut device, unknown)), "Inval");
+    }
+    assert_eq!(refusal(Volume::format_over_with(&mut device, shape)), "TooSmall");
+    assert!(device.sectors.iter().flatten().all(|it| *it == 0));
+    let mut volume = Volume::format_over_with(&mut device, Shape::new(64, Version::Two)).unwrap();
+    assert_eq!(volume.shape().unwrap(), Shape::new(64, Version::Two));
 }

@@ -1,1 +1,2 @@
+pub mod AmountWords
 pub mod Told

@@ -4,7 +4,7 @@ ghost use Rattle.std.specs.Io.KnownBytes.{Keeps};
 ghost use Rattle.lfs_model.specs.Device.{Carries};
 ghost use Rattle.lfs_device.specs.MemoryDevice.{device_state};
 ghost use Rattle.lfs_grammar.specs.Asking.{HasWord, IsStrict};
-ghost use Rattle.lfs_fs.specs.VolumeUnits.{in_volume};
+ghost use Rattle.lfs_volume.specs.Standing.{in_volume};
 ghost use Rattle.lfs_fs.specs.log.Mounting.{HasWholeUnits};
 ghost use Rattle.lfs_script.specs.Heard.{HearsTo};
 ghost use Rattle.lfs_command.specs.Playing.{PlaysToRefusal, Plays, PlaysStrictly, TellsSaved};
@@ -12,14 +12,16 @@ ghost use Rattle.lfs_command.specs.Telling.{IsTold, IsToldPlainly, IsToldStrictl
 
 use crate::asked::{fault_of, left_of, look_of, patience_of};
 use crate::changing::change_volume;
+use crate::copying::{Images, copy_volume};
 use crate::putting::put_into;
+use crate::shaping::read_shape;
 use crate::simulation;
-use crate::simulation::{Plan, read_plan};
+use crate::simulation::{Trial, plan_of, read_trial};
 use crate::terminals::Terminals;
 use lfs_bad_lines::{LineKeeper, put_bad_line};
 use lfs_device::{FileDeviceIn, Left, MemDevice, SectorDevice, ThisWorld, World};
-use lfs_fs::{Fs, InVolume};
-use lfs_grammar::{Action, Request, read_request};
+use lfs_fs::{Fs, InVolume, find_volume};
+use lfs_grammar::{Action, Request, ShapeWords, read_request};
 use lfs_host::fault::{Ending, Fault, Outcome, Refusal, Said};
 use lfs_host::image;
 use lfs_host::image::{Making, Patience, unmounted};
@@ -31,7 +33,6 @@ use lfs_script::{
 };
 use lfs_show::looking::{Look, end_look, show};
 use lfs_show::viewing::look;
-use lfs_words::read_u32;
 use std::alloc::{AllocError, Global};
 use std::fs::File;
 use std::io::{BufWriter, Read, Write};
@@ -61,21 +62,15 @@ struct Answered<'a> {
     unsaved: Option<&'a str>,
 }
 
-// How a volume is made that has so many segments, as a word still. A person is asked where there is
-// one, unless it is forced.
+// How a volume is made, by words. A person is asked where there is one, unless it is forced.
 fn making_of(
     terminals: Terminals,
-    segments: &str,
-    version: u32,
+    shape: ShapeWords<'_>,
     force: bool,
     reserve: bool,
 ) -> Result<Making, Fault> {
-    let Some(segments) = read_u32(segments.as_bytes()) else {
-        return Err(Fault::Segments);
-    };
     Ok(Making {
-        segments,
-        version,
+        wanted: read_shape(shape)?,
         force,
         asks: terminals.input && terminals.errors && !force,
         reserve,
@@ -207,16 +202,21 @@ fn run<Here: World, R: Files<File = File> + Clock, I: Read, W: Write>(
     output: &mut W,
 ) -> Played<Ending> {
     match image::open_to_write::<Here, R>(rt, alloc, image) {
-        Ok(device) => {
-            let mut glances = Glances::new();
-            let device = InVolume::new(device);
-            let (played, device) = play(alloc, device, input, output, &mut glances);
-            let mut device = device.into_inner();
-            Played {
-                end: explain_ending(played.end, &mut device),
-                is_saved: played.is_saved,
+        Ok(device) => match find_volume(device) {
+            Ok(found) => {
+                let mut glances = Glances::new();
+                let (played, used) = play(alloc, found, input, output, &mut glances);
+                let mut device = used.into_inner();
+                Played {
+                    end: explain_ending(played.end, &mut device),
+                    is_saved: played.is_saved,
+                }
             }
-        }
+            Err((fault, mut device)) => Played {
+                end: explain_ending(refuse(output, Refusal::from(fault)), &mut device),
+                is_saved: true,
+            },
+        },
         Err(refusal) => Played {
             end: refuse(output, refusal),
             is_saved: true,
@@ -304,16 +304,24 @@ fn run_strict<Here: World, R: Files<File = File> + Clock, I: Read, W: Write>(
     output: &mut W,
 ) -> Played<Outcome> {
     match image::open_to_write::<Here, R>(rt, alloc, image) {
-        Ok(device) => {
-            let mut glances = Glances::new();
-            let device = InVolume::new(device);
-            let (played, device) = play_strict(alloc, device, input, output, &mut glances);
-            let mut device = device.into_inner();
-            Played {
-                end: explain_outcome(played.end, &mut device),
-                is_saved: played.is_saved,
+        Ok(device) => match find_volume(device) {
+            Ok(found) => {
+                let mut glances = Glances::new();
+                let (played, used) = play_strict(alloc, found, input, output, &mut glances);
+                let mut device = used.into_inner();
+                Played {
+                    end: explain_outcome(played.end, &mut device),
+                    is_saved: played.is_saved,
+                }
             }
-        }
+            Err((fault, mut device)) => {
+                let refused = outcome_of(refuse(output, Refusal::from(fault)));
+                Played {
+                    end: explain_outcome(refused, &mut device),
+                    is_saved: true,
+                }
+            }
+        },
         Err(refusal) => Played {
             end: outcome_of(refuse(output, refusal)),
             is_saved: true,
@@ -386,11 +394,14 @@ fn finish_sim<W: Write>(
 // Runs a script on a volume in memory, prints the number of writes, and the tree after a stop.
 fn sim<I: Read, W: Write>(
     alloc: Global,
-    plan: Result<Plan, Fault>,
+    trial: Result<Trial, Fault>,
     input: &mut I,
     output: &mut W,
 ) -> Result<Ending, Fault> {
-    let plan = plan?;
+    let plan = match plan_of(trial?) {
+        Ok(plan) => plan,
+        Err(refusal) => return refuse(output, refusal),
+    };
     let device = match simulation::start(alloc, plan) {
         Ok(device) => device,
         Err(refusal) => return refuse(output, refusal),
@@ -428,12 +439,11 @@ fn act<Here: World, R: Files<File = File> + Clock, I: Read, W: Write, E: Write>(
 ) -> Result<Ending, Fault> {
     match action {
         Action::Mkfs {
-            segments,
-            version,
+            shape,
             force,
             reserve,
         } => {
-            let making = making_of(terminals, segments, version, force, reserve)?;
+            let making = making_of(terminals, shape, force, reserve)?;
             mkfs::<Here, R, I, W, E>(rt, alloc, image, making, input, output, errors)
         }
         Action::Query { query, wait } => {
@@ -534,15 +544,16 @@ fn answer_request<'a, R: Files<File = File> + Clock, I: Read, W: Write, E: Write
             let unsaved = None;
             Answered { said, unsaved }
         }
-        Request::Sim {
-            segments,
-            version,
-            stop,
-            left,
-            unit,
-        } => {
-            let plan = read_plan(segments, version, stop, left_of(left), unit);
-            let said = said(IN_MEMORY, None, sim(alloc, plan, input, output));
+        Request::Copy { old, new, wait } => {
+            let images = Images { old, new };
+            let copied = copy_volume::<ThisWorld, R, W>(rt, alloc, images, wait, output);
+            let said = said(copied.image, None, copied.ending);
+            let unsaved = None;
+            Answered { said, unsaved }
+        }
+        Request::Sim { shape, stop, left } => {
+            let trial = read_trial(shape, stop, left_of(left));
+            let said = said(IN_MEMORY, None, sim(alloc, trial, input, output));
             let unsaved = None;
             Answered { said, unsaved }
         }

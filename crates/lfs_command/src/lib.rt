@@ -1,10 +1,13 @@
 //! The commands of the program `lfs`.
 #![tactic(auto)]
 
+mod amounts;
 mod asked;
 mod changing;
 mod commands;
+mod copying;
 mod putting;
+mod shaping;
 mod simulation;
 mod terminals;
 

@@ -3,7 +3,7 @@
 
 use anyhow::{Error, Result};
 use lfs_device::{FileDevice, FileFault, Left, MemDevice, SectorDevice};
-use lfs_fs::{Fs, FsError, InVolume, format};
+use lfs_fs::{Fs, FsError, InVolume, find_volume, format};
 use std::alloc::Global;
 use std::fs::File;
 use std::rt::Files;
@@ -46,10 +46,8 @@ fn refused(fault: FsError) -> Error {
 
 /// The volume that a device holds.
 fn mounted<D: SectorDevice + Drop>(alloc: Global, device: D) -> Result<Fs<InVolume<D>>> {
-    match Fs::mount(alloc, InVolume::new(device)) {
-        Ok(fs) => Ok(fs),
-        Err((fault, _)) => Err(Error::msg(fault.name())),
-    }
+    let found = find_volume(device).map_err(|(fault, _)| Error::msg(fault.name()))?;
+    Fs::mount(alloc, found).map_err(|(fault, _)| Error::msg(fault.name()))
 }
 
 /// Makes an empty volume.

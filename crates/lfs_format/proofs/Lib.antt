@@ -1,3 +1,5 @@
 mod FirstMoments
+pub mod FirstPlaces
 mod FirstSectors
+mod FirstSlots
 mod FirstWrites

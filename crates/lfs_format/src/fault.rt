@@ -10,7 +10,7 @@ pub enum FormatFault {
     /// The device has too few sectors.
     TooSmall,
     /// A device call failed. Where the device's units are sectors, it holds what stood there, with
-    /// slots that may be cleared, or no checkpoint, or the empty volume.
+    /// sectors 0, 1 and 128 that may be cleared, or no checkpoint, or the empty volume.
     Device,
 }
 

@@ -1,9 +1,15 @@
 //! What volumes may be made.
-ghost use Rattle.std.specs.Prelude.{◌≡◌, ◌↔◌, IsTrue};
+ghost use Rattle.std.specs.Prelude.{◌≡◌, ◌<◌, ◌↔◌, ℕ, IsTrue};
+ghost use Rattle.lfs_model.specs.Checkpoint.{IsSegmentCount};
+ghost use Rattle.lfs_model.specs.Reach.{segment_start};
+ghost use Rattle.lfs_places.specs.Places.{volume_size};
+ghost use Rattle.lfs_format.specs.Making.{places_by};
 ghost use Rattle.lfs_format.specs.Shape.{IsShape, unit_power_of};
 
 use lfs_layout::{is_segment_count, is_version, most_unit_power};
-use lfs_model::limits::SEGMENT_SECTORS;
+use lfs_model::limits::{CHECKPOINT_SLOTS, LAST_VERSION, SEGMENT_SECTORS};
+use lfs_places::Places;
+use lfs_places::limits::FIRST_SEGMENT;
 
 /// What a new volume is to have.
 #[derive(Clone, Copy, Debug, PartialEq, Eq)]
@@ -30,6 +36,19 @@ impl Shape {
             && 1 << self.unit_power() == self.unit
     }
 
+    /// How many sectors a volume of this shape takes: `format_with` refuses a device with fewer as
+    /// `TooSmall`. 0 where there are no volumes of this shape.
+    pub fn sectors(&self) -> u32
+        ensures fits { IsShape self.now → (size : ℕ) → size < result
+            ↔ (volume_size (places_by self.now.version) size < segment_start self.now.segments) }
+        ensures none { (IsShape self.now → ⊥) → result ≡ 0 }
+    {
+        if !self.is_fit() {
+            return 0;
+        }
+        least_sectors(self.version, self.segments)
+    }
+
     /// The logarithm to base 2 of how many sectors a unit has; 0 where that is no power of 2 in
     /// 1..=64.
     pub(crate) fn unit_power(&self) -> u8
@@ -45,4 +64,29 @@ impl Shape {
             _ => 0,
         }
     }
+}
+
+/// The places by which a volume of this version stands.
+pub(crate) fn places_by(version: u32) -> Places
+    ensures { result ≡ places_by version }
+{
+    if version == LAST_VERSION {
+        Places::New
+    } else {
+        Places::Old
+    }
+}
+
+/// How many sectors a device has at least that has room for a volume of this version and of so many
+/// segments.
+pub(crate) fn least_sectors(version: u32, segments: u32) -> u32
+    requires { IsSegmentCount segments }
+    ensures { (size : ℕ) → size < result
+        ↔ (volume_size (places_by version) size < segment_start segments) }
+{
+    let front = match places_by(version) {
+        Places::Old => CHECKPOINT_SLOTS,
+        Places::New => FIRST_SEGMENT,
+    };
+    front + SEGMENT_SECTORS * segments
 }

@@ -1,6 +1,7 @@
 mod Prelude
 mod Exits
 pub mod Bearing
+pub mod FoundVolumes
 mod calls
 mod volume
 mod paths
@@ -22,5 +23,4 @@ mod scripts
 pub mod ScriptRuns
 pub mod CallRuns
 pub mod Sessions
-pub mod InVolumes
 pub use Rattle.lfs_store.proofs.of_log.WholeUnits as WholeUnits

@@ -4,8 +4,10 @@ pub mod Handles
 pub mod Asking
 pub mod Volume
 pub mod Seen
+pub mod Shapes
 pub mod Accepting
 pub mod Available
+pub mod Finding
 pub mod Finishing
 pub mod Answers
 pub mod Mounting
@@ -13,7 +15,6 @@ pub mod Reading
 pub mod Naming
 pub mod Scripts
 pub mod InARow
-pub mod VolumeUnits
 pub mod Drafted
 pub mod Renaming
 pub mod Upgrading

@@ -42,7 +42,7 @@ fn cached<D: SectorDevice>(alloc: Global, device: D) -> Result<CachedDevice<D>, 
 impl<D: SectorDevice> Fs<D> {
     /// Mounts the device's volume, without open handles, once its log and its tree were walked
     /// over. It writes nothing, and syncs once at most. The units of the device lie within those of
-    /// its volume: `InVolume` makes any device such a one.
+    /// its volume: `find_volume` gives any device as such a one.
     ///
     /// # Errors
     ///

@@ -1,17 +1,21 @@
 //! Calls that read: bytes of a file, what is told of an object, and of the volume.
+ghost use Rattle.std.specs.Prelude.{◌≡◌, true, false, IfOk, IfErr, OnOk, OnErr};
 ghost use Rattle.lfs_model.specs.Call as call;
 ghost use Rattle.lfs_model.specs.Call.{Data, FormatVersion, LstatOf, Pread, Readlink, StatOf, Status, Text};
+ghost use Rattle.lfs_model.specs.Tree.{State};
 ghost use Rattle.lfs_fs.specs.Answers.{room_of, status_of};
 ghost use Rattle.lfs_fs.specs.Reading.{stat_call};
 ghost use Rattle.lfs_fs.specs.Seen.{answer_by, seen};
-ghost use Rattle.lfs_fs.specs.Volume.{Serves};
+ghost use Rattle.lfs_fs.specs.Shapes.{IsShapeOf};
+ghost use Rattle.lfs_fs.specs.Volume.{Runs, Serves};
 
 use crate::error::FsError;
 use crate::fs::Fs;
 use crate::rows::{Space, Stat};
 use lfs_device::SectorDevice;
 use lfs_entries::{read_link, read_object};
-use lfs_model::limits::LONGEST_TRANSFER;
+use lfs_format::Shape;
+use lfs_model::limits::{LONGEST_TRANSFER, SEGMENT_SECTORS};
 use lfs_path::header_of;
 
 impl<D: SectorDevice> Fs<D> {
@@ -105,7 +109,7 @@ impl<D: SectorDevice> Fs<D> {
         Ok(self.space_of(self.store.space()))
     }
 
-    /// The version of the volume's layout: 1 or 2.
+    /// The version of the volume's layout: 1 to 3.
     ///
     /// # Errors
     ///
@@ -117,5 +121,30 @@ impl<D: SectorDevice> Fs<D> {
     {
         self.begin()?;
         Ok(self.store.version())
+    }
+
+    /// The shape of the volume, by which `format_with` makes another one like it.
+    ///
+    /// # Errors
+    ///
+    /// `Halted` alone.
+    pub fn shape(&self) -> Result<Shape, FsError>
+        ensures shape { IfOk result (IsShapeOf (seen self.now)) }
+        ensures model { IfOk result (λ shape. (s : State)
+            → Runs D.SectorDevice.state (seen self.now) s → s.version ≡ shape.version) }
+        ensures running { OnOk result ((seen self.now).log.halted ≡ false) }
+        ensures halted { OnErr result ((seen self.now).log.halted ≡ true) }
+        ensures fault { IfErr result (λ fault. fault ≡ FsError.Halted) }
+    {
+        if self.store.is_halted() {
+            return Err(FsError::Halted);
+        }
+        self.store.has_segment_count();
+        Ok(Shape {
+            segments: self.store.segments(),
+            version: self.store.version(),
+            segment_sectors: SEGMENT_SECTORS,
+            unit: u32::from(self.store.usage().unit_sectors()),
+        })
     }
 }

@@ -1,13 +1,17 @@
 //! Devices that aren't formatted or mounted, with the stage of damage.
 use crate::volume::{SECTORS, device_of, formatted, mounted};
 use lfs_device::{DeviceCall, MemDevice, SectorDevice};
-use lfs_fs::{FormatFault, Fs, InVolume, MountFault, format};
+use lfs_fs::{FormatFault, Fs, MountFault, find_volume, format};
 use std::alloc::Global;
 use std::test::Fail;
 
 /// Why a device isn't mounted.
 pub fn fault(alloc: Global, device: MemDevice) -> Option<MountFault> {
-    match Fs::mount(alloc, InVolume::new(device)) {
+    let found = match find_volume(device) {
+        Ok(found) => found,
+        Err((fault, _)) => return Some(fault),
+    };
+    match Fs::mount(alloc, found) {
         Ok(_) => None,
         Err((fault, _)) => Some(fault),
     }
@@ -47,7 +51,11 @@ fn a_mount_over_failing_calls(rt: HostRuntime) -> Result<(), Fail> {
 
 /// The device of a mount, also where memory is refused to it.
 fn behind_mount(alloc: Global, device: MemDevice) -> Result<MemDevice, Fail> {
-    match Fs::mount(alloc, InVolume::new(device)) {
+    let found = match find_volume(device) {
+        Ok(found) => found,
+        Err((fault, _)) => return Err(Fail::from(fault)),
+    };
+    match Fs::mount(alloc, found) {
         Ok(fs) => Ok(fs.into_device().into_inner()),
         Err((MountFault::NoMemory, device)) => Ok(device.into_inner()),
         Err((fault, _)) => Err(Fail::from(fault)),

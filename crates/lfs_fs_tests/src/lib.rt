@@ -14,6 +14,8 @@ mod long_names;
 #[cfg(test)]
 mod path;
 #[cfg(test)]
+mod remaking;
+#[cfg(test)]
 mod steps;
 #[cfg(test)]
 mod stops;

@@ -6,7 +6,7 @@ use lfs_device::{InSectors, MemDevice};
 use lfs_fs::path::WalkFault;
 use lfs_fs::path::dirs::add;
 use lfs_fs::store::{Header, Store};
-use lfs_fs::{Fs, InVolume, format_version};
+use lfs_fs::{Fs, InVolume, find_volume, format_version};
 use lfs_layout::is_name;
 use lfs_model::{FileNumber, Kind};
 use std::alloc::Global;
@@ -36,7 +36,11 @@ pub fn formatted(alloc: Global, segments: u32) -> Result<MemDevice, Fail>
 
 /// The volume of a device, on the heap, where each end of a test drops it by one call.
 pub fn mounted(alloc: Global, device: MemDevice) -> Result<Box<Fs<InVolume<MemDevice>>>, Fail> {
-    match Fs::mount(alloc, InVolume::new(device)) {
+    let found = match find_volume(device) {
+        Ok(found) => found,
+        Err((fault, _)) => return Err(Fail::from(fault)),
+    };
+    match Fs::mount(alloc, found) {
         Ok(fs) => Ok(Box::new(alloc, fs)?),
         Err((fault, _)) => Err(Fail::from(fault)),
     }

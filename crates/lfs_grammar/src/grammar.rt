@@ -7,6 +7,7 @@ use std::alloc::{AllocError, Global};
 #[derive(Clone, Copy)]
 pub enum Verb {
     Mkfs,
+    Copy,
     Check,
     Mount,
     Run,
@@ -38,6 +39,8 @@ enum Form<'a> {
     Value,
     /// An option with a value, which may be left out.
     OptionalValue,
+    /// An option with a value, which has to be given where another one isn't, and not beside it.
+    EitherValue(&'a str),
     /// An option with one of these values, which has to be given.
     Choice(&'a [&'a str]),
     /// An option with one of these values, which may be left out.
@@ -74,6 +77,10 @@ struct Usage<'a> {
 
 pub const IMAGE: &str = "IMAGE";
 
+pub const OLD: &str = "OLD";
+
+pub const NEW: &str = "NEW";
+
 pub const PATH: &str = "PATH";
 
 pub const FILE: &str = "FILE";
@@ -86,6 +93,8 @@ pub const TO: &str = "TO";
 
 pub const SEGMENTS: &str = "segments";
 
+pub const SIZE: &str = "size";
+
 pub const PASSES: &str = "passes";
 
 pub const FORMAT: &str = "format";
@@ -93,6 +102,8 @@ pub const FORMAT: &str = "format";
 pub const FIRST_FORMAT: &str = "1";
 
 pub const SECOND_FORMAT: &str = "2";
+
+pub const THIRD_FORMAT: &str = "3";
 
 pub const FORCE: &str = "force";
 
@@ -120,7 +131,7 @@ pub const CHECKPOINT: &str = "checkpoint";
 pub const OLDER: &str = "older";
 
 /// The words of the versions of the layout.
-const FORMATS: &[&str] = &[FIRST_FORMAT, SECOND_FORMAT];
+const FORMATS: &[&str] = &[FIRST_FORMAT, SECOND_FORMAT, THIRD_FORMAT];
 
 const VERSION: &str = "0.1.0";
 
@@ -131,6 +142,20 @@ const THE_IMAGE: Parameter = Parameter {
     form: Form::Word,
     value: IMAGE,
     help: "The image file or block device that holds the volume",
+};
+
+const OLD_IMAGE: Parameter = Parameter {
+    name: OLD,
+    form: Form::Word,
+    value: OLD,
+    help: "The image file or block device that holds the tree",
+};
+
+const NEW_IMAGE: Parameter = Parameter {
+    name: NEW,
+    form: Form::Word,
+    value: NEW,
+    help: "The image file or block device of an empty volume, as mkfs makes it",
 };
 
 const THE_PATH: Parameter = Parameter {
@@ -198,9 +223,16 @@ const RAW_NAMES: Parameter = Parameter {
 
 const THE_SEGMENTS: Parameter = Parameter {
     name: SEGMENTS,
-    form: Form::Value,
+    form: Form::EitherValue(SIZE),
     value: "N",
     help: "How many segments of 32 KiB: 64 to 1024, a multiple of 8",
+};
+
+const THE_SIZE: Parameter = Parameter {
+    name: SIZE,
+    form: Form::EitherValue(SEGMENTS),
+    value: "BYTES",
+    help: "The bytes of its segments, at most 32M; on a block device `max` too",
 };
 
 const THE_PASSES: Parameter = Parameter {
@@ -214,7 +246,7 @@ const THE_FORMAT: Parameter = Parameter {
     name: FORMAT,
     form: Form::OptionalChoice(FORMATS),
     value: "F",
-    help: "The version of its layout, or else 1; in 2 names have up to 123 bytes",
+    help: "The version of its layout, or else 1, and with --size 3",
 };
 
 const BY_FORCE: Parameter = Parameter {
@@ -252,11 +284,18 @@ const WHAT_IS_LEFT: Parameter = Parameter {
     help: "What stays of sectors that aren't synced",
 };
 
-const THE_UNIT: Parameter = Parameter {
+const VOLUME_UNIT: Parameter = Parameter {
     name: UNIT,
     form: Form::OptionalValue,
     value: "BYTES",
-    help: "The bytes of a unit, or else 512: a power of two up to 65536",
+    help: "The bytes of its units, a power of two from 512 to 32K; in format 3 alone",
+};
+
+const DEVICE_UNIT: Parameter = Parameter {
+    name: UNIT,
+    form: Form::OptionalValue,
+    value: "BYTES",
+    help: "The bytes of a unit, or else 512: a power of two up to 64K",
 };
 
 const IN_WORDS: Parameter = Parameter {
@@ -273,6 +312,13 @@ const WAITING: Parameter = Parameter {
     help: "Wait until no other program writes IMAGE",
 };
 
+const WAITING_FOR_OLD: Parameter = Parameter {
+    name: WAIT,
+    form: Form::Switch,
+    value: "",
+    help: "Wait until no other program writes OLD",
+};
+
 const WHICH_CHECKPOINT: Parameter = Parameter {
     name: CHECKPOINT,
     form: Form::OptionalChoice(&[OLDER]),
@@ -285,13 +331,36 @@ const VOLUME_USAGES: &[Usage] = &[
         verb: Verb::Mkfs,
         name: "mkfs",
         about: "Make an empty volume",
-        details: "Make an empty volume. A new file gets its name once it is whole. A file that is\n\
-            there is emptied: at a terminal, if it has bytes, only where the answer to a\n\
-            question is yes, or with --force. A block device keeps its length, and is\n\
-            formatted only with --force, and only while it isn't mounted. An image in a\n\
-            file is sparse without --reserve, so that a full disk shows only as the image\n\
-            is written.",
-        parameters: &[THE_IMAGE, THE_SEGMENTS, THE_FORMAT, BY_FORCE, WITH_ROOM],
+        details: "Make an empty volume, of the bytes or the segments that are given. BYTES are a\n\
+            decimal number, or one directly before K, M or G. A new file gets its name once\n\
+            it is whole. With --size a file that isn't empty is left as it is without\n\
+            --force. With --segments it is emptied: at a terminal, if it has bytes, only\n\
+            where the answer to a question is yes, or with --force. A block device keeps its\n\
+            length, and is formatted only with --force, and only while it isn't mounted. In\n\
+            format 3 a unit has 4096 bytes, or as many as a block device tells of its own if\n\
+            these are more. An image in a file is sparse without --reserve, so that a full\n\
+            disk shows only as the image is written.",
+        parameters: &[
+            THE_IMAGE,
+            THE_SIZE,
+            THE_SEGMENTS,
+            THE_FORMAT,
+            VOLUME_UNIT,
+            BY_FORCE,
+            WITH_ROOM,
+        ],
+    },
+    Usage {
+        verb: Verb::Copy,
+        name: "copy",
+        about: "Copy the tree of a volume into an empty one",
+        details: "Copy the tree of OLD into NEW, an empty volume of any format, and print `ok`, the\n\
+            number of names and that of the bytes of all files, once that is synced. Several\n\
+            names of one file stay so, and so do symbolic links and holes. OLD stays as it\n\
+            is. Where the tree doesn't fit nothing is written: a line `long` names a path\n\
+            that is too long for NEW. What a stop leaves in NEW isn't whole; mkfs --force\n\
+            empties it.",
+        parameters: &[OLD_IMAGE, NEW_IMAGE, WAITING_FOR_OLD],
     },
     Usage {
         verb: Verb::Check,
@@ -328,8 +397,16 @@ const VOLUME_USAGES: &[Usage] = &[
         details: "Run the script on standard input on a new volume in memory, whose device stops\n\
             within write K, and print the number of writes and the tree that a mount finds\n\
             then. A sector that is left `bad` spoils its whole unit, also the sectors of it\n\
-            that were synced.",
-        parameters: &[THE_SEGMENTS, THE_FORMAT, THE_STOP, WHAT_IS_LEFT, THE_UNIT],
+            that were synced. In format 3 the units of the volume are those of the device,\n\
+            up to 32K, or have 4096 bytes where none are given.",
+        parameters: &[
+            THE_SIZE,
+            THE_SEGMENTS,
+            THE_FORMAT,
+            THE_STOP,
+            WHAT_IS_LEFT,
+            DEVICE_UNIT,
+        ],
     },
     Usage {
         verb: Verb::Ls,
@@ -423,7 +500,7 @@ const FILE_USAGES: &[Usage] = &[
         details: "Give the volume the layout of format 2, and print `ok` once that is synced. Its\n\
             tree stays as it is. In directories that are made from then on names have up to\n\
             123 bytes; the line `widen` of a script lets an older one have them. A volume of\n\
-            format 2 stays as it is. No command makes one of format 1 of it again.",
+            format 2 or 3 stays as it is. No command makes one of format 1 of it again.",
         parameters: &[THE_IMAGE],
     },
     Usage {
@@ -485,6 +562,12 @@ fn argument<'a>(alloc: Global, parameter: Parameter<'a>) -> Result<Arg<'a>, Allo
                 .value_name(parameter.value)
                 .action(ArgAction::Set),
         ),
+        Form::EitherValue(other) => argument
+            .long(parameter.name)
+            .value_name(parameter.value)
+            .action(ArgAction::Set)
+            .required_unless_present(other)?
+            .conflicts_with(other),
         Form::Choice(values) => Ok(
             argument
                 .long(parameter.name)

@@ -6,4 +6,4 @@ mod reading;
 mod request;
 
 pub use reading::{RequestFault, read_request};
-pub use request::{Action, Change, LeftWord, Query, Request, Source};
+pub use request::{Action, Change, ExtentWord, LeftWord, Query, Request, ShapeWords, Source};

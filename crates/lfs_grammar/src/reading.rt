@@ -4,11 +4,11 @@ ghost use Rattle.std.specs.Bool.{OnTrue};
 ghost use Rattle.lfs_grammar.specs.Asking.{HasWord, IsStrict};
 
 use crate::grammar::{
-    CHECKPOINT, FILE, FIRST_FORMAT, FOLDER, FORCE, FORMAT, FROM, IMAGE, LEFT, LONG, NULL, OLDER,
-    PASSES, PATH, RESERVE, SECOND_FORMAT, SEGMENTS, STOP, STRICT, TO, UNIT, VERBOSE, Verb, WAIT,
-    program, verb_of,
+    CHECKPOINT, FILE, FIRST_FORMAT, FOLDER, FORCE, FORMAT, FROM, IMAGE, LEFT, LONG, NEW, NULL, OLD,
+    OLDER, PASSES, PATH, RESERVE, SECOND_FORMAT, SEGMENTS, SIZE, STOP, STRICT, THIRD_FORMAT, TO,
+    UNIT, VERBOSE, Verb, WAIT, program, verb_of,
 };
-use crate::request::{Action, Change, LeftWord, Query, Request, Source};
+use crate::request::{Action, Change, ExtentWord, LeftWord, Query, Request, ShapeWords, Source};
 use clap::error::ErrorKind;
 use clap::{ArgMatches, Error};
 use std::alloc::{AllocError, Global};
@@ -39,29 +39,50 @@ fn left_of(word: &str) -> Option<LeftWord> {
     }
 }
 
-// The version of the layout that is asked for: the first where none is.
-fn version_of(found: &ArgMatches<'_>) -> Option<u32> {
-    match found.get_str(FORMAT).unwrap_or(FIRST_FORMAT) {
+// The version of the layout that a word names.
+fn version_of(word: &str) -> Option<u32> {
+    match word {
         FIRST_FORMAT => Some(1),
         SECOND_FORMAT => Some(2),
+        THIRD_FORMAT => Some(3),
         _ => None,
     }
 }
 
+fn read_extent<'a>(found: &ArgMatches<'a>) -> Option<ExtentWord<'a>> {
+    match found.get_str(SIZE) {
+        Some(size) => Some(ExtentWord::Size(size)),
+        None => Some(ExtentWord::Segments(found.get_str(SEGMENTS)?)),
+    }
+}
+
+fn read_shape<'a>(found: &ArgMatches<'a>) -> Option<ShapeWords<'a>> {
+    Some(ShapeWords {
+        extent: read_extent(found)?,
+        version: found.get_str(FORMAT).and_then(version_of),
+        unit: found.get_str(UNIT),
+    })
+}
+
 fn read_sim<'a>(found: &ArgMatches<'a>) -> Option<Request<'a>> {
     Some(Request::Sim {
-        segments: found.get_str(SEGMENTS)?,
-        version: version_of(found)?,
+        shape: read_shape(found)?,
         stop: found.get_str(STOP)?,
         left: left_of(found.get_str(LEFT)?)?,
-        unit: found.get_str(UNIT),
+    })
+}
+
+fn read_copy<'a>(found: &ArgMatches<'a>) -> Option<Request<'a>> {
+    Some(Request::Copy {
+        old: found.get_str(OLD)?,
+        new: found.get_str(NEW)?,
+        wait: found.get_flag(WAIT),
     })
 }
 
 fn read_mkfs<'a>(found: &ArgMatches<'a>) -> Option<Action<'a>> {
     Some(Action::Mkfs {
-        segments: found.get_str(SEGMENTS)?,
-        version: version_of(found)?,
+        shape: read_shape(found)?,
         force: found.get_flag(FORCE),
         reserve: found.get_flag(RESERVE),
     })
@@ -135,6 +156,7 @@ fn read_recover<'a>(found: &ArgMatches<'a>) -> Option<Action<'a>> {
 fn asked<'a>(verb: Verb, found: &ArgMatches<'a>) -> Option<Request<'a>> {
     match verb {
         Verb::Mkfs => on_image(read_mkfs(found), found),
+        Verb::Copy => read_copy(found),
         Verb::Mount => asks(Query::Mount, found),
         Verb::Check => on_image(Some(read_check(found)), found),
         Verb::Tree => asks(Query::Tree(path_or_root(found)), found),

@@ -58,7 +58,7 @@ pub enum Change<'a> {
     MakeDirectory(&'a str),
     /// Segments are cleaned, by so many passes at most where a number is given.
     Clean(Option<&'a str>),
-    /// The version of the layout becomes 2.
+    /// Version 1 of the layout becomes 2.
     Upgrade,
 }
 
@@ -83,13 +83,30 @@ pub struct Source<'a> {
     pub file: Option<&'a str>,
 }
 
+/// How much a new volume is to hold.
+#[derive(Clone, Copy)]
+pub enum ExtentWord<'a> {
+    /// So many segments.
+    Segments(&'a str),
+    /// So many bytes of segments, or the most.
+    Size(&'a str),
+}
+
+/// What a new volume is to have.
+#[derive(Clone, Copy)]
+pub struct ShapeWords<'a> {
+    pub extent: ExtentWord<'a>,
+    /// Of its layout, where one is given.
+    pub version: Option<u32>,
+    /// The bytes of a unit, where they are given.
+    pub unit: Option<&'a str>,
+}
+
 /// What is done with an image.
 #[derive(Clone, Copy)]
 pub enum Action<'a> {
     Mkfs {
-        segments: &'a str,
-        /// Of the layout.
-        version: u32,
+        shape: ShapeWords<'a>,
         force: bool,
         reserve: bool,
     },
@@ -142,13 +159,19 @@ pub enum Request<'a> {
     Strict {
         image: &'a str,
     },
+    /// The tree of a volume is copied into another one.
+    Copy {
+        /// The image of the first.
+        old: &'a str,
+        /// That of the second.
+        new: &'a str,
+        /// Until no other program writes the first.
+        wait: bool,
+    },
     Sim {
-        segments: &'a str,
-        /// Of the layout.
-        version: u32,
+        /// The unit is the device's too.
+        shape: ShapeWords<'a>,
         stop: &'a str,
         left: LeftWord,
-        /// The bytes of a unit of the device, where they are given.
-        unit: Option<&'a str>,
     },
 }

@@ -3,7 +3,7 @@ use crate::fault::{Grouped, Refusal};
 use crate::foreign::explained;
 use crate::image::device_of_copy;
 use lfs_device::{FileDeviceIn, World};
-use lfs_fs::{Fs, FsError, InVolume, MountFault, TreeRow};
+use lfs_fs::{Fs, FsError, InVolume, MountFault, TreeRow, find_volume};
 use lfs_model::Kind;
 use std::alloc::{AllocError, Global};
 use std::fmt;
@@ -110,15 +110,19 @@ fn of_refused(refusal: Refusal, len: u64) -> Result<Seeming, Refusal> {
 // What a file of so many bytes seems to be. Nothing is written.
 fn seeming_of<Here: World>(alloc: Global, file: &File, len: u64) -> Result<Seeming, Refusal> {
     let device = device_of_copy::<Here>(alloc, file)?;
-    match Fs::mount(alloc, InVolume::new(device)) {
+    let found = match find_volume(device) {
+        Ok(found) => found,
+        Err((fault, mut device)) => return of_refused(explained(fault, &mut device), len),
+    };
+    match Fs::mount(alloc, found) {
         Ok(mut fs) => {
             let seeming = of_volume(alloc, &mut fs);
             // Who gives the device back has dropped the rest of the volume.
             drop(fs.into_device());
             seeming
         }
-        Err((fault, device)) => {
-            let mut device = device.into_inner();
+        Err((fault, refused)) => {
+            let mut device = refused.into_inner();
             of_refused(explained(fault, &mut device), len)
         }
     }

@@ -5,6 +5,7 @@ ghost use Rattle.lfs_host.specs.Refusals.{refusal_of_mount};
 use crate::cause::Cause;
 use crate::host::HostFault;
 use crate::reason;
+use crate::shape::ShapeFault;
 use lfs_fs::{FormatFault, FsError, MountFault};
 use std::alloc::{AllocError, Global};
 use std::fmt::{Display, Formatter};
@@ -30,8 +31,14 @@ pub enum ImageFault {
     InUse,
     /// Another program writes it, and no whole state was seen.
     Unsteady,
+    /// A block device with a checkpoint, where a volume isn't made over one unless that is asked for.
+    Volume,
+    /// A file that has bytes, where a volume isn't made over them unless that is asked for.
+    Filled,
     /// It has bytes, and nobody agreed that they go.
     Declined,
+    /// It is the one that is to be copied into it.
+    Same,
     /// Its name has another file by now, or none.
     Taken,
     /// The name under which a new image stands until it is whole has no regular file.
@@ -73,15 +80,17 @@ impl From<io::Error> for ImageFault {
 /// Why a command is refused. Its text is the line that is printed.
 #[derive(Clone, Copy)]
 pub enum Refusal {
-    /// No volume has so many segments.
-    Inval,
+    /// There is no volume that is as it is wanted.
+    Shape(ShapeFault),
+    /// The block device has fewer sectors than the volume, and room for one of so many bytes.
+    TooSmall(u64),
     /// The image can't be opened, made or sized.
     Image(ImageFault),
     Format(FormatFault),
     /// The first stage that the volume fails.
     Damaged(u8),
     Mount(MountFault),
-    /// It isn't mounted, and neither of its first two sectors begins as a checkpoint does.
+    /// It isn't mounted, and no sector begins as a checkpoint does at which a slot may stand.
     Foreign(MountFault),
     /// It has one checkpoint, and the other one is asked for.
     NoOlder,
@@ -92,6 +101,12 @@ pub enum Refusal {
     Failed(FsError, Cause),
     /// There is no space for a change. A new file may have so many bytes.
     Full(u64),
+    /// A tree that is to be copied into it needs so many bytes, and it takes so many.
+    TooLarge(u64, u64),
+    /// A tree that is to be copied into it has a name or a path that is too long.
+    TooLong,
+    /// A tree is to be copied into it, and its root has entries.
+    NotNew,
     /// A file is to have the name under which files stand until they are whole.
     Unfinished,
     /// Standard input, of which a file is to be made, has no byte.
@@ -102,7 +117,8 @@ impl Refusal {
     /// Its name, without the stage of damage.
     pub fn name(self) -> &'static str {
         match self {
-            Refusal::Inval | Refusal::Unfinished => "Inval",
+            Refusal::Shape(_) | Refusal::Unfinished => "Inval",
+            Refusal::TooSmall(_) => FormatFault::TooSmall.name(),
             Refusal::Image(_) | Refusal::NoInput => "Image",
             Refusal::Format(fault) => fault.name(),
             Refusal::Damaged(_) => "Damaged",
@@ -110,7 +126,9 @@ impl Refusal {
             Refusal::NoOlder => MountFault::NoCheckpoint.name(),
             Refusal::Cut(_) => MountFault::TooSmall.name(),
             Refusal::Call(fault) | Refusal::Failed(fault, _) => fault.name(),
-            Refusal::Full(_) => FsError::NoSpace.name(),
+            Refusal::Full(_) | Refusal::TooLarge(..) => FsError::NoSpace.name(),
+            Refusal::TooLong => FsError::NameTooLong.name(),
+            Refusal::NotNew => FsError::NotEmpty.name(),
         }
     }
 
@@ -166,7 +184,8 @@ impl Refusal {
     // What people are told of it, but for its numbers.
     fn reason(self) -> &'static str {
         match self {
-            Refusal::Inval => reason::of_format(FormatFault::Inval),
+            Refusal::Shape(fault) => reason::of_shape(fault),
+            Refusal::TooSmall(_) => reason::NO_ROOM,
             Refusal::Image(fault) => reason::of_image(fault),
             Refusal::Format(fault) => reason::of_format(fault),
             Refusal::Damaged(code) => reason::of_damage(code),
@@ -176,7 +195,9 @@ impl Refusal {
             Refusal::Cut(_) => reason::of_mount(MountFault::TooSmall),
             Refusal::Call(fault) => reason::of_call(fault),
             Refusal::Failed(fault, cause) => reason::of_failure(fault, cause),
-            Refusal::Full(_) => reason::of_call(FsError::NoSpace),
+            Refusal::Full(_) | Refusal::TooLarge(..) => reason::of_call(FsError::NoSpace),
+            Refusal::TooLong => reason::TOO_LONG,
+            Refusal::NotNew => reason::NOT_NEW,
             Refusal::Unfinished => reason::UNFINISHED,
             Refusal::NoInput => reason::NO_INPUT,
         }
@@ -195,6 +216,12 @@ impl Display for Refusal {
 impl From<ImageFault> for Refusal {
     fn from(fault: ImageFault) -> Refusal {
         Refusal::Image(fault)
+    }
+}
+
+impl From<ShapeFault> for Refusal {
+    fn from(fault: ShapeFault) -> Refusal {
+        Refusal::Shape(fault)
     }
 }
 
@@ -322,9 +349,20 @@ impl Display for Ending {
             Ending::Refused(Refusal::Cut(segments)) => {
                 write!(f, "it is cut: its checkpoint names {segments} segments")
             }
+            Ending::Refused(Refusal::TooSmall(bytes)) if *bytes > 0 => {
+                let bytes = Grouped(*bytes);
+                write!(f, "it is too small: a volume of {bytes} bytes fits")
+            }
             Ending::Refused(Refusal::Full(free)) => {
                 let free = Grouped(*free);
                 write!(f, "no space: {free} bytes are free for one new file")
+            }
+            Ending::Refused(Refusal::TooLarge(need, most)) => {
+                let (need, most) = (Grouped(*need), Grouped(*most));
+                write!(
+                    f,
+                    "no space: the tree needs {need} bytes, and it takes {most}"
+                )
             }
             Ending::Refused(refusal) => {
                 f.write_str(refusal.reason())?;
@@ -364,6 +402,14 @@ pub enum Fault {
     Line(String),
     #[error("lfs: the number of segments is no decimal number below 2^32 without leading zeros")]
     Segments,
+    #[error("lfs: the size is no decimal number of bytes below 2^64 without leading zeros, alone or directly before K, M or G")]
+    Size,
+    #[error("lfs: format 1 and 2 go with --segments, and --size with format 3")]
+    SizedFormat,
+    #[error("lfs: --unit goes with format 3 alone")]
+    UnitOfFormat,
+    #[error("lfs: the unit is no decimal number of bytes below 2^64 without leading zeros, alone or directly before K, M or G")]
+    UnitSize,
     #[error("lfs: the write to stop at is no decimal number below 2^64 without leading zeros")]
     Stop,
     #[error("lfs: the number of bytes of a unit is no power of two from 512 to 65536 without leading zeros")]
@@ -393,6 +439,7 @@ impl Fault {
     {
         match self {
             Fault::Line(_) | Fault::Segments | Fault::Stop => 2,
+            Fault::Size | Fault::SizedFormat | Fault::UnitOfFormat | Fault::UnitSize => 2,
             Fault::Unit | Fault::Passes | Fault::Path => 2,
             Fault::Mounted { .. } | Fault::Host { .. } => 1,
             Fault::Input | Fault::Output | Fault::Memory(_) => 1,

@@ -1,11 +1,14 @@
-//! Why a device isn't mounted, as far as its first two sectors tell more than the mount's fault.
+//! Why a device isn't mounted, as far as the slots tell more than the mount's fault.
 ghost use Rattle.std.specs.Prelude.{◌≡◌};
 
 use crate::fault::Refusal;
 use lfs_device::SectorDevice;
 use lfs_fs::MountFault;
 use lfs_layout::Checkpoint;
-use lfs_model::limits::CHECKPOINT_SLOTS;
+use lfs_places::limits::SECOND_SLOT;
+
+/// The sectors at which a slot may stand, by the old places or by the new ones.
+const SLOT_SECTORS: [u32; 3] = [0, 1, SECOND_SLOT];
 
 /// With this each checkpoint begins.
 const MAGIC: &[u8] = b"SLFSCKP1";
@@ -59,7 +62,7 @@ fn of_slots<D: SectorDevice>(fault: MountFault, device: &mut D) -> Refusal
     ensures { (D.state device.new).told ≡ (D.state device.old).told }
 {
     let mut is_foreign = true;
-    for sector in 0..CHECKPOINT_SLOTS {
+    for sector in SLOT_SECTORS {
         match slot_of(device, sector) {
             Slot::Other => {}
             Slot::Begun => is_foreign = false,
@@ -71,4 +74,16 @@ fn of_slots<D: SectorDevice>(fault: MountFault, device: &mut D) -> Refusal
     } else {
         Refusal::from(fault)
     }
+}
+
+/// Whether a checkpoint stands at a sector at which a slot may stand.
+pub fn holds_checkpoint<D: SectorDevice>(device: &mut D) -> bool
+    ensures { (D.state device.new).told ≡ (D.state device.old).told }
+{
+    for sector in SLOT_SECTORS {
+        if let Slot::Whole(_) = slot_of(device, sector) {
+            return true;
+        }
+    }
+    false
 }

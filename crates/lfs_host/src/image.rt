@@ -1,15 +1,14 @@
 //! Image files and block devices, in any world.
-ghost use Rattle.std.specs.Prelude.{◌<◌, ◌^◌};
-
 use crate::asking::may_empty;
 use crate::cause::Cause;
 use crate::fault::{Ending, Fault, ImageFault, Refusal};
-use crate::foreign::explained;
+use crate::foreign::{explained, holds_checkpoint};
 use crate::new_image::make_new;
-use lfs_device::{FileDeviceIn, FileFault, World};
-use lfs_fs::{Fs, FsError, InVolume, MountFault, format_version};
-use lfs_layout::{is_sector_version, is_segment_count};
-use lfs_model::limits::{CHECKPOINT_SLOTS, SECTOR_LEN, SEGMENT_SECTORS};
+use crate::physical::unit_on;
+use crate::shape::{Fit, Wanted, volume_bytes};
+use lfs_device::{FileDeviceIn, FileFault, SectorDevice, World};
+use lfs_fs::{FormatFault, Fs, FsError, InVolume, MountFault, Shape, find_volume, format_with};
+use lfs_model::limits::{LAST_VERSION, SECTOR_LEN};
 use std::alloc::Global;
 use std::fs::{File, Metadata, OpenOptions, TryLockError};
 use std::io::{ErrorKind, Read, Write};
@@ -35,22 +34,31 @@ const LOCK_PAUSE_MILLIS: u64 = 1;
 /// How a volume is made.
 #[derive(Clone, Copy)]
 pub struct Making {
-    pub segments: u32,
-    /// Of the layout.
-    pub version: u32,
+    pub wanted: Wanted,
     /// Also on a block device.
     pub force: bool,
-    /// A file that has bytes is asked about before it is emptied.
+    /// A file that has bytes is asked about before it is emptied, where the segments are given.
     pub asks: bool,
     /// With room for each sector.
     pub reserve: bool,
 }
 
-// The sectors of a volume of so many segments.
-fn sectors_of(segments: u32) -> u64
-    ensures { result < 2 ^ 39 }
-{
-    u64::from(CHECKPOINT_SLOTS) + u64::from(SEGMENT_SECTORS) * u64::from(segments)
+/// What is made in a file or on a block device that is ready for it.
+#[derive(Clone, Copy)]
+pub struct NewVolume {
+    pub shape: Shape,
+    /// With room for each sector.
+    pub reserve: bool,
+}
+
+impl Making {
+    // The volume that is made in a regular file.
+    fn in_file(self) -> Result<NewVolume, Refusal> {
+        Ok(NewVolume {
+            shape: self.wanted.shape()?,
+            reserve: self.reserve,
+        })
+    }
 }
 
 /// What holds an image.
@@ -269,9 +277,9 @@ fn clear(file: &File, old: u64, len: u64) -> Result<(), ImageFault> {
     set_length(file, len)
 }
 
-/// Makes all bytes of a regular file of this length zeros, as many as a volume has that is made so.
-pub fn empty(file: &File, old: u64, making: Making) -> Result<(), ImageFault> {
-    clear(file, old, SECTOR_BYTES * sectors_of(making.segments))
+/// Makes all bytes of a regular file of this length zeros, as many as a volume has of this shape.
+pub fn empty(file: &File, old: u64, shape: Shape) -> Result<(), ImageFault> {
+    clear(file, old, volume_bytes(&shape))
 }
 
 fn no_room(error: &io::Error) -> ImageFault {
@@ -279,8 +287,8 @@ fn no_room(error: &io::Error) -> ImageFault {
 }
 
 // Writes each sector, so that there is room for it: a file that only has a length has none.
-fn reserve(file: &File, segments: u32) -> Result<(), ImageFault> {
-    for sector in 0..sectors_of(segments) {
+fn reserve(file: &File, shape: Shape) -> Result<(), ImageFault> {
+    for sector in 0..u64::from(shape.sectors()) {
         if let Err(error) = file.write_all_at(&[0; SECTOR_LEN], SECTOR_BYTES * sector) {
             return Err(no_room(&error));
         }
@@ -302,6 +310,20 @@ fn metadata_of(file: &File) -> Result<Metadata, ImageFault> {
 /// Whether these are of one file.
 pub fn are_same(one: &Metadata, other: &Metadata) -> bool {
     one.dev() == other.dev() && one.ino() == other.ino()
+}
+
+// Whether these are of one block device.
+fn are_one_device(one: &Metadata, other: &Metadata) -> bool {
+    let are_devices = one.file_type().is_block_device() && other.file_type().is_block_device();
+    are_devices && one.rdev() == other.rdev()
+}
+
+/// Whether two names have one file or one block device.
+pub fn are_one<R: Files<File = File>>(rt: &R, one: &str, other: &str) -> bool {
+    match (fs::metadata(rt, one), fs::metadata(rt, other)) {
+        (Ok(one), Ok(other)) => are_same(&one, &other) || are_one_device(&one, &other),
+        _ => false,
+    }
 }
 
 // Refuses a locked file whose name has another one by now.
@@ -331,9 +353,9 @@ pub fn device_of_copy<Here: World>(
 
 fn format_device<Here: World>(
     device: &mut FileDeviceIn<Here>,
-    making: Making,
+    shape: Shape,
 ) -> Result<(), Refusal> {
-    match format_version(device, making.segments, making.version) {
+    match format_with(device, shape) {
         Ok(()) => Ok(()),
         Err(fault) => Err(caused(Refusal::Format(fault), device)),
     }
@@ -341,12 +363,12 @@ fn format_device<Here: World>(
 
 /// Makes a volume in a file that is ready for it, or in a block device, with room for each sector
 /// where that is asked for.
-pub fn fill<Here: World>(alloc: Global, file: &File, making: Making) -> Result<(), Refusal> {
-    if making.reserve {
-        reserve(file, making.segments)?;
+pub fn fill<Here: World>(alloc: Global, file: &File, volume: NewVolume) -> Result<(), Refusal> {
+    if volume.reserve {
+        reserve(file, volume.shape)?;
     }
     let mut device = device_of_copy::<Here>(alloc, file)?;
-    format_device(&mut device, making)
+    format_device(&mut device, volume.shape)
 }
 
 // Refuses a file of so many bytes, unless it is agreed that a volume is made over it.
@@ -365,9 +387,77 @@ fn agree<Here: World, I: Read, E: Write>(
     }
 }
 
-// Empties a locked file, or a block device not at all. It is looked at again: the name may have had
-// another file before.
-fn make_ready<Here: World, R: Files<File = File>, I: Read, E: Write>(
+// Refuses a regular file of so many bytes that aren't to go.
+fn check_filled<Here: World, I: Read, E: Write>(
+    alloc: Global,
+    image: &str,
+    file: &File,
+    len: u64,
+    making: Making,
+    input: &mut I,
+    errors: &mut E,
+) -> Result<(), Refusal> {
+    if len == 0 || making.force {
+        return Ok(());
+    }
+    if making.wanted.is_by_size() {
+        return Err(Refusal::Image(ImageFault::Filled));
+    }
+    if making.asks {
+        agree::<Here, I, E>(alloc, image, file, len, input, errors)?;
+    }
+    Ok(())
+}
+
+// Empties a locked regular file, and makes a volume in it.
+fn make_in_file<Here: World, R: Files<File = File>, I: Read, E: Write>(
+    rt: &R,
+    alloc: Global,
+    image: &str,
+    file: &File,
+    metadata: &Metadata,
+    making: Making,
+    input: &mut I,
+    errors: &mut E,
+) -> Result<(), Refusal> {
+    let volume = making.in_file()?;
+    check_filled::<Here, I, E>(alloc, image, file, metadata.len(), making, input, errors)?;
+    check_named(rt, image, metadata)?;
+    empty(file, metadata.len(), volume.shape)?;
+    fill::<Here>(alloc, file, volume)
+}
+
+// How many segments a volume has on an open block device.
+fn segments_on<Here: World>(alloc: Global, file: &File, wanted: Wanted) -> Result<u32, Refusal> {
+    let device = device_of_copy::<Here>(alloc, file)?;
+    match wanted.segments_on(device.sectors())? {
+        Fit::Segments(segments) => Ok(segments),
+        Fit::TooSmall(bytes) if wanted.version == LAST_VERSION => Err(Refusal::TooSmall(bytes)),
+        Fit::TooSmall(_) => Err(Refusal::Format(FormatFault::TooSmall)),
+    }
+}
+
+// Makes a volume on a locked block device. What the system tells of its unit goes to `errors`.
+fn make_on_device<Here: World, R: Files<File = File>, E: Write>(
+    rt: &R,
+    alloc: Global,
+    image: &str,
+    file: &File,
+    metadata: &Metadata,
+    making: Making,
+    errors: &mut E,
+) -> Result<(), Refusal> {
+    let segments = segments_on::<Here>(alloc, file, making.wanted)?;
+    let unit = unit_on(rt, alloc, image, metadata, making.wanted, errors)?;
+    let volume = NewVolume {
+        shape: making.wanted.with_segments(segments, unit)?,
+        reserve: making.reserve,
+    };
+    fill::<Here>(alloc, file, volume)
+}
+
+// Makes a volume in a locked file. It is looked at again: the name may have had another file before.
+fn make_at<Here: World, R: Files<File = File>, I: Read, E: Write>(
     rt: &R,
     alloc: Global,
     image: &str,
@@ -377,14 +467,14 @@ fn make_ready<Here: World, R: Files<File = File>, I: Read, E: Write>(
     errors: &mut E,
 ) -> Result<(), Refusal> {
     let metadata = metadata_of(file)?;
-    if check_medium(&metadata, making.force)? == Medium::Blocks {
-        return Ok(());
+    match check_medium(&metadata, making.force)? {
+        Medium::File => make_in_file::<Here, R, I, E>(
+            rt, alloc, image, file, &metadata, making, input, errors,
+        ),
+        Medium::Blocks => {
+            make_on_device::<Here, R, E>(rt, alloc, image, file, &metadata, making, errors)
+        }
     }
-    if making.asks && metadata.len() > 0 {
-        agree::<Here, I, E>(alloc, image, file, metadata.len(), input, errors)?;
-    }
-    check_named(rt, image, &metadata)?;
-    Ok(empty(file, metadata.len(), making)?)
 }
 
 // Makes a volume over what has the name.
@@ -397,18 +487,45 @@ fn make_over<Here: World, R: Files<File = File> + Clock, I: Read, E: Write>(
     errors: &mut E,
 ) -> Result<(), Refusal> {
     let file = open_locked(rt, &to_write(), image)?;
-    match make_ready::<Here, R, I, E>(rt, alloc, image, &file, making, input, errors) {
-        Ok(()) => fill::<Here>(alloc, &file, making),
-        Err(refusal) => Err(refusal),
+    make_at::<Here, R, I, E>(rt, alloc, image, &file, making, input, errors)
+}
+
+// Whether a checkpoint stands on the block device of this name, as far as it can be read.
+fn has_volume<Here: World, R: Files<File = File> + Clock>(
+    rt: &R,
+    alloc: Global,
+    image: &str,
+) -> bool {
+    match open_to_look::<Here, R>(rt, alloc, image, Patience::Impatient) {
+        Ok((mut device, _)) => holds_checkpoint(&mut device),
+        Err(_) => false,
+    }
+}
+
+// The refusal of a name under which no volume is made. Where the size is given, that of a block
+// device without force tells whether a volume is on it.
+fn refusal_of_name<Here: World, R: Files<File = File> + Clock>(
+    rt: &R,
+    alloc: Global,
+    image: &str,
+    making: Making,
+    fault: ImageFault,
+) -> Refusal {
+    match fault {
+        ImageFault::Unforced
+            if making.wanted.is_by_size() && has_volume::<Here, R>(rt, alloc, image) => {
+            Refusal::Image(ImageFault::Volume)
+        }
+        fault => Refusal::Image(fault),
     }
 }
 
 /// Makes a volume. A new file gets its name once the volume is whole and synced, and nothing is left
 /// of it where it is refused. A file that is there is emptied under its lock, and gets the volume's
-/// length; where it has bytes, and that is asked for, a line of `input` has to agree to a question,
-/// which goes to `errors`. A block device keeps its length, which has to be enough, and is
-/// formatted only by force. A wrong number of segments, or a wrong version, is refused with no file
-/// touched.
+/// length. Where it has bytes and the size is given, that takes force. Where the segments are given
+/// and it is asked for, a line of `input` has to agree to a question, which goes to `errors`. A
+/// block device keeps its length, which has to be enough, and is formatted only by force. What no
+/// volume has is refused with no file touched.
 pub fn make<Here: World, R: Files<File = File> + Clock, I: Read, E: Write>(
     rt: &R,
     alloc: Global,
@@ -417,13 +534,11 @@ pub fn make<Here: World, R: Files<File = File> + Clock, I: Read, E: Write>(
     input: &mut I,
     errors: &mut E,
 ) -> Result<(), Refusal> {
-    if !is_segment_count(making.segments) || !is_sector_version(making.version) {
-        return Err(Refusal::Inval);
-    }
-    if check_name(rt, image, making.force)? {
-        make_over::<Here, R, I, E>(rt, alloc, image, making, input, errors)
-    } else {
-        make_new::<Here, R>(rt, alloc, image, making)
+    making.wanted.check()?;
+    match check_name(rt, image, making.force) {
+        Ok(true) => make_over::<Here, R, I, E>(rt, alloc, image, making, input, errors),
+        Ok(false) => make_new::<Here, R>(rt, alloc, image, making.in_file()?),
+        Err(fault) => Err(refusal_of_name::<Here, R>(rt, alloc, image, making, fault)),
     }
 }
 
@@ -454,10 +569,14 @@ pub fn mount<Here: World>(
     alloc: Global,
     device: FileDeviceIn<Here>,
 ) -> Result<Fs<InVolume<FileDeviceIn<Here>>>, Refusal> {
-    match Fs::mount(alloc, InVolume::new(device)) {
+    let found = match find_volume(device) {
+        Ok(found) => found,
+        Err((fault, mut device)) => return Err(unmounted(fault, &mut device)),
+    };
+    match Fs::mount(alloc, found) {
         Ok(fs) => Ok(fs),
-        Err((fault, device)) => {
-            let mut device = device.into_inner();
+        Err((fault, refused)) => {
+            let mut device = refused.into_inner();
             Err(unmounted(fault, &mut device))
         }
     }

@@ -10,5 +10,7 @@ pub mod image;
 pub mod making;
 mod mounts;
 mod new_image;
+mod physical;
 pub mod printing;
 mod reason;
+pub mod shape;

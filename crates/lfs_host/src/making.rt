@@ -4,7 +4,6 @@ use crate::image::Making;
 use crate::printing::{print, refuse};
 use crate::{image, mounts};
 use lfs_device::World;
-use lfs_layout::is_segment_count;
 use std::alloc::Global;
 use std::fs::File;
 use std::io::{Read, Write};
@@ -28,7 +27,8 @@ fn refuse_mounted<R: Files<File = File>, W: Write>(
     })
 }
 
-/// Makes a volume in an image. A question before it goes to `errors`, and `input` has the answer.
+/// Makes a volume in an image. A question before it goes to `errors`, as what the system tells of a
+/// block device, and `input` has the answer.
 pub fn mkfs<Here: World, R: Files<File = File> + Clock, I: Read, W: Write, E: Write>(
     rt: &R,
     alloc: Global,
@@ -38,7 +38,7 @@ pub fn mkfs<Here: World, R: Files<File = File> + Clock, I: Read, W: Write, E: Wr
     output: &mut W,
     errors: &mut E,
 ) -> Result<Ending, Fault> {
-    if making.force && is_segment_count(making.segments) {
+    if making.force && making.wanted.check().is_ok() {
         refuse_mounted(rt, alloc, image, output)?;
     }
     match image::make::<Here, R, I, E>(rt, alloc, image, making, input, errors) {

@@ -13,8 +13,8 @@ const DEVICE_WORD: usize = 2;
 
 const FOLDER_WORD: usize = 4;
 
-// The word that the system has for a device of this number.
-fn word_of(alloc: Global, device: u64) -> Result<String, AllocError> {
+/// The word that the system has for a device of this number.
+pub fn word_of(alloc: Global, device: u64) -> Result<String, AllocError> {
     let major = (device >> 8) & 0xfff | (device >> 32) & !0xfff;
     let minor = device & 0xff | (device >> 12) & !0xff;
     format!(in alloc; "{major}:{minor}")
@@ -28,8 +28,8 @@ fn folder_in<'a>(line: &'a str, device: &str) -> Option<&'a str> {
     line.split(' ').nth(FOLDER_WORD)
 }
 
-// What a file has, as a text. None where it can't be read.
-fn text_of<R: Files<File = File>>(rt: &R, alloc: Global, path: &str) -> Option<String> {
+/// What a file has, as a text. None where it can't be read.
+pub fn text_of<R: Files<File = File>>(rt: &R, alloc: Global, path: &str) -> Option<String> {
     let mut text = String::new(alloc);
     File::open(rt, path).ok()?.read_to_string(&mut text).ok()?;
     Some(text)

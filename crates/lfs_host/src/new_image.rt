@@ -1,7 +1,7 @@
 //! A volume in a new file, which gets its name once it is whole.
 use crate::cause::Cause;
 use crate::fault::{ImageFault, Refusal};
-use crate::image::{Making, are_same, empty, fill, open_locked, to_write};
+use crate::image::{NewVolume, are_same, empty, fill, open_locked, to_write};
 use lfs_device::World;
 use lfs_fs::FsError;
 use std::alloc::{AllocError, Global};
@@ -183,10 +183,10 @@ fn make_named<Here: World, R: Files<File = File>>(
     alloc: Global,
     file: &File,
     names: &Names,
-    making: Making,
+    volume: NewVolume,
 ) -> Result<(), Refusal> {
-    empty(file, 0, making)?;
-    fill::<Here>(alloc, file, making)?;
+    empty(file, 0, volume.shape)?;
+    fill::<Here>(alloc, file, volume)?;
     Ok(keep_name(rt, names)?)
 }
 
@@ -195,10 +195,10 @@ fn make_between<Here: World, R: Files<File = File> + Clock>(
     rt: &R,
     alloc: Global,
     names: &Names,
-    making: Making,
+    volume: NewVolume,
 ) -> Result<(), Refusal> {
     let file = open_unmade(rt, names.unmade.as_str())?;
-    let made = make_named::<Here, R>(rt, alloc, &file, names, making);
+    let made = make_named::<Here, R>(rt, alloc, &file, names, volume);
     if made.is_err() {
         let _ = fs::remove_file(rt, names.unmade.as_str());
     }
@@ -213,10 +213,10 @@ pub fn make_new<Here: World, R: Files<File = File> + Clock>(
     rt: &R,
     alloc: Global,
     image: &str,
-    making: Making,
+    volume: NewVolume,
 ) -> Result<(), Refusal> {
     match names_of(rt, alloc, image) {
-        Ok(names) => make_between::<Here, R>(rt, alloc, &names, making),
+        Ok(names) => make_between::<Here, R>(rt, alloc, &names, volume),
         Err(AllocError) => Err(Refusal::Call(FsError::NoMemory)),
     }
 }

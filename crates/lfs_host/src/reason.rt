@@ -1,6 +1,7 @@
 //! What people are told of a refusal, beside its name.
 use crate::cause::Cause;
 use crate::fault::ImageFault;
+use crate::shape::ShapeFault;
 use lfs_fs::{FormatFault, FsError, MountFault};
 
 const NO_MEMORY: &str = "there isn't enough memory";
@@ -15,10 +16,20 @@ const UNWRITTEN: &str = "it can't be written: a write or a sync of it failed";
 /// Of a file that is to have the name under which files stand until they are whole.
 pub const UNFINISHED: &str = "this is the name under which `put` keeps a file that isn't whole yet";
 
+/// Of a volume into which a tree is to be copied, and which has one already.
+pub const NOT_NEW: &str = "it isn't empty: a tree is copied into a volume that mkfs made";
+
+/// Of a tree whose names don't all fit.
+pub const TOO_LONG: &str = "a name or a path is too long for it, and is named on standard output";
+
 /// Of standard input without a byte, of which a file is to be made.
 pub const NO_INPUT: &str = "standard input has no byte; with - as FILE an empty file is put";
 
-/// Of an image that isn't mounted, and whose first two sectors begin as no checkpoint does.
+/// Of a block device that has no room for any volume of the version.
+pub const NO_ROOM: &str = "it is too small for any volume";
+
+/// Of an image that isn't mounted, and on which no sector begins as a checkpoint does at which a
+/// slot may stand.
 pub const FOREIGN: &str =
     "this is no Pansuyog volume, or both its checkpoints are lost; mkfs would empty it";
 
@@ -41,11 +52,16 @@ pub fn of_image(fault: ImageFault) -> &'static str {
         ImageFault::Folder => "it is a folder",
         ImageFault::NoBlocks => "it is neither a regular file nor a block device",
         ImageFault::Unforced => "it is a block device, which is formatted only with --force",
+        ImageFault::Volume => {
+            "it is a block device with a volume on it, which goes only with --force"
+        }
+        ImageFault::Filled => "it isn't empty, and with --size its bytes go only with --force",
         ImageFault::InUse => "it is in use: another program has held its lock for a second",
         ImageFault::Unsteady => {
             "another program writes it, and no whole state was seen; try again"
         }
         ImageFault::Declined => "the answer wasn't yes, so nothing was done",
+        ImageFault::Same => "this is the image that is to be copied",
         ImageFault::Taken => {
             "another program changed meanwhile what has this name, and nothing was done to that"
         }
@@ -55,6 +71,19 @@ pub fn of_image(fault: ImageFault) -> &'static str {
         ImageFault::Unnamed(_) => "the folder that has it can't be synced",
         ImageFault::Unopened(_) => "the system refuses to open it or to make it",
         ImageFault::System => "the system refuses to tell its length",
+    }
+}
+
+/// Of a volume that can't be as it is wanted.
+pub fn of_shape(fault: ShapeFault) -> &'static str {
+    match fault {
+        ShapeFault::Segments => of_format(FormatFault::Inval),
+        ShapeFault::Size => "the segments of a volume have more than 0 bytes, and at most 32M",
+        ShapeFault::Most => "the size `max` is that of a block device, and this is none",
+        ShapeFault::Unit => "a unit has 512 bytes to 32K, a power of two",
+        ShapeFault::DeviceUnit => {
+            "its physical unit has more than 32K, the most of a volume's; --unit gives another one"
+        }
     }
 }
 
@@ -73,7 +102,7 @@ pub fn of_mount(fault: MountFault) -> &'static str {
         MountFault::NoMemory => NO_MEMORY,
         MountFault::Device => DEVICE,
         MountFault::TooSmall => "it is shorter than its volume, or than any volume",
-        MountFault::NoCheckpoint => "neither of its first two sectors is a checkpoint",
+        MountFault::NoCheckpoint => "neither of its two slots holds a checkpoint",
         MountFault::Damaged(code) => of_damage(code),
     }
 }

@@ -61,8 +61,8 @@ fn cost_of(blocks: u64) -> u64
     blocks + NEED_OF_META * (1 + pointer_blocks(blocks))
 }
 
-// What a directory of so many entries, of so many bytes each, adds to the need.
-fn directory_cost(slot: u64, entries: u64) -> u64
+/// What a directory of so many entries, of so many bytes each, adds to the need.
+pub fn directory_cost(slot: u64, entries: u64) -> u64
     requires slot { slot ≤ WIDE }
     requires entries { entries ≤ MOST_ENTRIES }
     ensures cost { result ≡ cost_of_entries slot entries }

@@ -10,5 +10,6 @@ mod telling;
 
 pub use changing::{clean, clean_some, make_directory, remove, rename, upgrade};
 pub use getting::{GetFault, get};
+pub use largest::directory_cost;
 pub use putting::{PutFault, UNFINISHED, check_place, put};
-pub use telling::largest_new_file;
+pub use telling::{largest_new_file, slot_of};

@@ -68,10 +68,10 @@ fn count_entries<D: SectorDevice>(fs: &mut Fs<D>) -> Result<u64, FsError>
     }
 }
 
-// The bytes of each entry of a directory of this size, which has so many. Where it has none its form
-// doesn't show, and makes no difference: the first entry takes one block in either.
-fn slot_of(size: u64, entries: u64) -> u64
-    requires { entries < MOST_ENTRIES }
+/// The bytes of each entry of a directory of this size, which has so many. Where it has none its
+/// form doesn't show, and makes no difference: the first entry takes one block in either.
+pub fn slot_of(size: u64, entries: u64) -> u64
+    requires { entries ≤ MOST_ENTRIES }
     ensures slot { IsSlotOf size entries result }
     ensures few { result ≤ WIDE }
 {

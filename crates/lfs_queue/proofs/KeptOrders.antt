@@ -22,21 +22,21 @@ use Rattle.lfs_queue.proofs.Numbering.{begins_before, begins_behind, begins_once
 use Rattle.lfs_queue.proofs.Sequences.{done_leaves_told, told_are_done}
 
 pub since_is_done : SinceIsDone
-since_is_done device points calls answers clocks since i done by c left = since i by.told.clock by.told.at c (
+since_is_done device shown points calls answers clocks since i done by c left = since i by.told.clock by.told.at c (
   (λ j k same. same),
   stops_are_behind (λ k. k) (start_of device) (told_of device) by.first by.told.clock c by.told.begins by.told.long
       (done_leaves_told (λ k. k) (start_of device) done by.first by.instead c left),
 )
 
 pub done_is_on : (d : DeviceState) → DoneIsOn d
-done_is_on d device points calls answers clocks kept i done by is c left =
+done_is_on d device shown points calls answers clocks kept i done by is c left =
     kept i done by (take (length (start_of device)) c) (is.left c left)
 
-module _ (device : QueueDevice) (points : List Point) (calls : List Call) (answers : List Answer) (clocks : List ℕ)
-    (kept : KeepsDone device points calls answers clocks) (old new : DeviceState) (i : ℕ) (orders : List Order)
+module _ (device : QueueDevice) (shown : Content → Content) (points : List Point) (calls : List Call) (answers : List Answer)
+    (clocks : List ℕ) (kept : KeepsDone device shown points calls answers clocks) (old new : DeviceState) (i : ℕ) (orders : List Order)
     (next : ComeNext device clocks old new orders i) where
   abbrev Kept : Content → Type 0
-  Kept = StandsFirst device points calls answers clocks i
+  Kept = StandsFirst device shown points calls answers clocks i
 
   abbrev Since : List Order → Content → Type 0
   Since told c = LeftSince (λ k. k) (start_of device) told (length next.done) (take (length (start_of device)) c)
@@ -60,8 +60,8 @@ module _ (device : QueueDevice) (points : List Point) (calls : List Call) (answe
       (is.moments (λ k. k) next.sectors next.keeps (start_of device) next.done next.as_told)
 
 pub done_meanwhile : (old new : DeviceState) → DoneMeanwhile old new
-done_meanwhile old new device points calls answers clocks kept i orders next is =
-    carried device points calls answers clocks kept old new i orders next is
+done_meanwhile old new device shown points calls answers clocks kept i orders next is =
+    carried device shown points calls answers clocks kept old new i orders next is
 
 -- ---- how orders may come next
 module _ (device : QueueDevice) (clocks : List ℕ) where

@@ -4,7 +4,7 @@ use Rattle.lfs_model.specs.Call.{Answer, Call}
 use Rattle.lfs_model.specs.Content.{Content}
 use Rattle.lfs_model.specs.Device.{AllLeft, AreSectors, DeviceState, IsBeginning, LeavesOnly, in_sectors}
 use Rattle.lfs_model.specs.Run.{Point}
-use Rattle.lfs_model.specs.Since.{Since, StandsFrom}
+use Rattle.lfs_model.specs.Since.{StandsFrom}
 use Rattle.lfs_model.specs.declared.Order.{Order}
 use Rattle.lfs_model.specs.declared.Order.TheVariants.{Sync}
 use Rattle.lfs_queue.specs.Carrying.{IsAsTold, IsCarried, IsCarriedUpTo}
@@ -65,20 +65,23 @@ pub record MayComeNext (device : QueueDevice) (clocks : List ℕ) : Type 0 where
 abbrev pub OrdersMayCome : Type 0
 OrdersMayCome = (device : QueueDevice) (clocks : List ℕ) → MayComeNext device clocks
 
-module _ (device : QueueDevice) (points : List Point) (calls : List Call) (answers : List Answer) (clocks : List ℕ) where
+-- The calls are those of a volume that has this of a content of the device.
+module _ (device : QueueDevice) (shown : Content → Content) (points : List Point) (calls : List Call) (answers : List Answer)
+    (clocks : List ℕ) where
   -- As contracts say it of the device of orders: a stop at any moment since the i-th clock leaves the state behind every call of the
   -- first i that was acknowledged, or a later one.
   abbrev pub KeepsSince : Type 0
-  KeepsSince = (i t : ℕ) → slice_get clocks i ≡ Some t → Since (in_sectors queue_state device) points calls answers i t
+  KeepsSince = (i t : ℕ) → slice_get clocks i ≡ Some t → (c : Content) → (in_sectors queue_state device).left_since t c
+      → StandsFrom points calls answers i (shown c)
 
   -- A stop leaves such a state once the orders are done that were told by that clock.
   abbrev pub KeepsDone : Type 0
   KeepsDone = (i : ℕ) (done : List Order) → IsDoneBy device clocks done i → (c : Content) → MayLeave (λ k. k) (start_of device) done c
-      → StandsFrom points calls answers i c
+      → StandsFrom points calls answers i (shown c)
 
   -- the same of the first sectors of a longer device, as many as the image has
   abbrev pub StandsFirst : ℕ → Content → Type 0
-  StandsFirst i c = StandsFrom points calls answers i (take (length (start_of device)) c)
+  StandsFirst i c = StandsFrom points calls answers i (shown (take (length (start_of device)) c))
 
   -- A device on which they are done leaves such contents,
   abbrev pub KeepsOn : DeviceState → Type 0
@@ -92,14 +95,15 @@ module _ (device : QueueDevice) (points : List Point) (calls : List Call) (answe
 
 -- What contracts say of the device of orders is so of orders that are done,
 abbrev pub SinceIsDone : Type 0
-SinceIsDone = (device : QueueDevice) (points : List Point) (calls : List Call) (answers : List Answer) (clocks : List ℕ)
-    → KeepsSince device points calls answers clocks → KeepsDone device points calls answers clocks
+SinceIsDone = (device : QueueDevice) (shown : Content → Content) (points : List Point) (calls : List Call) (answers : List Answer)
+    (clocks : List ℕ) → KeepsSince device shown points calls answers clocks → KeepsDone device shown points calls answers clocks
 
 -- and of the device that they are done on.
 abbrev pub DoneIsOn : DeviceState → Type 0
-DoneIsOn d = (device : QueueDevice) (points : List Point) (calls : List Call) (answers : List Answer) (clocks : List ℕ)
-    → KeepsDone device points calls answers clocks → KeepsOn device points calls answers clocks d
+DoneIsOn d = (device : QueueDevice) (shown : Content → Content) (points : List Point) (calls : List Call) (answers : List Answer)
+    (clocks : List ℕ) → KeepsDone device shown points calls answers clocks → KeepsOn device shown points calls answers clocks d
 
 abbrev pub DoneMeanwhile : DeviceState → DeviceState → Type 0
-DoneMeanwhile old new = (device : QueueDevice) (points : List Point) (calls : List Call) (answers : List Answer) (clocks : List ℕ)
-    → KeepsDone device points calls answers clocks → KeepsMeanwhile device points calls answers clocks old new
+DoneMeanwhile old new = (device : QueueDevice) (shown : Content → Content) (points : List Point) (calls : List Call)
+    (answers : List Answer) (clocks : List ℕ) → KeepsDone device shown points calls answers clocks
+    → KeepsMeanwhile device shown points calls answers clocks old new

@@ -7,9 +7,11 @@ use lfs_fs::FsError;
 use lfs_host::fault::{Ending, Fault, Refusal};
 use lfs_host::image::{Beside, Patience, open_to_look};
 use lfs_host::printing::flush;
+use lfs_host::shape::{put_shape, shape_of};
 use lfs_layout::Checkpoint;
+use lfs_places::Places;
 use lfs_put::UNFINISHED;
-use lfs_salvage::{Damage, find_damage, read_addresses, read_paths, read_slots};
+use lfs_salvage::{ByPlaces, Damage, find_damage, read_addresses, read_paths, read_slots};
 use std::alloc::{AllocError, Global};
 use std::fs::File;
 use std::io::Write;
@@ -35,9 +37,10 @@ fn damage_of<D: SectorDevice>(
 }
 
 // Says where a volume is damaged, and what unfinished files it has.
-fn put_places<D: SectorDevice, W: Write>(
+fn put_findings<D: SectorDevice, W: Write>(
     alloc: Global,
     device: &mut D,
+    places: Places,
     checkpoint: &Checkpoint,
     code: u8,
     output: &mut W,
@@ -49,8 +52,8 @@ fn put_places<D: SectorDevice, W: Write>(
     let paths = read_paths(alloc, device, &addresses, checkpoint.segments, UNFINISHED)?;
     if let Some(damage) = damage {
         match paths.path_of(alloc, damage.number)? {
-            Some(path) => put_damage(output, damage, Some(path.as_slice()))?,
-            None => put_damage(output, damage, None)?,
+            Some(path) => put_damage(output, places, damage, Some(path.as_slice()))?,
+            None => put_damage(output, places, damage, None)?,
         }
     }
     for directory in paths.holders() {
@@ -61,23 +64,25 @@ fn put_places<D: SectorDevice, W: Write>(
     Ok(())
 }
 
-// Says what there is to say of a volume whose mount answered this code, or 0.
-fn explain_device<D: SectorDevice, W: Write>(
+// Says what there is to say of a volume by these places whose mount answered this code, or 0.
+fn explain_volume<D: SectorDevice, W: Write>(
     alloc: Global,
     device: &mut D,
+    places: Places,
     code: u8,
     output: &mut W,
 ) -> Result<(), Fault>
     ensures { TellsNothing (D.state device.old) (D.state device.new) }
 {
-    let slots = read_slots(device);
+    let slots = read_slots(device).by(places);
     let Some(checkpoint) = slots.newest() else {
         return Ok(());
     };
-    if let Some(sector) = slots.lost() {
-        put_slot(output, sector)?;
+    put_shape(output, &shape_of(&checkpoint))?;
+    if let Some(slot) = slots.lost() {
+        put_slot(output, places, slot)?;
     }
-    put_places(alloc, device, &checkpoint, code, output)?;
+    put_findings(alloc, device, places, &checkpoint, code, output)?;
     flush(output)
 }
 
@@ -105,8 +110,10 @@ pub fn explain<Here: World, R: Files<File = File> + Clock, W: Write>(
         return Ok(checked);
     };
     match open_to_look::<Here, R>(rt, alloc, image, patience) {
-        Ok((mut device, Beside::Nobody)) => {
-            explain_device(alloc, &mut device, code, output)?;
+        Ok((device, Beside::Nobody)) => {
+            let mut volume = ByPlaces::find(device);
+            let places = volume.places();
+            explain_volume(alloc, &mut volume, places, code, output)?;
             Ok(checked)
         }
         Err(Refusal::Call(FsError::NoMemory)) => Err(Fault::Memory(AllocError)),

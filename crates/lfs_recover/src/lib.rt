@@ -3,7 +3,7 @@
 
 mod contents;
 mod explaining;
-mod places;
+mod host_paths;
 mod recovering;
 mod rescue;
 mod telling;

@@ -12,7 +12,8 @@ use lfs_host::host;
 use lfs_host::image::{Beside, Patience, open_to_look};
 use lfs_host::printing::{flush, print, put_count, refuse};
 use lfs_layout::Checkpoint;
-use lfs_salvage::read_slots;
+use lfs_places::Places;
+use lfs_salvage::{ByPlaces, Slots, read_slots};
 use std::alloc::Global;
 use std::fs::File;
 use std::io::Write;
@@ -31,45 +32,62 @@ pub struct Recovery<'a> {
 /// What a recovery begins with.
 #[derive(Clone, Copy)]
 struct Start {
+    /// The places of the volume.
+    places: Places,
     checkpoint: Checkpoint,
     /// The slot whose checkpoint may be lost, and be a newer one.
     lost: Option<u32>,
 }
 
+/// Which checkpoint isn't there.
+#[derive(Clone, Copy)]
+enum Lack {
+    Newest,
+    Older,
+}
+
 // What a recovery begins with. By the older checkpoint the newest is there.
-fn chosen<D: SectorDevice>(device: &mut D, older: bool) -> Result<Start, Refusal>
-    ensures { TellsNothing (D.state device.old) (D.state device.new) }
-{
-    let slots = read_slots(device);
+fn chosen(slots: &Slots, places: Places, older: bool) -> Result<Start, Lack> {
     let Some(newest) = slots.newest() else {
-        return Err(explained(MountFault::NoCheckpoint, device));
+        return Err(Lack::Newest);
     };
     let lost = slots.lost();
     if !older {
         return Ok(Start {
+            places,
             checkpoint: newest,
             lost,
         });
     }
     match slots.older() {
-        Some(checkpoint) => Ok(Start { checkpoint, lost }),
-        None => Err(Refusal::NoOlder),
+        Some(checkpoint) => Ok(Start {
+            places,
+            checkpoint,
+            lost,
+        }),
+        None => Err(Lack::Older),
+    }
+}
+
+// The refusal of a device whose volume lacks a checkpoint.
+fn refusal_of<D: SectorDevice>(lack: Lack, device: &mut D) -> Refusal
+    ensures { TellsNothing (D.state device.old) (D.state device.new) }
+{
+    match lack {
+        Lack::Newest => explained(MountFault::NoCheckpoint, device),
+        Lack::Older => Refusal::NoOlder,
     }
 }
 
 // Tells what of the checkpoint and of the map is missing: whether anything is.
-fn tell_start<W: Write>(
-    lost: Option<u32>,
-    gaps: &[(u32, u32)],
-    output: &mut W,
-) -> Result<bool, Fault> {
-    if let Some(sector) = lost {
-        put_slot(output, sector)?;
+fn tell_start<W: Write>(start: &Start, gaps: &[(u32, u32)], output: &mut W) -> Result<bool, Fault> {
+    if let Some(slot) = start.lost {
+        put_slot(output, start.places, slot)?;
     }
     for (block, sector) in gaps {
-        tell_map(output, *block, *sector)?;
+        tell_map(output, start.places, *block, *sector)?;
     }
-    Ok(lost.is_some() || !gaps.is_empty())
+    Ok(start.lost.is_some() || !gaps.is_empty())
 }
 
 // Brings out all, and tells how much that is.
@@ -77,13 +95,13 @@ fn take_all<D: SectorDevice, R: Files<File = File>, W: Write>(
     rt: &R,
     alloc: Global,
     device: &mut D,
-    lost: Option<u32>,
+    start: &Start,
     rescue: &mut Rescue<'_>,
     output: &mut W,
 ) -> Result<Ending, Fault>
     ensures { TellsNothing (D.state device.old) (D.state device.new) }
 {
-    rescue.is_lacking = tell_start(lost, rescue.gaps(), output)?;
+    rescue.is_lacking = tell_start(start, rescue.gaps(), output)?;
     rescue.take_all(rt, alloc, device, output)?;
     put_count(output, b"ok ", rescue.whole)?;
     put_count(output, b" files whole, ", rescue.in_part)?;
@@ -106,11 +124,11 @@ fn recover_from<D: SectorDevice, R: Files<File = File>, W: Write>(
 ) -> Result<Ending, Fault>
     ensures { TellsNothing (D.state device.old) (D.state device.new) }
 {
-    let mut rescue = Rescue::new(alloc, device, &start.checkpoint, folder)?;
+    let mut rescue = Rescue::new(alloc, device, start.places, &start.checkpoint, folder)?;
     if let Err(fault) = host::make_folder(rt, folder) {
         return Err(Fault::of_host(alloc, folder, fault));
     }
-    match take_all(rt, alloc, device, start.lost, &mut rescue, output) {
+    match take_all(rt, alloc, device, start, &mut rescue, output) {
         Ok(ending) => Ok(ending),
         Err(fault) => {
             flush(output)?;
@@ -128,15 +146,18 @@ pub fn recover<Here: World, R: Files<File = File> + Clock, W: Write>(
     recovery: Recovery<'_>,
     output: &mut W,
 ) -> Result<Ending, Fault> {
-    let (mut device, beside) = match open_to_look::<Here, R>(rt, alloc, image, Patience::Second) {
+    let (device, beside) = match open_to_look::<Here, R>(rt, alloc, image, Patience::Second) {
         Ok(opened) => opened,
         Err(refusal) => return refuse(output, refusal),
     };
     if beside == Beside::Writer {
         return refuse(output, Refusal::Image(ImageFault::InUse));
     }
-    match chosen(&mut device, recovery.older) {
-        Ok(start) => recover_from(rt, alloc, &mut device, &start, recovery.folder, output),
-        Err(refusal) => refuse(output, refusal),
+    let mut volume = ByPlaces::find(device);
+    let places = volume.places();
+    let slots = read_slots(&mut volume).by(places);
+    match chosen(&slots, places, recovery.older) {
+        Ok(start) => recover_from(rt, alloc, &mut volume, &start, recovery.folder, output),
+        Err(lack) => refuse(output, refusal_of(lack, &mut volume.into_inner())),
     }
 }

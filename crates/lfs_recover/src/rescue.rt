@@ -2,7 +2,7 @@
 ghost use Rattle.lfs_salvage.specs.Telling.{TellsNothing};
 
 use crate::contents::{Stop, Text, fill, text_of};
-use crate::places::{LOST, Places, below, by_number, on_host};
+use crate::host_paths::{HostPaths, LOST, below, by_number, on_host};
 use crate::telling::{tell_lost, tell_moved, tell_part, tell_path, tell_strays};
 use lfs_device::SectorDevice;
 use lfs_host::fault::Fault;
@@ -10,6 +10,7 @@ use lfs_host::host;
 use lfs_host::host::{HostFault, made};
 use lfs_layout::{Checkpoint, Inode};
 use lfs_model::Kind;
+use lfs_places::Places;
 use lfs_salvage::{
     Addresses, Entry, Flaw, Listing, NUMBERS, Object, ROOT, Readings, Walk, list, named_by,
     read_addresses,
@@ -41,6 +42,8 @@ pub struct Rescue<'a> {
     addresses: Addresses,
     readings: Readings,
     walk: Walk,
+    paths: HostPaths,
+    /// The places of the volume.
     places: Places,
     /// How many files came out whole, and how many in part.
     pub whole: u64,
@@ -84,7 +87,7 @@ fn link_to<R: Files<File = File>>(
 }
 
 impl<'a> Rescue<'a> {
-    /// Begins with a checkpoint.
+    /// Begins with a checkpoint of a volume by these places.
     ///
     /// # Errors
     ///
@@ -92,6 +95,7 @@ impl<'a> Rescue<'a> {
     pub fn new<D: SectorDevice>(
         alloc: Global,
         device: &mut D,
+        places: Places,
         checkpoint: &Checkpoint,
         folder: &'a str,
     ) -> Result<Rescue<'a>, AllocError>
@@ -102,7 +106,8 @@ impl<'a> Rescue<'a> {
             addresses: read_addresses(alloc, device, checkpoint)?,
             readings: Readings::new(alloc, checkpoint.segments)?,
             walk: Walk::new(alloc)?,
-            places: Places::new(alloc)?,
+            paths: HostPaths::new(alloc)?,
+            places,
             whole: 0,
             in_part: 0,
             is_lacking: false,
@@ -128,7 +133,7 @@ impl<'a> Rescue<'a> {
         }
         self.in_part = self.in_part.saturating_add(1);
         self.is_lacking = true;
-        tell_part(output, path, flaws)
+        tell_part(output, self.places, path, flaws)
     }
 
     // Makes a file of the host.
@@ -183,7 +188,7 @@ impl<'a> Rescue<'a> {
             return Ok(());
         };
         self.is_lacking = true;
-        tell_part(output, path, &[Flaw::PastEnd(sector)])
+        tell_part(output, self.places, path, &[Flaw::PastEnd(sector)])
     }
 
     // Makes a link of the host.
@@ -235,7 +240,7 @@ impl<'a> Rescue<'a> {
 
     // An object stands at a path now, and what is below it comes later.
     fn settle(&mut self, inode: &Inode, path: Vec<u8>) -> Result<(), AllocError> {
-        self.places.set(inode, path);
+        self.paths.set(inode, path);
         match inode.kind {
             Kind::Directory => self.walk.push(inode.number),
             Kind::File | Kind::Link => Ok(()),
@@ -350,7 +355,7 @@ impl<'a> Rescue<'a> {
         path: &[u8],
         output: &mut W,
     ) -> Result<(), Fault> {
-        let place = self.places.get(number).to_vec(alloc)?;
+        let place = self.paths.get(number).to_vec(alloc)?;
         if place.is_empty() && number != ROOT {
             return self.omit(path, output);
         }
@@ -380,11 +385,11 @@ impl<'a> Rescue<'a> {
             Object::There(inode) => { self.put_object(rt, alloc, device, &inode, path, output) }
             Object::Lost(sector) => {
                 self.is_lacking = true;
-                tell_lost(output, path.as_slice(), sector)
+                tell_lost(output, self.places, path.as_slice(), sector)
             }
             Object::Absent => {
                 self.is_lacking = true;
-                tell_lost(output, path.as_slice(), 0)
+                tell_lost(output, self.places, path.as_slice(), 0)
             }
         }
     }
@@ -400,8 +405,8 @@ impl<'a> Rescue<'a> {
             return Ok(());
         }
         self.is_lacking = true;
-        tell_part(output, path, listing.flaws.as_slice())?;
-        tell_strays(output, listing.strays.as_slice())
+        tell_part(output, self.places, path, listing.flaws.as_slice())?;
+        tell_strays(output, self.places, listing.strays.as_slice())
     }
 
     // Goes through a directory.
@@ -418,7 +423,7 @@ impl<'a> Rescue<'a> {
         let Object::There(inode) = self.addresses.object(device, number) else {
             return Ok(());
         };
-        let above = self.places.get(number).to_vec(alloc)?;
+        let above = self.paths.get(number).to_vec(alloc)?;
         let listing = list(alloc, device, &mut self.readings, &inode)?;
         self.tell_listing(above.as_slice(), &listing, output)?;
         for entry in &listing.entries {
@@ -531,11 +536,11 @@ impl<'a> Rescue<'a> {
             Object::There(_) => Ok(()),
             Object::Lost(sector) => {
                 self.is_lacking = true;
-                tell_lost(output, b"", sector)
+                tell_lost(output, self.places, b"", sector)
             }
             Object::Absent => {
                 self.is_lacking = true;
-                tell_lost(output, b"", 0)
+                tell_lost(output, self.places, b"", 0)
             }
         }
     }

@@ -2,8 +2,20 @@
 use lfs_host::fault::Fault;
 use lfs_host::printing::{put, put_count, put_word};
 use lfs_model::limits::BLOCK_POINTERS;
-use lfs_salvage::{Flaw, Gap, Place};
+use lfs_places::Places;
+use lfs_salvage::{Flaw, Gap, Place, device_sector};
 use std::io::Write;
+
+/// Writes a sector of a volume as people are told of it: as the sector of the device at which it
+/// stands.
+pub fn put_sector<W: Write>(
+    output: &mut W,
+    places: Places,
+    label: &[u8],
+    sector: u32,
+) -> Result<(), Fault> {
+    put_count(output, label, device_sector(places, sector))
+}
 
 /// Writes the path of an object, that of the root as a slash.
 pub fn put_path<W: Write>(output: &mut W, path: &[u8]) -> Result<(), Fault> {
@@ -31,27 +43,37 @@ pub fn tell_moved<W: Write>(output: &mut W, path: &[u8], place: &[u8]) -> Result
 }
 
 /// Writes that an entry leads to no inode. The sector is 0 where no sector is known for it.
-pub fn tell_lost<W: Write>(output: &mut W, path: &[u8], sector: u32) -> Result<(), Fault> {
+pub fn tell_lost<W: Write>(
+    output: &mut W,
+    places: Places,
+    path: &[u8],
+    sector: u32,
+) -> Result<(), Fault> {
     put(output, b"lost ")?;
     put_path(output, path)?;
     if sector != 0 {
-        put_count(output, b" sector ", u64::from(sector))?;
+        put_sector(output, places, b" sector ", sector)?;
     }
     put(output, b"\n")
 }
 
 /// Writes that the inodes of a block of the map can't be found.
-pub fn tell_map<W: Write>(output: &mut W, block: u32, sector: u32) -> Result<(), Fault> {
+pub fn tell_map<W: Write>(
+    output: &mut W,
+    places: Places,
+    block: u32,
+    sector: u32,
+) -> Result<(), Fault> {
     let pointers = u64::from(BLOCK_POINTERS);
     let first = u64::from(block) * pointers;
     put_count(output, b"lost numbers ", first)?;
     put_count(output, b" to ", first + pointers - 1)?;
-    put_count(output, b" sector ", u64::from(sector))?;
+    put_sector(output, places, b" sector ", sector)?;
     put(output, b"\n")
 }
 
 // Writes which blocks are missing.
-fn tell_gap<W: Write>(output: &mut W, gap: Gap) -> Result<(), Fault> {
+fn tell_gap<W: Write>(output: &mut W, places: Places, gap: Gap) -> Result<(), Fault> {
     let first = u64::from(gap.first);
     if gap.count > 1 {
         put_count(output, b"  blocks ", first)?;
@@ -60,35 +82,44 @@ fn tell_gap<W: Write>(output: &mut W, gap: Gap) -> Result<(), Fault> {
     } else {
         put_count(output, b"  block ", first)?;
     }
-    put_count(output, b" sector ", u64::from(gap.sector))?;
+    put_sector(output, places, b" sector ", gap.sector)?;
     put(output, b"\n")
 }
 
 // Writes what is amiss with blocks.
-fn tell_flaw<W: Write>(output: &mut W, flaw: Flaw) -> Result<(), Fault> {
+fn tell_flaw<W: Write>(output: &mut W, places: Places, flaw: Flaw) -> Result<(), Fault> {
     match flaw {
-        Flaw::Gap(gap) => tell_gap(output, gap),
+        Flaw::Gap(gap) => tell_gap(output, places, gap),
         Flaw::PastEnd(sector) => {
-            put_count(output, b"  past the end sector ", u64::from(sector))?;
+            put_sector(output, places, b"  past the end sector ", sector)?;
             put(output, b"\n")
         }
     }
 }
 
 /// Writes that the object of a path is there in part, or has more than its own, and where.
-pub fn tell_part<W: Write>(output: &mut W, path: &[u8], flaws: &[Flaw]) -> Result<(), Fault> {
+pub fn tell_part<W: Write>(
+    output: &mut W,
+    places: Places,
+    path: &[u8],
+    flaws: &[Flaw],
+) -> Result<(), Fault> {
     tell_path(output, b"part ", path)?;
     for flaw in flaws {
-        tell_flaw(output, *flaw)?;
+        tell_flaw(output, places, *flaw)?;
     }
     Ok(())
 }
 
 /// Writes which slots of a directory can't be read.
-pub fn tell_strays<W: Write>(output: &mut W, places: &[Place]) -> Result<(), Fault> {
-    for place in places {
-        put_count(output, b"  slot ", u64::from(place.slot))?;
-        put_count(output, b" sector ", u64::from(place.sector))?;
+pub fn tell_strays<W: Write>(
+    output: &mut W,
+    places: Places,
+    strays: &[Place],
+) -> Result<(), Fault> {
+    for stray in strays {
+        put_count(output, b"  slot ", u64::from(stray.slot))?;
+        put_sector(output, places, b" sector ", stray.sector)?;
         put(output, b"\n")?;
     }
     Ok(())

@@ -1,8 +1,9 @@
 //! What `check -v` says behind the line of `check`.
-use crate::telling::put_path;
+use crate::telling::{put_path, put_sector};
 use lfs_host::fault::Fault;
 use lfs_host::printing::{put, put_count};
-use lfs_salvage::{Damage, Part};
+use lfs_places::Places;
+use lfs_salvage::{Damage, Part, device_sector};
 use std::io::Write;
 
 // Writes a part of an object or of the volume.
@@ -41,6 +42,7 @@ fn put_place<W: Write>(output: &mut W, damage: Damage) -> Result<(), Fault> {
 /// Writes where a volume is damaged. The path is that of the object.
 pub fn put_damage<W: Write>(
     output: &mut W,
+    places: Places,
     damage: Damage,
     path: Option<&[u8]>,
 ) -> Result<(), Fault> {
@@ -48,7 +50,7 @@ pub fn put_damage<W: Write>(
     put(output, b": first at ")?;
     put_place(output, damage)?;
     if damage.sector != 0 {
-        put_count(output, b", sector ", u64::from(damage.sector))?;
+        put_sector(output, places, b", sector ", damage.sector)?;
     }
     if let Some(path) = path {
         put(output, b", path ")?;
@@ -57,9 +59,13 @@ pub fn put_damage<W: Write>(
     put(output, b"\n")
 }
 
-/// Writes that a slot holds no checkpoint.
-pub fn put_slot<W: Write>(output: &mut W, sector: u32) -> Result<(), Fault> {
-    put_count(output, b"note: slot ", u64::from(sector))?;
+/// Writes that a slot holds no checkpoint, and its sector where that hasn't the slot's number.
+pub fn put_slot<W: Write>(output: &mut W, places: Places, slot: u32) -> Result<(), Fault> {
+    put_count(output, b"note: slot ", u64::from(slot))?;
+    if device_sector(places, slot) != u64::from(slot) {
+        put_sector(output, places, b", sector ", slot)?;
+        put(output, b",")?;
+    }
     put(output, b" holds no checkpoint: a newer state may be lost\n")
 }
 

@@ -1,11 +1,10 @@
 -- The sectors of an object's blocks, by what a walk over them has at hand.
 use Rattle.std.proofs.Common.{◌≡◌, ◌<◌, ◌≤◌, ◌-◌, ◌%◌, ⊎_elim, ℕ, zero, suc, nat_lt, List, get_or, Some}
-use Rattle.std.proofs.Common.{None, Option, IfSome, refl, sym, ◌∙◌, ap, ap₂, subst, arith}
+use Rattle.std.proofs.Common.{None, Option, IfSome, sym, ◌∙◌, ap, ap₂, subst, arith}
 use Rattle.std.specs.List.{slice_get}
 use Rattle.std.proofs.lemmas.Bool.{cases_lt, cond-true, cond-false, lt-ltb, le-ltb}
 use Rattle.std.proofs.lemmas.Option.{IfSome_then, get_or_from_slice_get, slice_get_within}
-use Rattle.lfs_model.specs.Content.{Content, block, bytes_of}
-use Rattle.lfs_model.specs.Device.{cell_at}
+use Rattle.lfs_model.specs.Content.{Content, block}
 use Rattle.lfs_model.specs.Entry.{word}
 use Rattle.lfs_model.specs.Fields.{read32}
 use Rattle.lfs_model.specs.Inode.{InodeValue}
@@ -14,8 +13,7 @@ use Rattle.lfs_model.specs.Reach.{address, inode_block, leaf_address}
 use Rattle.lfs_model.proofs.PointerPlaces.{pointers_back}
 use Rattle.lfs_model.proofs.Runs.{length-run}
 use Rattle.lfs_model.proofs.Words.{inode_words, pointer_word}
-use Rattle.lfs_salvage.specs.Blocks.{AddressesAgree, Follows, HoldsAddresses, KeepsAddresses, block_address, row_address, row_place}
-use Rattle.lfs_salvage.specs.declared.blocks.Blocks.{Blocks}
+use Rattle.lfs_salvage.specs.Blocks.{AddressesAgree, HoldsAddresses, block_address, row_address, row_place}
 use Rattle.lfs_salvage.specs.declared.blocks.Row.{Row}
 
 -- a block's addresses are those that stand at its places

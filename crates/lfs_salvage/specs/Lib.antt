@@ -1,3 +1,4 @@
+pub mod AtPlaces
 pub mod Blocks
 pub mod Met
 pub mod Readings

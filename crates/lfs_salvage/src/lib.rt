@@ -4,6 +4,7 @@
 
 mod addresses;
 mod blocks;
+mod by_places;
 mod checking;
 mod count_stages;
 mod damage;
@@ -19,10 +20,11 @@ mod walk;
 
 pub use addresses::{Addresses, Object, read_addresses};
 pub use blocks::{Blocks, Flaw, Gap, MOST_STEPS, Piece, addresses_agree};
+pub use by_places::{ByPlaces, device_sector};
 pub use checking::find_damage;
 pub use damage::{Damage, Part};
 pub use directory::{Entry, Listing, Place, list};
 pub use paths::{Paths, read_paths};
 pub use readings::{Readings, read_sector};
-pub use slots::{Slot, Slots, read_slots};
+pub use slots::{Slot, Slots, read_slots, slot_of};
 pub use walk::{NUMBERS, ROOT, Walk, named_by};

@@ -41,6 +41,13 @@ fn take_entries(survey: &mut Survey, view: &UsageView<'_>, count: usize) -> Chec
     Ok(())
 }
 
+// Whether the used parts of the segments, as far as they are known, are whole units.
+fn are_whole(survey: &Survey) -> bool {
+    let power = u32::from(survey.checkpoint.unit_power);
+    let mut used = survey.usage.iter().map(|entry| entry.used);
+    used.all(|used| used.trailing_zeros() >= power)
+}
+
 // Looks at a usage block.
 fn take_usage<D: SectorDevice>(device: &mut D, survey: &mut Survey, block: TableBlock) -> Checked
     ensures { TellsNothing (D.state device.old) (D.state device.new) }
@@ -63,7 +70,11 @@ fn take_usage<D: SectorDevice>(device: &mut D, survey: &mut Survey, block: Table
     let Some(view) = UsageView::decode(&bytes, count) else {
         return Err(Stage(1).fails(part, sector));
     };
-    take_entries(survey, &view, count)
+    take_entries(survey, &view, count)?;
+    if !are_whole(survey) {
+        return Err(Stage(1).fails(part, sector));
+    }
+    Ok(())
 }
 
 // Looks at a block of the inode map.

@@ -1,10 +1,12 @@
 //! The two slots of the checkpoint.
 ghost use Rattle.std.specs.Prelude.{
   ◌≡◌,
+  ◌+◌,
   ◌<◌,
   ◌≤◌,
   ◌↔◌,
   ◌⊎◌,
+  ◌^◌,
   IsFalse,
   IsTrue,
   IsSome,
@@ -12,15 +14,17 @@ ghost use Rattle.std.specs.Prelude.{
   None,
   Some,
 };
-ghost use Rattle.lfs_model.specs.Checkpoint.{checkpoint_in};
-ghost use Rattle.lfs_model.specs.Content.{with_parity};
+ghost use Rattle.lfs_model.specs.Checkpoint.{FitsCheckpoint, checkpoint_in, is_last, layout_version, rank};
+ghost use Rattle.lfs_model.specs.Content.{newer, with_parity};
 ghost use Rattle.lfs_model.specs.Device.{Carries};
-ghost use Rattle.lfs_salvage.specs.Slots.{IsFound, held_in, number_in};
+ghost use Rattle.lfs_salvage.specs.Slots.{AreFit, IsFit, IsFound, held_in, number_in, rank_in, standing, stands};
 ghost use Rattle.lfs_salvage.specs.Telling.{TellsNothing};
 
 use crate::readings::read_sector;
 use lfs_device::SectorDevice;
 use lfs_layout::{Checkpoint, is_zero};
+use lfs_model::limits::LAST_VERSION;
+use lfs_places::Places;
 
 /// What a slot holds.
 #[derive(Clone, Copy)]
@@ -32,10 +36,44 @@ pub enum Slot {
     Other,
 }
 
+/// What is added to the number of a checkpoint of an older version, before which none of the last
+/// counts.
+const OLDER: u128 = 1 << 64;
+
+// Whether it is of the last version of the layout.
+fn is_of_last(checkpoint: &Checkpoint) -> bool
+    ensures { result ≡ is_last (layout_version checkpoint.now) }
+{
+    checkpoint.version == LAST_VERSION
+}
+
+// The rank of a checkpoint: of two that with the greater one counts.
+fn rank(checkpoint: &Checkpoint) -> u128
+    ensures rank { result ≡ rank checkpoint.now }
+    ensures few { result < 2 ^ 65 }
+{
+    if is_of_last(checkpoint) {
+        u128::from(checkpoint.number)
+    } else {
+        OLDER + u128::from(checkpoint.number)
+    }
+}
+
+// Whether volumes of its version stand by these places.
+fn stands(places: Places, checkpoint: &Checkpoint) -> bool
+    ensures { result ≡ stands places (is_last (layout_version checkpoint.now)) }
+{
+    match places {
+        Places::Old => !is_of_last(checkpoint),
+        Places::New => is_of_last(checkpoint),
+    }
+}
+
 impl Slot {
     fn checkpoint(&self) -> Option<Checkpoint>
         ensures found { 0 < number_in self.now → IsSome result }
         ensures number { IfSome result (λ c. c.number ≡ number_in self.now) }
+        ensures held { result ≡ held_in self.now }
     {
         match self {
             Slot::Whole(checkpoint) => Some(*checkpoint),
@@ -50,6 +88,27 @@ impl Slot {
         match self {
             Slot::Whole(checkpoint) => checkpoint.number,
             Slot::Empty | Slot::Other => 0,
+        }
+    }
+
+    // 0 where it holds no checkpoint, and else above the rank of that by 1.
+    fn rank(&self) -> u128
+        ensures { result ≡ rank_in self.now }
+    {
+        match self {
+            Slot::Whole(checkpoint) => rank(checkpoint) + 1,
+            Slot::Empty | Slot::Other => 0,
+        }
+    }
+
+    // The same, by places at which a checkpoint of some versions is none.
+    fn by(&self, places: Places) -> Slot
+        ensures held { held_in result ≡ standing places (held_in self.now) }
+        ensures fit { IsFit self.now → IsFit result }
+    {
+        match self {
+            Slot::Whole(checkpoint) if !stands(places, checkpoint) => Slot::Other,
+            slot => *slot,
         }
     }
 
@@ -75,9 +134,10 @@ pub struct Slots {
     pub second: Slot,
 }
 
-// What a slot holds that has these bytes. A checkpoint stands in the slot that its number says.
-fn slot_of(bytes: &[u8; 512], sector: u32) -> Slot
-    ensures { held_in result ≡ with_parity sector (checkpoint_in bytes.now) }
+/// What a slot holds that has these bytes. A checkpoint stands in the slot that its number says.
+pub fn slot_of(bytes: &[u8; 512], sector: u32) -> Slot
+    ensures held { held_in result ≡ with_parity sector (checkpoint_in bytes.now) }
+    ensures fit { IsFit result }
 {
     let Some(checkpoint) = Checkpoint::decode(bytes) else {
         if is_zero(bytes) {
@@ -93,6 +153,7 @@ fn slot_of(bytes: &[u8; 512], sector: u32) -> Slot
 
 fn read_slot<D: SectorDevice>(device: &mut D, sector: u32) -> Slot
     ensures found { IsFound (D.state device.old) (D.state device.new) sector (held_in result) }
+    ensures fit { IsFit result }
     ensures content { (D.state device.new).content ≡ (D.state device.old).content }
     ensures carries { Carries (D.state device.old) (D.state device.new) }
     ensures told { TellsNothing (D.state device.old) (D.state device.new) }
@@ -107,6 +168,7 @@ fn read_slot<D: SectorDevice>(device: &mut D, sector: u32) -> Slot
 pub fn read_slots<D: SectorDevice>(device: &mut D) -> Slots
     ensures first { IsFound (D.state device.old) (D.state device.new) 0 (held_in result.first) }
     ensures second { IsFound (D.state device.old) (D.state device.new) 1 (held_in result.second) }
+    ensures fit { AreFit result }
     ensures told { TellsNothing (D.state device.old) (D.state device.new) }
 {
     Slots {
@@ -118,17 +180,33 @@ pub fn read_slots<D: SectorDevice>(device: &mut D) -> Slots
 impl Slots {
     // Whether the checkpoint of the first slot is the newest.
     fn is_first_newest(&self) -> bool
-        ensures { IsTrue result ↔ number_in self.now.second < number_in self.now.first }
+        ensures { IsTrue result ↔ rank_in self.now.second ≤ rank_in self.now.first }
     {
-        self.first.number() > self.second.number()
+        self.second.rank() <= self.first.rank()
     }
 
-    /// The newest checkpoint, with which a mount begins.
+    /// The same, by the places of a volume: by the old ones a checkpoint of the last version of the
+    /// layout is none, and by the new ones only such a one is a checkpoint.
+    pub fn by(&self, places: Places) -> Slots
+        ensures first { held_in result.first ≡ standing places (held_in self.now.first) }
+        ensures second { held_in result.second ≡ standing places (held_in self.now.second) }
+        ensures fit { AreFit self.now → AreFit result }
+    {
+        Slots {
+            first: self.first.by(places),
+            second: self.second.by(places),
+        }
+    }
+
+    /// The newest checkpoint, with which a mount begins: one of an older version counts before one
+    /// of the last, and else the greater number.
     pub fn newest(&self) -> Option<Checkpoint>
+        ensures newest { result ≡ newer (held_in self.now.first) (held_in self.now.second) }
+        ensures fit { AreFit self.now → IfSome result FitsCheckpoint }
         ensures first { 0 < number_in self.now.first → IsSome result }
         ensures second { 0 < number_in self.now.second → IsSome result }
-        ensures greatest { IfSome result (λ c. (number_in self.now.first ≤ c.number)
-            × (number_in self.now.second ≤ c.number)) }
+        ensures greatest { IfSome result (λ c. (rank_in self.now.first ≤ rank c + 1)
+            × (rank_in self.now.second ≤ rank c + 1)) }
     {
         if self.is_first_newest() {
             self.first.checkpoint()
@@ -139,10 +217,9 @@ impl Slots {
 
     /// The other slot, and what it holds.
     pub fn other(&self) -> (u32, Slot)
-        ensures { (number_in result.1 ≤ number_in self.now.first)
-            × (number_in result.1 ≤ number_in self.now.second)
-            × ((number_in result.1 ≡ number_in self.now.first)
-            ⊎ (number_in result.1 ≡ number_in self.now.second)) }
+        ensures { (rank_in result.1 ≤ rank_in self.now.first)
+            × (rank_in result.1 ≤ rank_in self.now.second)
+            × ((result.1 ≡ self.now.first) ⊎ (result.1 ≡ self.now.second)) }
     {
         if self.is_first_newest() {
             (1, self.second)
@@ -173,8 +250,8 @@ impl Slots {
     pub fn older(&self) -> Option<Checkpoint>
         ensures found { 0 < number_in self.now.first → 0 < number_in self.now.second
             → IsSome result }
-        ensures least { IfSome result (λ c. (c.number ≤ number_in self.now.first)
-            × (c.number ≤ number_in self.now.second)) }
+        ensures least { IfSome result (λ c. (rank c < rank_in self.now.first)
+            × (rank c < rank_in self.now.second)) }
     {
         self.other().1.checkpoint()
     }

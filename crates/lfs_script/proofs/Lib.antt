@@ -4,6 +4,7 @@ pub mod ScriptTurns
 pub mod ScriptHeard
 pub mod Glancing
 pub mod Filling
+pub mod Begun
 pub mod Used
 pub mod InTurn
 pub mod InTurnNoted

@@ -1,17 +1,16 @@
 -- What a mount and a run of a script say together, and what a stop after them leaves: a use of a volume.
-use Rattle.std.proofs.Common.{◌≡◌, ◌<◌, ◌≤◌, ⊎_elim, inl, arith, ℕ, Bool, true, false, Option, Result, Ok, Err, List, sym, ◌∙◌, subst}
-use Rattle.std.proofs.Common.{IfOk, IfErr, IsTrue}
+use Rattle.std.proofs.Common.{◌≡◌, ◌↔◌, ◌<◌, ◌≤◌, ⊎_elim, inl, arith, ℕ, Bool, true, false, Option, Some, None, Result, Ok, Err, List}
+use Rattle.std.proofs.Common.{refl, sym, ◌∙◌}
+use Rattle.std.proofs.Common.{IfOk, IfErr, IsTrue, OnOk, ap, subst}
 use Rattle.lfs_model.specs.Content.{Content}
 use Rattle.lfs_model.specs.Device.{Carries, DeviceState, Elapses, IsLawful, IsUntouched, LeavesOnly, LieWithin, Only, in_units}
-use Rattle.lfs_model.specs.UnitLaws.{units_of}
+use Rattle.lfs_model.specs.UnitLaws.{shape_in}
 use Rattle.lfs_model.specs.Run.{Point}
 use Rattle.lfs_model.specs.Script.{Line}
 use Rattle.lfs_model.specs.Call.{Answer, Call}
 use Rattle.lfs_model.specs.Since.{AreKeptSince}
 use Rattle.lfs_model.specs.Use.{UsesVolume}
 use Rattle.lfs_model.proofs.Moments.{carries_then, goes_on, same_orders}
-use Rattle.lfs_model.proofs.UnitStates.{units_carry, units_elapse, units_only}
-use Rattle.lfs_model.proofs.UnitsKept.{units_by_shape}
 use Rattle.lfs_device.specs.Memory.{memory_lawful}
 use Rattle.lfs_device.specs.MemoryDevice.{IsStopped, device_state}
 use Rattle.lfs_device.specs.Rows.{states_of}
@@ -19,16 +18,28 @@ use Rattle.lfs_device.specs.Told.{orders_of}
 use Rattle.lfs_device.specs.Units.{unit_of}
 use Rattle.lfs_device.specs.declared.memory.MemDevice.{MemDevice}
 use Rattle.lfs_device.specs.declared.rows.Left.{Left}
-use Rattle.lfs_fs.specs.VolumeUnits.{by_volume, in_volume}
 use Rattle.lfs_fs.specs.declared.fs.Fs.{Fs}
-use Rattle.lfs_fs.specs.declared.in_volume.InVolume.{InVolume}
+use Rattle.lfs_fs.specs.Finding.{IsFoundOn, IsNotFound}
 use Rattle.lfs_fs.specs.Mounting.{FindsState, IsMountFault, IsRefused}
 use Rattle.lfs_fs.specs.Seen.{seen}
 use Rattle.lfs_fs.specs.Volume.{LeavesAll, Mounted}
 use Rattle.lfs_fs.specs.log.verify.declared.fault.MountFault.{MountFault}
 use Rattle.lfs_fs.specs.log.verify.declared.fault.MountFault.TheVariants.{NoMemory, Device, TooSmall, NoCheckpoint, Damaged}
-use Rattle.lfs_fs.proofs.InVolumes.{given_back}
+use Rattle.lfs_fs.proofs.FoundVolumes.{behind_found, looks_at, nothing_stands}
+use Rattle.lfs_fs.specs.log.verify.Take.{SyncsOnce}
+use Rattle.lfs_places.specs.declared.Places.{Places}
+use Rattle.lfs_places.specs.declared.Places.TheVariants.{New}
+use Rattle.lfs_places.specs.Placed.{placed}
+use Rattle.lfs_places.specs.Places.{volume_content, volume_size}
+use Rattle.lfs_volume.specs.Finding.{found_places, holds_older}
+use Rattle.lfs_volume.specs.FindingLaws.{StandsAsOn, StaysApart}
+use Rattle.lfs_volume.specs.Found.{Found, IsFound, by_volume}
+use Rattle.lfs_volume.specs.Standing.{in_found, in_volume, no_slots, volume_at, volume_units}
+use Rattle.lfs_volume.proofs.Standing.{found_carry, found_counts, found_elapse, found_failures, found_left, same_places}
+use Rattle.lfs_volume.proofs.Standing.{units_by_shape_at}
+use Rattle.lfs_volume.proofs.Staying.{places_stay, same_size}
 use Rattle.lfs_fs.proofs.Sessions.{told_saved, uses_told, uses_until, uses_volume}
+use Rattle.lfs_script.proofs.Begun.{session_begun, told_begun, unused_begun}
 use Rattle.lfs_script.specs.Running.{Ends, EndsBy, EndsNoted}
 use Rattle.lfs_script.specs.Saved.{SessionSaved}
 use Rattle.lfs_script.specs.Session.{Session, SessionNoted}
@@ -130,6 +141,15 @@ ok_of {A} {E} P is has = subst (λ (q : Result A E). IfOk q P) is has
 
 pub err_of : {A E : Type 0} (P : E → Type 0) {r : Result A E} {e : E} → r ≡ Err e → IfErr r P → P e
 err_of {A} {E} P is has = subst (λ (q : Result A E). IfErr q P) is has
+
+-- what holds whatever it is
+pub on_all : {A E : Type 0} (P : Type 0) (r : Result A E) → P → OnOk r P
+on_all P (Ok x) has = has
+on_all P (Err e) has = tt
+
+-- a fact of it
+pub on_of : {A E : Type 0} (P : Type 0) {r : Result A E} {x : A} → r ≡ Ok x → OnOk r P → P
+on_of {A} {E} P is has = subst (λ (q : Result A E). OnOk q P) is has
 
 -- and what follows from it
 pub ok_more : {A E : Type 0} (P Q : A → Type 0) (r : Result A E) → ((x : A) → P x → Q x) → IfOk r P → IfOk r Q
@@ -254,83 +274,148 @@ module _ {mid new : DeviceState} (counts : (t : ℕ) (c : Content) → t ≤ mid
     unwritten = unused.unwritten;
   }
 
--- A stop of a device in memory, as one of such units.
-module _ (unit : ℕ → ℕ) {mid new : MemDevice} {choices : List Left} {rest : Left} (stop : IsStopped choices rest mid new) where
+lawful_in_memory : (d : MemDevice) → IsLawful (device_state d)
+lawful_in_memory d =
+    memory_lawful (unit_of d.units) d.rows.items (states_of d.past.value) d.failed.value d.failed_orders.value
+    (orders_of d.told.value) d.bench d.fits d.whole d.were_whole
+
+-- a device in memory keeps its model from the first moment on where it does
+kept_in_memory : (held x : MemDevice) (o : Option Places)
+    → (in_found device_state o held x).keeps_model ↔ (in_found device_state o held x).kept_until 0
+kept_in_memory held x None = (λ keeps. keeps, λ kept. kept)
+kept_in_memory held x (Some places) = (λ keeps. keeps, λ kept. kept)
+
+some_is : {X : Type 0} {x y : X} → Some x ≡ Some y → x ≡ y
+some_is is = cc is
+
+-- A stop of a device in memory, as one of the volume that another held, wherever that stands.
+module _ (held : MemDevice) (o : Option Places) {mid new : MemDevice} {choices : List Left} {rest : Left}
+    (stop : IsStopped choices rest mid new) where
   abbrev before : DeviceState
-  before = in_units unit (device_state mid)
+  before = in_found device_state o held mid
 
   abbrev after : DeviceState
-  after = in_units unit (device_state new)
+  after = in_found device_state o held new
 
   counts : (t : ℕ) (c : Content) → t ≤ before.moment → before.may_leave c → before.left_since t c
-  counts t c le left = (left.0, inl left.1)
+  counts = found_counts device_state held mid o (lawful_in_memory mid)
 
   was_left : (c : Content) → after.may_leave c → before.may_leave c
-  was_left c left = (
-    subst (λ (u : ℕ → ℕ). LieWithin u unit) stop.carries.unit left.0,
-    subst (λ (x : Content). (device_state mid).may_leave x) (sym (stop.durable c left.1)) stop.chosen,
-  )
+  was_left = found_left device_state held mid new o stop.carries
+      (λ c left. subst (λ (x : Content). (device_state mid).may_leave x) (sym (stop.durable c left)) stop.chosen)
 
   pub stop_carries : Carries before after
-  stop_carries = units_carry unit stop.carries
+  stop_carries = found_carry device_state held mid new o stop.carries
+
+  elapses : Elapses before after
+  elapses = found_elapse device_state held mid new o stop.carries stop.time
+
+  as_many : after.failures ≡ before.failures
+  as_many = found_failures device_state held new o ∙ stop.same_failures ∙ sym (found_failures device_state held mid o)
 
   pub stopped_in_memory : {d : DeviceState} {end : ScriptEnd} (r : Option (List ℕ)) {r' : Option (List ℕ)} (w : Option (List ℕ))
       {w' : Option (List ℕ)} → Session end r r' w w' d before → Session end r r' w w' d after
-  stopped_in_memory r w session =
-      stopped counts stop_carries (units_elapse unit stop.carries stop.time) stop.same_failures was_left r w session
+  stopped_in_memory r w session = stopped counts stop_carries elapses as_many was_left r w session
 
   pub told_in_memory : {d : DeviceState} {strict : Bool} {end : StrictEnd} (r : Option (List ℕ)) {r' : Option (List ℕ)}
       (w : Option (List ℕ)) {w' : Option (List ℕ)} (s : List Glance) {s' : List Glance}
       → SessionNoted strict end r r' w w' d before s s' → SessionNoted strict end r r' w w' d after s s'
-  told_in_memory r w s session =
-      stopped_told counts stop_carries (units_elapse unit stop.carries stop.time) stop.same_failures was_left r w s session
+  told_in_memory r w s session = stopped_told counts stop_carries elapses as_many was_left r w s session
 
   pub unused_in_memory : {R W : Type 0} {d : DeviceState} {fault : MountFault} {r r' : R} {w w' : W}
       → IsUnused r r' w w' d before fault → IsUnused r r' w w' d after fault
-  unused_in_memory unused =
-      still_unused counts stop_carries (units_elapse unit stop.carries stop.time) stop.same_failures was_left unused
+  unused_in_memory unused = still_unused counts stop_carries elapses as_many was_left unused
 
--- such a stop of a device that a use gave back in the wrapper that it was put in
-module _ (v v' : InVolume MemDevice) {d mid new : MemDevice} {choices : List Left} {rest : Left} (device : v.device ≡ d)
-    (held : v.held.value ≡ d) (back : mid ≡ v'.device) (used : Carries (by_volume device_state v) (by_volume device_state v'))
+-- A device in memory whose volume was found, that a use gave back, and that stopped then.
+module _ (d : MemDevice) (v v' : Found MemDevice) {mid new : MemDevice} {choices : List Left} {rest : Left}
+    (found : IsFoundOn device_state d v) (back : mid ≡ v'.device) (used : Carries (by_volume device_state v) (by_volume device_state v'))
     (stop : IsStopped choices rest mid new) where
+  abbrev places : Option Places
+  places = found_places (device_state d).size (device_state d).content
+
+  -- what is said of it by what was found is said by what it was
   unwrapped : (P : DeviceState → DeviceState → Type 0) → P (by_volume device_state v) (by_volume device_state v')
-      → P (in_volume device_state d d) (in_volume device_state d mid)
-  unwrapped = given_back device_state v v' (record { device = device; held = held }) back used
+      → P (in_volume device_state d v.device) (in_volume device_state d mid)
+  unwrapped P says =
+      subst (λ (o : Option Places). P (in_found device_state o d v.device) (in_found device_state o d mid)) (sym (found.places tt))
+      (subst (λ (x : MemDevice). P (volume_at device_state v.places d v.device) (volume_at device_state v.places d x)) (sym back)
+      (behind_found device_state d v v' found used P says))
+
+  -- it was only read before
+  looked : SyncsOnce (in_volume device_state d d) (in_volume device_state d v.device)
+  looked = looks_at device_state d v.device found.looks places
+
+  none_failed : (in_volume device_state d v.device).failures ≡ (in_volume device_state d d).failures
+  none_failed = found_failures device_state d v.device places ∙ found.no_failure ∙ sym (found_failures device_state d d places)
 
   pub stopped_behind : {end : ScriptEnd} (r : Option (List ℕ)) {r' : Option (List ℕ)} (w : Option (List ℕ)) {w' : Option (List ℕ)}
       → Session end r r' w w' (by_volume device_state v) (by_volume device_state v')
       → Session end r r' w w' (in_volume device_state d d) (in_volume device_state d new)
   stopped_behind {end} r {r'} w {w'} session =
-      stopped_in_memory (units_of (device_state d).content) stop r w (unwrapped (Session end r r' w w') session)
+      stopped_in_memory d places stop r w (session_begun looked none_failed (unwrapped (Session end r r' w w') session))
 
   pub told_behind : {strict : Bool} {end : StrictEnd} (r : Option (List ℕ)) {r' : Option (List ℕ)} (w : Option (List ℕ))
       {w' : Option (List ℕ)} (s : List Glance) {s' : List Glance}
       → SessionNoted strict end r r' w w' (by_volume device_state v) (by_volume device_state v') s s'
       → SessionNoted strict end r r' w w' (in_volume device_state d d) (in_volume device_state d new) s s'
   told_behind {strict} {end} r {r'} w {w'} s {s'} session =
-      told_in_memory (units_of (device_state d).content) stop r w s (unwrapped (λ x y. SessionNoted strict end r r' w w' x y s s') session)
+      told_in_memory d places stop r w s
+      (told_begun looked none_failed (unwrapped (λ x y. SessionNoted strict end r r' w w' x y s s') session))
 
   pub unused_behind : {R W : Type 0} {fault : MountFault} {r r' : R} {w w' : W}
       → IsUnused r r' w w' (by_volume device_state v) (by_volume device_state v') fault
       → IsUnused r r' w w' (in_volume device_state d d) (in_volume device_state d new) fault
   unused_behind {fault} {r} {r'} {w} {w'} unused =
-      unused_in_memory (units_of (device_state d).content) stop (unwrapped (λ x y. IsUnused r r' w w' x y fault) unused)
+      unused_in_memory d places stop
+      (unused_begun looked none_failed fault (unwrapped (λ x y. IsUnused r r' w w' x y fault) unused))
 
   pub carries_behind : Carries (in_volume device_state d d) (in_volume device_state d new)
-  carries_behind = carries_then (unwrapped Carries used) (stop_carries (units_of (device_state d).content) stop)
+  carries_behind = carries_then (carries_then looked.carries (unwrapped Carries used)) (stop_carries d places stop)
 
-lawful_in_memory : (d : MemDevice) → IsLawful (device_state d)
-lawful_in_memory d =
-    memory_lawful (unit_of d.units) d.rows.items (states_of d.past.value) d.failed.value d.failed_orders.value
-    (orders_of d.told.value) d.bench d.fits d.whole d.were_whole
+  -- by the new places no older checkpoint came to where the second slot was by the old ones
+  pub apart_behind : IsFound device_state v' → StaysApart (device_state d) (device_state new)
+  apart_behind is new_is =
+      let same : v'.places ≡ v.places = same_places v'.places v.places (volume_content v'.places (device_state v'.held).content)
+      (volume_content v.places (device_state v.held).content) used.unit in
+      let places_are : v.places ≡ New = some_is (sym (found.places tt) ∙ new_is) in
+      is.apart (same ∙ places_are) tt (device_state new).content
+      (subst (λ (x : MemDevice). (device_state x).may_leave (device_state new).content) back stop.chosen)
 
--- ---- A use of what the stop before it left, whose volume has the units of the first.
-module _ (first : MemDevice) (d d' : MemDevice) (same : units_of (device_state d).content ≡ units_of (device_state first).content) where
+-- the same where no volume was found
+module _ (d : MemDevice) {mid new : MemDevice} {choices : List Left} {rest : Left} {fault : MountFault}
+    (none : IsNotFound (in_volume device_state d d) (in_volume device_state d mid) fault) (stop : IsStopped choices rest mid new) where
+  pub unfound_behind : {R W : Type 0} (r : R) (w : W) → IsUnused r r w w (in_volume device_state d d) (in_volume device_state d new) fault
+  unfound_behind r w = unused_in_memory d (found_places (device_state d).size (device_state d).content) stop (record {
+    cause = λ other. none.cause;
+    reason = none.reason;
+    left = none.looks.untouched.crash;
+    any_moment = none.looks.any_moment;
+    unread = refl;
+    unwritten = refl;
+  })
+
+  pub unfound_carries : Carries (in_volume device_state d d) (in_volume device_state d new)
+  unfound_carries =
+      carries_then none.looks.carries (stop_carries d (found_places (device_state d).size (device_state d).content) stop)
+
+-- ---- A use of what the stop before it left, whose volume stands where the first did.
+module _ (first : MemDevice) (d d' : MemDevice) (same : StandsAsOn (device_state d) (device_state first)) where
+  abbrev stood : Option Places
+  stood = found_places (device_state first).size (device_state first).content
+
   -- what is said of it by its own volume is said by the first
+  by_held : (P : DeviceState → DeviceState → Type 0) (o : Option Places) → stood ≡ o
+      → P (in_found device_state o d d) (in_found device_state o d d')
+      → P (in_found device_state o first d) (in_found device_state o first d')
+  by_held P None is says = says
+  by_held P (Some places) is says =
+      subst (λ (unit : ℕ → ℕ). P (in_units unit (placed places (device_state d))) (in_units unit (placed places (device_state d'))))
+      (same.units places is) says
+
   by_first : (P : DeviceState → DeviceState → Type 0) → P (in_volume device_state d d) (in_volume device_state d d')
       → P (in_volume device_state first d) (in_volume device_state first d')
-  by_first P says = subst (λ (unit : ℕ → ℕ). P (in_units unit (device_state d)) (in_units unit (device_state d'))) same says
+  by_first P says =
+      by_held P stood refl (subst (λ (o : Option Places). P (in_found device_state o d d) (in_found device_state o d d')) same.places says)
 
   pub session_by_first : {end : ScriptEnd} {r r' w w' : Option (List ℕ)}
       → Session end r r' w w' (in_volume device_state d d) (in_volume device_state d d')
@@ -350,18 +435,46 @@ module _ (first : MemDevice) (d d' : MemDevice) (same : units_of (device_state d
   -- and it keeps its model as one of such units
   pub keeps_by_first : Carries (in_volume device_state d d) (in_volume device_state d d')
       → (in_volume device_state first d).keeps_model → (in_volume device_state first d').keeps_model
-  keeps_by_first carries keeps = ((by_first Carries carries).kept_as 0 (omega arith)).1 keeps
+  keeps_by_first carries keeps =
+      (kept_in_memory first d' stood).1
+      (((by_first Carries carries).kept_as 0 (omega arith)).1 ((kept_in_memory first d stood).0 keeps))
 
-  -- what a stop leaves then has these units too
-  pub same_units_later : {lines : List Line} {answers : List Answer}
+  -- what a stop leaves then stands there too
+  stands_later : (o : Option Places) → stood ≡ o → {lines : List Line} {answers : List Answer}
+      → UsesVolume (in_found device_state o first d) (in_found device_state o first d') lines answers
+      → Carries (in_found device_state o first d) (in_found device_state o first d') → (in_found device_state o first d').keeps_model
+      → (o ≡ Some New → holds_older (device_state d').content 1 1 ≡ false) → StandsAsOn (device_state d') (device_state first)
+  stands_later None is uses carries keeps apart = absurd (nothing_stands (device_state d).content uses.first.state uses.stands)
+  stands_later (Some places) is uses carries keeps apart =
+      let size : volume_size places (device_state d').size ≡ volume_size places (device_state d).size = carries.size in
+      let there : found_places (device_state d).size (device_state d).content ≡ Some places = same.places ∙ is in
+      let raw : (device_state d').size ≡ (device_state d).size =
+      same_size (device_state d).size (device_state d').size (device_state d).content places there size in
+      let shape : shape_in (volume_content places (device_state d').content) ≡ shape_in (volume_content places (device_state d).content) =
+      uses.same_shape (volume_content places (device_state d').content)
+      (keeps.0, ((device_state d').content, (lawful_in_memory d').present tt, refl)) in
+      record {
+        places = ap (λ (n : ℕ). found_places n (device_state d').content) raw
+            ∙ places_stay (device_state d).size places (device_state d).content (device_state d').content
+            (lawful_in_memory d).now (lawful_in_memory d').now
+            there (λ new_is. apart (ap Some new_is)) shape uses.stands.checkpoint uses.stands.found ∙ sym is;
+        units = λ p there_is. (
+            let one : p ≡ places = some_is (sym there_is ∙ is) in
+            subst (λ (q : Places). volume_units q (volume_content q (device_state d').content)
+            ≡ volume_units q (volume_content q (device_state first).content)) (sym one)
+            (units_by_shape_at places (volume_content places (device_state d').content)
+            (volume_content places (device_state d).content) shape ∙ same.units places is));
+      }
+
+  pub same_later : {lines : List Line} {answers : List Answer}
       → UsesVolume (in_volume device_state first d) (in_volume device_state first d') lines answers
-      → (in_volume device_state first d').keeps_model
-      → units_of (device_state d').content ≡ units_of (device_state first).content
-  same_units_later uses keeps =
-      units_by_shape (device_state d').content (device_state d).content
-      (uses.same_shape (device_state d').content (keeps.0, (lawful_in_memory d').present keeps.1)) ∙ same
+      → Carries (in_volume device_state d d) (in_volume device_state d d') → (in_volume device_state first d').keeps_model
+      → StaysApart (device_state d) (device_state d') → StandsAsOn (device_state d') (device_state first)
+  same_later uses carries keeps apart =
+      stands_later stood refl uses (by_first Carries carries) keeps (λ new_is. apart (same.places ∙ new_is))
 
--- and where it is known what a stop leaves of it, this is known of it as one of such units
-pub alone_in_units : (unit : ℕ → ℕ) (d : MemDevice) → Only (device_state d).content (device_state d)
-    → Only (in_units unit (device_state d)).content (in_units unit (device_state d))
-alone_in_units unit d alone = units_only unit (device_state d).content (device_state d) alone
+-- and where it is known what a stop leaves of it, this is known of it as its volume sees it
+pub alone_in_volume : (held d : MemDevice) (o : Option Places) → Only (device_state d).content (device_state d)
+    → Only (in_found device_state o held d).content (in_found device_state o held d)
+alone_in_volume held d None alone c left = left.2 ∙ ap no_slots (alone left.0 left.1)
+alone_in_volume held d (Some places) alone c left = left.1.2 ∙ ap (volume_content places) (alone left.1.0 left.1.1)

@@ -2,7 +2,8 @@
 ghost use Rattle.std.specs.Prelude.{◌≡◌, IfOk, IfErr, OnOk, OnErr};
 ghost use Rattle.lfs_model.specs.Device.{Carries, IsUntouched, Only};
 ghost use Rattle.lfs_device.specs.MemoryDevice.{device_state};
-ghost use Rattle.lfs_fs.specs.VolumeUnits.{in_volume};
+ghost use Rattle.lfs_volume.specs.FindingLaws.{StaysApart};
+ghost use Rattle.lfs_volume.specs.Standing.{in_volume};
 ghost use Rattle.lfs_fs.specs.log.Mounting.{HasWholeUnits};
 ghost use Rattle.lfs_script.specs.Heard.{HearsTo};
 ghost use Rattle.lfs_script.specs.Saved.{SessionSaved};
@@ -16,7 +17,7 @@ use crate::script::{StrictEnd, run_noted};
 use crate::session::StoppedScript;
 use crate::witness::Witness;
 use lfs_device::{Left, MemDevice, SectorDevice};
-use lfs_fs::{Fs, InVolume, MountFault};
+use lfs_fs::{Fs, InVolume, MountFault, find_volume};
 use std::alloc::Global;
 use std::io::{Read, Write};
 
@@ -72,8 +73,8 @@ pub fn use_volume_noted<R: Read, W: Write, D: SectorDevice, S: Witness<D, W>>(
     }
 }
 
-/// As `use_volume_noted` on a device in memory, as one of the units of its volume. It stops then:
-/// `left` is what it leaves of each sector that wasn't synced.
+/// As `use_volume_noted` on a device in memory, as its volume sees it. It stops then: `left` is what
+/// it leaves of each sector that wasn't synced.
 pub fn use_and_stop_noted<R: Read, W: Write, S: Witness<InVolume<MemDevice>, W>>(
     alloc: Global,
     strict: bool,
@@ -98,22 +99,25 @@ pub fn use_and_stop_noted<R: Read, W: Write, S: Witness<InVolume<MemDevice>, W>>
         (in_volume device_state device device) (in_volume device_state device result.1)) }
     ensures unseen { OnErr result.0 (witness.new ≡ witness.old) }
     ensures alone { Only (device_state result.1).content (device_state result.1) }
+    ensures apart { OnOk result.0 (StaysApart (device_state device) (device_state result.1)) }
     ensures carries { Carries (in_volume device_state device device)
         (in_volume device_state device result.1) }
 {
-    let (end, used) = use_volume_noted(
-        alloc,
-        strict,
-        reader,
-        writer,
-        witness,
-        InVolume::new(device),
-    );
-    let mut stopped = used.into_inner();
-    stopped.crash(left);
-    match end {
-        Ok(end) => (Ok(end.script), stopped),
-        Err(fault) => (Err(fault), stopped),
+    match find_volume(device) {
+        Ok(found) => {
+            let (end, used) = use_volume_noted(alloc, strict, reader, writer, witness, found);
+            let mut stopped = used.into_inner();
+            stopped.crash(left);
+            match end {
+                Ok(end) => (Ok(end.script), stopped),
+                Err(fault) => (Err(fault), stopped),
+            }
+        }
+        Err((fault, device)) => {
+            let mut stopped = device;
+            stopped.crash(left);
+            (Err(fault), stopped)
+        }
     }
 }
 

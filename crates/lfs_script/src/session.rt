@@ -2,7 +2,8 @@
 ghost use Rattle.std.specs.Prelude.{IfOk, IfErr, OnOk, OnErr};
 ghost use Rattle.lfs_model.specs.Device.{Carries, IsUntouched, Only};
 ghost use Rattle.lfs_device.specs.MemoryDevice.{device_state};
-ghost use Rattle.lfs_fs.specs.VolumeUnits.{in_volume};
+ghost use Rattle.lfs_volume.specs.FindingLaws.{StaysApart};
+ghost use Rattle.lfs_volume.specs.Standing.{in_volume};
 ghost use Rattle.lfs_fs.specs.log.Mounting.{HasWholeUnits};
 ghost use Rattle.lfs_script.specs.Series.{FromAny, StopsAtMount, UsesInTurn, texts_of};
 ghost use Rattle.lfs_script.specs.Session.{Session};
@@ -10,13 +11,13 @@ ghost use Rattle.lfs_script.specs.Unused.{IsUnused};
 
 use crate::script::{ScriptEnd, run};
 use lfs_device::{Left, MemDevice, SectorDevice};
-use lfs_fs::{Fs, InVolume, MountFault};
+use lfs_fs::{Fs, MountFault, find_volume};
 use std::alloc::Global;
 use std::io::{Read, Write};
 
 /// Mounts what a stop may have left, runs a script on it, and gives the device back. What wasn't
-/// saved is gone. The units of the device lie within those of its volume: `InVolume` makes any
-/// device such a one.
+/// saved is gone. The units of the device lie within those of its volume: `find_volume` gives any
+/// device as such a one.
 pub fn use_volume<R: Read, W: Write, D: SectorDevice>(
     alloc: Global,
     reader: &mut R,
@@ -42,8 +43,8 @@ pub fn use_volume<R: Read, W: Write, D: SectorDevice>(
     }
 }
 
-/// As `use_volume` on a device in memory, as one of the units of its volume. It stops then: `left`
-/// is what it leaves of each sector that wasn't synced.
+/// As `use_volume` on a device in memory, as its volume sees it. It stops then: `left` is what it
+/// leaves of each sector that wasn't synced.
 pub fn use_and_stop<R: Read, W: Write>(
     alloc: Global,
     reader: &mut R,
@@ -57,13 +58,23 @@ pub fn use_and_stop<R: Read, W: Write>(
     ensures refused { IfErr result.0 (IsUnused reader.old reader.new writer.old writer.new
         (in_volume device_state device device) (in_volume device_state device result.1)) }
     ensures alone { Only (device_state result.1).content (device_state result.1) }
+    ensures apart { OnOk result.0 (StaysApart (device_state device) (device_state result.1)) }
     ensures carries { Carries (in_volume device_state device device)
         (in_volume device_state device result.1) }
 {
-    let (end, used) = use_volume(alloc, reader, writer, InVolume::new(device));
-    let mut stopped = used.into_inner();
-    stopped.crash(left);
-    (end, stopped)
+    match find_volume(device) {
+        Ok(found) => {
+            let (end, used) = use_volume(alloc, reader, writer, found);
+            let mut stopped = used.into_inner();
+            stopped.crash(left);
+            (end, stopped)
+        }
+        Err((fault, device)) => {
+            let mut stopped = device;
+            stopped.crash(left);
+            (Err(fault), stopped)
+        }
+    }
 }
 
 /// A script, and what the stop at its end leaves of each sector that wasn't synced.
@@ -73,8 +84,8 @@ pub struct StoppedScript {
     pub left: Left,
 }
 
-/// Uses a volume by each of the scripts in turn, on what the stop before it left, which has the
-/// units of the volume that was there first. The first mount that fails is the last.
+/// Uses a volume by each of the scripts in turn, on what the stop before it left: a volume at the
+/// places and of the units of the first. The first mount that fails is the last.
 pub fn use_each<W: Write>(
     alloc: Global,
     scripts: &[StoppedScript],

@@ -1,6 +1,6 @@
 //! Volumes of 64 segments in memory.
 use lfs_device::MemDevice;
-use lfs_script::fs::{Fs, InVolume, format};
+use lfs_script::fs::{Fs, InVolume, find_volume, format};
 use lfs_script::{ScriptEnd, run};
 use std::alloc::Global;
 use std::io::Read;
@@ -17,7 +17,10 @@ pub fn new_device(alloc: Global) -> Result<MemDevice, Fail> {
 
 /// An empty volume, on the heap, where each end of a function drops it by one call.
 pub fn new_volume(alloc: Global) -> Result<Box<Fs<InVolume<MemDevice>>>, Fail> {
-    match Fs::mount(alloc, InVolume::new(new_device(alloc)?)) {
+    let Ok(found) = find_volume(new_device(alloc)?) else {
+        return Err(Fail::from("not found"));
+    };
+    match Fs::mount(alloc, found) {
         Ok(fs) => Ok(Box::new(alloc, fs)?),
         Err(_) => Err(Fail::from("not mounted")),
     }

@@ -2,9 +2,10 @@
 use crate::free::put_largest;
 use crate::looking::Looked;
 use lfs_device::SectorDevice;
-use lfs_fs::{Fs, FsError, Space};
+use lfs_fs::{Fs, FsError, Shape, Space};
 use lfs_host::fault::{Fault, Refusal};
 use lfs_host::printing::{print, put, put_counts};
+use lfs_host::shape::{unit_bytes, volume_bytes};
 use lfs_put::largest_new_file;
 use std::io::Write;
 
@@ -40,8 +41,7 @@ fn put_picture<D: SectorDevice, W: Write>(fs: &Fs<D>, output: &mut W) -> Result<
 /// What a mounted volume tells of itself.
 #[derive(Clone, Copy)]
 struct Description {
-    /// The version of the volume's layout.
-    format: u32,
+    shape: Shape,
     space: Space,
     /// The bytes of the largest new file.
     largest: u64,
@@ -55,10 +55,13 @@ fn put_numbers<D: SectorDevice, W: Write>(
 ) -> Result<(), Fault> {
     let space = &description.space;
     let usage = fs.usage();
+    let shape = &description.shape;
     let counts = [
         (b"checkpoint ".as_slice(), fs.checkpoint()),
-        (b"\nformat ", u64::from(description.format)),
-        (b"\nsegments ", u64::from(usage.segments())),
+        (b"\nformat ", u64::from(shape.version)),
+        (b"\nunit ", unit_bytes(shape)),
+        (b" bytes\nsize ", volume_bytes(shape)),
+        (b" bytes\nsegments ", u64::from(shape.segments)),
         (b"\nclean ", u64::from(usage.clean())),
         (b"\ndata blocks ", space.data_blocks),
         (b"\nmeta blocks ", space.meta_blocks),
@@ -72,11 +75,11 @@ fn put_numbers<D: SectorDevice, W: Write>(
 }
 
 fn description_of<D: SectorDevice>(fs: &mut Fs<D>) -> Result<Description, FsError> {
-    let format = fs.version()?;
+    let shape = fs.shape()?;
     let space = fs.space()?;
     let largest = largest_new_file(fs)?;
     Ok(Description {
-        format,
+        shape,
         space,
         largest,
     })

@@ -4,11 +4,9 @@ use lfs_device::SectorDevice;
 use lfs_fs::{Fs, FsError, TreeRow};
 use lfs_host::fault::{Fault, Refusal};
 use lfs_host::printing::{flush, put, put_count, put_counts};
+use lfs_host::shape::volume_bytes;
 use lfs_model::Kind;
-use lfs_model::limits::{
-    CHECKPOINT_SLOTS, FILE_NUMBERS, LEAST_NEED, NEED_OF_META, NEED_OF_SEGMENT, SECTOR_LEN,
-    SEGMENT_SECTORS,
-};
+use lfs_model::limits::{FILE_NUMBERS, LEAST_NEED, NEED_OF_META, SECTOR_LEN};
 use lfs_put::largest_new_file;
 use std::io::Write;
 use std::mem;
@@ -19,18 +17,15 @@ const NUMBERS: usize = FILE_NUMBERS as usize;
 /// The bytes of a block.
 const BLOCK_BYTES: u64 = SECTOR_LEN as u64;
 
-/// The bytes of a segment, and of the sectors before the first one.
-const SEGMENT_BYTES: u64 = BLOCK_BYTES * SEGMENT_SECTORS as u64;
-
-const FRONT_BYTES: u64 = BLOCK_BYTES * CHECKPOINT_SLOTS as u64;
-
 /// The need of a volume that has nothing but its root.
 const EMPTY_NEED: u64 = LEAST_NEED + NEED_OF_META;
 
 /// How much of a volume is used and free.
 #[derive(Clone, Copy)]
 struct Free {
-    segments: u64,
+    /// The bytes of the volume.
+    size: u64,
+    segments: u32,
     files: u64,
     /// The bytes of all files.
     bytes: u64,
@@ -63,18 +58,20 @@ fn count_files(rows: &[TreeRow]) -> (u64, u64) {
     (files, bytes)
 }
 
-// The bytes of so many blocks that are needed, above those of an empty volume.
-fn bytes_above_empty(need: u64) -> u64 {
+/// The bytes of so many blocks that are needed, above those of an empty volume.
+pub fn bytes_above_empty(need: u64) -> u64 {
     need.saturating_sub(EMPTY_NEED).saturating_mul(BLOCK_BYTES)
 }
 
 fn free_of<D: SectorDevice>(fs: &mut Fs<D>) -> Result<Free, FsError> {
+    let shape = fs.shape()?;
     let space = fs.space()?;
     let rows = fs.tree()?;
     let (files, bytes) = count_files(rows.as_slice());
     let largest = largest_new_file(fs)?;
     Ok(Free {
-        segments: space.limit / NEED_OF_SEGMENT,
+        size: volume_bytes(&shape),
+        segments: shape.segments,
         files,
         bytes,
         total: bytes_above_empty(space.limit),
@@ -89,13 +86,9 @@ fn percent(free: &Free) -> u64 {
 }
 
 fn put_numbers<W: Write>(free: &Free, output: &mut W) -> Result<(), Fault> {
-    let size = free
-        .segments
-        .saturating_mul(SEGMENT_BYTES)
-        .saturating_add(FRONT_BYTES);
     let counts = [
-        (b"size ".as_slice(), size),
-        (b" bytes, segments ", free.segments),
+        (b"size ".as_slice(), free.size),
+        (b" bytes, segments ", u64::from(free.segments)),
         (b"\nfiles ", free.files),
         (b", bytes ", free.bytes),
         (b"\ntotal ", free.total),

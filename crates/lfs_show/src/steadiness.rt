@@ -7,6 +7,8 @@ ghost use Rattle.lfs_show.specs.Steady.{StaysUsed};
 use lfs_device::SectorDevice;
 use lfs_layout::{Checkpoint, SegmentUsage, UsageView, segment_of};
 use lfs_model::limits::{BLOCK_SEGMENTS, CHECKPOINT_SLOTS, SEGMENT_SECTORS};
+use lfs_places::Places;
+use lfs_salvage::{Slots, slot_of};
 use std::alloc::{AllocError, Global};
 
 /// How often a moment is read while its slots change.
@@ -41,23 +43,13 @@ fn read_slots<D: SectorDevice>(device: &mut D) -> Option<SlotBytes> {
     })
 }
 
-// The checkpoint of a slot. One with the other slot's number doesn't count.
-fn checkpoint_in(bytes: &[u8; 512], slot: u64) -> Option<Checkpoint> {
-    match Checkpoint::decode(bytes) {
-        Some(checkpoint) if checkpoint.number % 2 == slot => Some(checkpoint),
-        _ => None,
-    }
-}
-
-fn newest_in(slots: &SlotBytes) -> Option<Checkpoint> {
-    match (
-        checkpoint_in(&slots.first, 0),
-        checkpoint_in(&slots.second, 1),
-    ) {
-        (Some(first), Some(second)) if first.number < second.number => Some(second),
-        (Some(first), _) => Some(first),
-        (None, second) => second,
-    }
+// The newest checkpoint of a volume by these places.
+fn newest_in(slots: &SlotBytes, places: Places) -> Option<Checkpoint> {
+    let slots = Slots {
+        first: slot_of(&slots.first, 0),
+        second: slot_of(&slots.second, 1),
+    };
+    slots.by(places).newest()
 }
 
 // How many entries of a usage block are of segments.
@@ -129,13 +121,17 @@ struct Moment {
 }
 
 impl Moment {
-    // Reads a moment, which is one if the slots are still the same behind it. None where no
-    // checkpoint or no usage table is found.
-    fn read<D: SectorDevice>(alloc: Global, device: &mut D) -> Result<Option<Moment>, AllocError> {
+    // Reads a moment of a volume by these places, which is one if the slots are still the same behind
+    // it. None where no checkpoint or no usage table is found.
+    fn read<D: SectorDevice>(
+        alloc: Global,
+        device: &mut D,
+        places: Places,
+    ) -> Result<Option<Moment>, AllocError> {
         let Some(slots) = read_slots(device) else {
             return Ok(None);
         };
-        let Some(checkpoint) = newest_in(&slots) else {
+        let Some(checkpoint) = newest_in(&slots, places) else {
             return Ok(None);
         };
         match read_rows(alloc, device, &checkpoint)? {
@@ -213,6 +209,8 @@ fn read_part<D: SectorDevice>(
 /// What an image showed before a look.
 #[derive(Drop)]
 pub struct Sight {
+    /// The places of its volume.
+    places: Places,
     moment: Moment,
     /// The used part behind which the next chunk may be written.
     part: Option<Part>,
@@ -223,8 +221,9 @@ impl Sight {
     fn try_take<D: SectorDevice>(
         alloc: Global,
         device: &mut D,
+        places: Places,
     ) -> Result<Option<Sight>, AllocError> {
-        let Some(moment) = Moment::read(alloc, device)? else {
+        let Some(moment) = Moment::read(alloc, device, places)? else {
             return Ok(None);
         };
         let part = moment.open_part();
@@ -235,13 +234,16 @@ impl Sight {
             return Ok(None);
         }
         Ok(Some(Sight {
+            places,
             moment,
             part,
             bytes,
         }))
     }
 
-    /// Reads what there is to know of the present moment. None where no moment is seen.
+    /// Reads what there is to know of the present moment of a volume by these places. None where no
+    /// moment is seen. A checkpoint of a version that stands by other places counts as none, for the
+    /// places may have been found while a slot was written.
     ///
     /// # Errors
     ///
@@ -249,9 +251,10 @@ impl Sight {
     pub fn take<D: SectorDevice>(
         alloc: Global,
         device: &mut D,
+        places: Places,
     ) -> Result<Option<Sight>, AllocError> {
         for _ in 0..MOST_READS {
-            if let Some(sight) = Sight::try_take(alloc, device)? {
+            if let Some(sight) = Sight::try_take(alloc, device, places)? {
                 return Ok(Some(sight));
             }
         }
@@ -289,7 +292,7 @@ impl Sight {
         alloc: Global,
         device: &mut D,
     ) -> Result<Option<bool>, AllocError> {
-        let Some(now) = Moment::read(alloc, device)? else {
+        let Some(now) = Moment::read(alloc, device, self.places)? else {
             return Ok(None);
         };
         let Some(bytes) = read_part(alloc, device, self.part)? else {

@@ -4,7 +4,7 @@ use crate::looking::{Asked, Look, Looked, end_look, look_at, path_of};
 use crate::steadiness::Sight;
 use crate::unfinished::Unfinished;
 use lfs_device::{FileDeviceIn, SectorDevice, World};
-use lfs_fs::Fs;
+use lfs_fs::{Fs, InVolume, find_volume};
 use lfs_host::fault::{Ending, Fault, ImageFault, Refusal};
 use lfs_host::image;
 use lfs_host::image::{Beside, Patience};
@@ -124,7 +124,7 @@ fn look_alone<Here: World, R: Files<File = File>, W: Write>(
 fn look_and_judge<Here: World, R: Files<File = File>, W: Write>(
     rt: &R,
     alloc: Global,
-    watched: &mut FileDeviceIn<Here>,
+    watched: &mut InVolume<FileDeviceIn<Here>>,
     sight: &Sight,
     device: FileDeviceIn<Here>,
     asked: Asked<'_>,
@@ -148,7 +148,7 @@ fn look_and_judge<Here: World, R: Files<File = File>, W: Write>(
 fn look_by_sight<Here: World, R: Files<File = File>, W: Write>(
     rt: &R,
     alloc: Global,
-    watched: &mut FileDeviceIn<Here>,
+    watched: &mut InVolume<FileDeviceIn<Here>>,
     sight: &Sight,
     device: FileDeviceIn<Here>,
     asked: Asked<'_>,
@@ -180,7 +180,11 @@ fn look_beside<Here: World, R: Files<File = File>, W: Write>(
 ) -> Result<Option<Looked>, Fault> {
     // So the mount finds little to sync, which leaves little time for a newer checkpoint.
     let _ = watched.sync();
-    match Sight::take(alloc, &mut watched)? {
+    let Ok(mut watched) = find_volume(watched) else {
+        return Ok(None);
+    };
+    let places = watched.places();
+    match Sight::take(alloc, &mut watched, places)? {
         Some(sight) => look_by_sight(rt, alloc, &mut watched, &sight, device, asked, output),
         None => Ok(None),
     }

@@ -1,7 +1,7 @@
 //! A file that is put over another on a device that stops at each of its writes.
 use lfs_command::device::{Left, MemDevice};
 use lfs_command::put;
-use lfs_command::script::fs::{Fs, InVolume, format};
+use lfs_command::script::fs::{Fs, InVolume, find_volume, format};
 use std::alloc::Global;
 use std::test::Fail;
 
@@ -11,7 +11,10 @@ const NEW: &[u8] = b"newer";
 
 // A volume on the heap, where each end of a function drops it by one call.
 fn mounted(alloc: Global, device: MemDevice) -> Result<Box<Fs<InVolume<MemDevice>>>, Fail> {
-    match Fs::mount(alloc, InVolume::new(device)) {
+    let Ok(found) = find_volume(device) else {
+        return Err(Fail::from("not found"));
+    };
+    match Fs::mount(alloc, found) {
         Ok(fs) => Ok(Box::new(alloc, fs)?),
         Err(_) => Err(Fail::from("not mounted")),
     }

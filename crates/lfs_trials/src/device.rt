@@ -2,7 +2,8 @@
 use crate::order::NewVolume;
 use anyhow::{Context, Result};
 use lfs_device::{DeviceCall, Left, MemDevice, SectorDevice};
-use lfs_model::limits::{CHECKPOINT_SLOTS, SEGMENT_SECTORS};
+use lfs_model::limits::{CHECKPOINT_SLOTS, LAST_VERSION, SEGMENT_SECTORS};
+use lfs_places::limits::FIRST_SEGMENT;
 use lfs_script::fs::{Shape, format_with};
 use std::alloc::{AllocError, Global};
 use std::num::NonZeroU32;
@@ -16,9 +17,14 @@ pub fn device_of(alloc: Global, sectors: u32, unit: NonZeroU32, first: u32) -> R
     device.context("no memory for a device")
 }
 
-/// How many sectors a volume takes.
+/// How many sectors a device has for a volume.
 pub fn sectors_of(volume: NewVolume) -> u32 {
-    2 + 64 * u32::from(volume.segments)
+    let before = if volume.version == LAST_VERSION {
+        FIRST_SEGMENT
+    } else {
+        CHECKPOINT_SLOTS
+    };
+    before + SEGMENT_SECTORS * u32::from(volume.segments)
 }
 
 /// Makes an empty volume on a device. One of version 3 has the units that are told.
@@ -28,7 +34,7 @@ pub fn make_volume<D: SectorDevice>(device: &mut D, volume: NewVolume) -> Result
         segments,
         version: volume.version,
         segment_sectors: SEGMENT_SECTORS,
-        unit: if volume.version == 3 {
+        unit: if volume.version == LAST_VERSION {
             volume.unit.get()
         } else {
             1
@@ -39,15 +45,9 @@ pub fn make_volume<D: SectorDevice>(device: &mut D, volume: NewVolume) -> Result
         .context(format_args!("no volume of {segments} segments"))
 }
 
-/// A device with an empty volume. One of version 3 has the device's units, and its slots are units by
-/// themselves.
+/// A device with an empty volume. One of version 3 has the device's units.
 pub fn new_device(alloc: Global, volume: NewVolume) -> Result<MemDevice> {
-    let first = if volume.version == 3 {
-        CHECKPOINT_SLOTS
-    } else {
-        0
-    };
-    let mut device = device_of(alloc, sectors_of(volume), volume.unit, first)?;
+    let mut device = device_of(alloc, sectors_of(volume), volume.unit, 0)?;
     make_volume(&mut device, volume)?;
     Ok(device)
 }

@@ -7,8 +7,7 @@
 //! - `! device N` makes a device of N sectors, without a volume.
 //! - `! new N V` makes a device with an empty volume of N segments, of version V.
 //! - `! device N U` and `! new N V U` do so with units of U sectors each, counted from sector 0.
-//!   Where U isn't given, each sector is a unit. A volume of version 3 has such units too, and they
-//!   are counted from sector 2, so that each checkpoint slot is a unit.
+//!   Where U isn't given, each sector is a unit. A volume of version 3 has such units too.
 //! - `! fail read N`, `write` or `sync`: the N-th such call from now on, counted from 0, fails once.
 //! - `! stop N`: the N-th write from now on fails, and each later call too, until the device stops.
 //! - `! use` mounts the device, runs the script, and takes the device back. It says the replies, and

@@ -3,7 +3,7 @@ use crate::device::{calls_left, device_of, new_device, stop};
 use crate::order::{Order, read_order};
 use anyhow::{Context, Result};
 use lfs_device::MemDevice;
-use lfs_script::fs::InVolume;
+use lfs_script::fs::{MountFault, find_volume};
 use lfs_script::use_volume;
 use std::alloc::{AllocError, Global};
 
@@ -15,6 +15,11 @@ pub struct Talk {
     pub said: Vec<u8>,
 }
 
+/// What is said of a volume that isn't mounted, for this fault.
+fn not_mounted(alloc: Global, fault: MountFault) -> Result<String, AllocError> {
+    format!(in alloc; "! not mounted: {fault:?}\n")
+}
+
 /// Mounts a device, runs a script on its volume, says all of it, and gives the device back.
 fn used(
     alloc: Global,
@@ -22,13 +27,17 @@ fn used(
     script: &str,
     said: &mut Vec<u8>,
 ) -> (Result<String, AllocError>, MemDevice) {
-    let device = InVolume::new(device);
-    let (end, device) = use_volume(alloc, &mut script.as_bytes(), said, device);
-    let line = match end {
-        Ok(end) => format!(in alloc; "! {end:?}\n"),
-        Err(fault) => format!(in alloc; "! not mounted: {fault:?}\n"),
-    };
-    (line, device.into_inner())
+    match find_volume(device) {
+        Ok(found) => {
+            let (end, device) = use_volume(alloc, &mut script.as_bytes(), said, found);
+            let line = match end {
+                Ok(end) => format!(in alloc; "! {end:?}\n"),
+                Err(fault) => not_mounted(alloc, fault),
+            };
+            (line, device.into_inner())
+        }
+        Err((fault, device)) => (not_mounted(alloc, fault), device),
+    }
 }
 
 impl Talk {

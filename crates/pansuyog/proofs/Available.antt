@@ -1,11 +1,13 @@
 -- A device with room for a call: it is answered neither as a failed call of the device nor as a halted volume.
 use Rattle.std.proofs.Common.{◌≡◌, Option, Some, None, sym, ◌∙◌, subst, arith}
+use Rattle.std.proofs.lemmas.List.{length-map}
 use Rattle.std.specs.Prelude.{ℤ}
+use Rattle.lfs_places.specs.Placed.{volume_order}
 use Rattle.lfs_model.specs.Call.{Call}
 use Rattle.lfs_fs.proofs.Bearing as bearing
 use Rattle.lfs_fs.specs.Available.{IsBorne}
 use Rattle.lfs_fs.specs.Seen.{seen}
-use Rattle.lfs_fs.specs.VolumeUnits.{by_volume}
+use Rattle.lfs_volume.specs.Found.{by_volume}
 use Rattle.lfs_queue.specs.Queue.{queue_state}
 use Rattle.pansuyog_calls.specs.Codes.{device_failed}
 use Rattle.pansuyog_calls.specs.Serving as calls
@@ -25,7 +27,10 @@ module _ {old : Volume} {call : Call} (room : HasRoomFor old call) (code : ℤ) 
         running = room.running;
         point = room.point;
         at = room.at;
-        bears = (let more = room.room in omega (arith, more));
+        bears = (
+            let more = room.room in
+            let many = length-map (queue_state (seen room.fs).log.device.device).told (volume_order (seen room.fs).log.device.places) in
+            omega (arith, more, many));
       } in
       let not = bearing.calls_are_available (by_volume queue_state) (seen room.fs) (seen new) call answers.answer borne in (
         (λ is. not.0 (answer_device answers.answer (sym answers.tells ∙ is))),

@@ -5,11 +5,11 @@ use Rattle.lfs_model.specs.Call.{Answer, Call}
 use Rattle.lfs_model.specs.Device.{IsLawful}
 use Rattle.lfs_model.proofs.Walks.{Some-injective}
 use Rattle.lfs_fs.proofs.CallRuns as runs
-use Rattle.lfs_fs.proofs.InVolumes.{volume_lawful}
+use Rattle.lfs_volume.specs.Lawful.{volume_lawful}
 use Rattle.lfs_fs.specs.InARow as volume
 use Rattle.lfs_fs.specs.InARow.{IsTended, ServesInARow}
 use Rattle.lfs_fs.specs.Seen.{seen}
-use Rattle.lfs_fs.specs.VolumeUnits.{by_volume}
+use Rattle.lfs_volume.specs.Found.{by_volume}
 use Rattle.lfs_queue.proofs.KeptOrders.{since_is_done}
 use Rattle.lfs_queue.specs.Orders.{count, done_of, onto, queue_lawful}
 use Rattle.lfs_queue.specs.Queue.{borne_by, queue_state, told_of}
@@ -17,7 +17,8 @@ use Rattle.lfs_queue.specs.declared.queue.QueueDevice.{QueueDevice}
 use Rattle.pansuyog_calls.proofs.CallsInARow.{served}
 use Rattle.pansuyog_calls.specs.Codes.{code_of_answer}
 use Rattle.pansuyog.proofs.Mounted.{keeps_always}
-use Rattle.pansuyog.specs.Mounted.{MountedVolume, device_of}
+use Rattle.lfs_places.specs.Places.{volume_content}
+use Rattle.pansuyog.specs.Mounted.{MountedVolume, device_of, places_of}
 use Rattle.pansuyog.specs.InARow.{CallsAreKept, MakesInARow, MountsAreSaved, is_carried_out, is_served, is_unchanged, no_more}
 use Rattle.pansuyog.specs.Orders.{CarriesOut, device_by, device_in, told_by}
 use Rattle.pansuyog.specs.declared.handle.Source.{Source}
@@ -93,9 +94,10 @@ calls_are_kept old new calls codes clocks row fs is first saved =
         told = those.told;
         points = kept.points;
         run = kept.run;
-        kept = since_is_done (device_of those.last) (first ∷ kept.points) calls those.answers
-            (length (told_of (device_of fs)) ∷ clocks) (λ i t is c left. kept.since i t is c
-            ((keeps_always (seen those.last).log.device).0, left.1));
+        kept = since_is_done (device_of those.last) (volume_content (places_of those.last)) (first ∷ kept.points) calls those.answers
+            (length (told_of (device_of fs)) ∷ clocks) (λ i t is c left.
+            kept.since i t is (volume_content (places_of those.last) c)
+            ((keeps_always (seen those.last).log.device).0, (c, left.1, refl)));
       },
     )
 

@@ -2,6 +2,7 @@ pub mod Given
 pub mod Runs
 pub mod Tells
 pub mod Tried
+mod Made
 mod Mounted
 mod Available
 mod Numbers

@@ -4,7 +4,7 @@ use mir.Syntax.{w32}
 use mir.Val.{of_z, to_z}
 use Rattle.pansuyog_calls.specs.Codes.{already_mounted, inval, no_memory}
 use Rattle.lfs_queue.specs.declared.queue.QueueDevice.{QueueDevice}
-use Rattle.pansuyog.specs.Making.{IsNotTaken, IsTaken, Makes, MakesFrom, MakesOn, MountsFrom, MountsOn, is_full, is_mounted, is_not_tried}
+use Rattle.pansuyog.specs.Making.{IsNotTaken, IsTaken, MakesBy, MakesOn, MountsFrom, MountsOn, is_full, is_mounted, is_not_tried}
 use Rattle.pansuyog.specs.Making.{is_nothing, is_refused, is_tried, was_not_tried, was_tried}
 use Rattle.pansuyog.specs.declared.handle.Source.TheVariants.{Device}
 use Rattle.pansuyog.specs.declared.handle.Volume.{Volume}
@@ -15,17 +15,16 @@ pub mount_tried : {held old new : Volume} {room : ℕ} (code : ℤ) (device : Qu
 mount_tried {new} {room} code device same none taken listing mounts =
     subst (λ (v : Volume). MountsFrom v new room code) same (is_tried device none taken mounts listing)
 
-pub make_tried : {held old : Volume} (new : Volume) {room segments version : ℕ} (code : ℤ) (device after : QueueDevice) → held ≡ old
-    → held.fs ≡ None
-    → IsTaken held.source room device → new.listing ≡ held.listing
-    → new.fs ≡ None → new.source ≡ Device after → Makes segments version device after code → MakesFrom old new room segments version code
-make_tried new {room} {segments} {version} code device after same none taken listing empty source makes =
-    let there : MakesOn segments version device None (Device after) code = makes in
-    let here : MakesOn segments version device new.fs (Device after) code =
-    subst (λ f. MakesOn segments version device f (Device after) code) (sym empty) there in
-    let on : MakesOn segments version device new.fs new.source code =
-    subst (λ s. MakesOn segments version device new.fs s code) (sym source) here in
-    subst (λ (v : Volume). MakesFrom v new room segments version code) same (was_tried device none taken on listing)
+pub make_tried : {Makes : QueueDevice → QueueDevice → ℤ → Type 0} {held old : Volume} (new : Volume) {room : ℕ} (code : ℤ)
+    (device after : QueueDevice) → held ≡ old → held.fs ≡ None → IsTaken held.source room device → new.listing ≡ held.listing
+    → new.fs ≡ None → new.source ≡ Device after → Makes device after code → MakesBy Makes old new room code
+make_tried {Makes} new {room} code device after same none taken listing empty source makes =
+    let there : MakesOn Makes device None (Device after) code = makes in
+    let here : MakesOn Makes device new.fs (Device after) code =
+    subst (λ f. MakesOn Makes device f (Device after) code) (sym empty) there in
+    let on : MakesOn Makes device new.fs new.source code =
+    subst (λ s. MakesOn Makes device new.fs s code) (sym source) here in
+    subst (λ (v : Volume). MakesBy Makes v new room code) same (was_tried device none taken on listing)
 
 -- ---- none was taken: the number is of 32 bits
 abbrev as_told : ℤ → ℤ
@@ -46,7 +45,7 @@ pub mount_not_tried : {held old new : Volume} {room : ℕ} {code : ℤ} → held
 mount_not_tried {new} {room} {code} same refused =
     subst (λ (v : Volume). MountsFrom v new room (as_told code)) same (is_not_tried (told refused))
 
-pub make_not_tried : {held old new : Volume} {room segments version : ℕ} {code : ℤ} → held ≡ old → IsNotTaken held new code
-    → MakesFrom old new room segments version (as_told code)
-make_not_tried {new} {room} {segments} {version} {code} same refused =
-    subst (λ (v : Volume). MakesFrom v new room segments version (as_told code)) same (was_not_tried (told refused))
+pub make_not_tried : {Makes : QueueDevice → QueueDevice → ℤ → Type 0} {held old new : Volume} {room : ℕ} {code : ℤ} → held ≡ old
+    → IsNotTaken held new code → MakesBy Makes old new room (as_told code)
+make_not_tried {Makes} {new} {room} {code} same refused =
+    subst (λ (v : Volume). MakesBy Makes v new room (as_told code)) same (was_not_tried (told refused))

@@ -4,7 +4,7 @@ use Rattle.lfs_model.specs.Call.{Call}
 use Rattle.lfs_model.specs.Run.{Point}
 use Rattle.lfs_fs.specs.Seen.{seen}
 use Rattle.lfs_fs.specs.Volume.{IsAt, most_orders, segments_of}
-use Rattle.lfs_fs.specs.VolumeUnits.{by_volume}
+use Rattle.lfs_volume.specs.Found.{by_volume}
 use Rattle.lfs_queue.specs.Queue.{borne_by, queue_state, told_of}
 use Rattle.pansuyog_calls.specs.Codes.{device_failed}
 use Rattle.pansuyog.specs.Mounted.{MountedVolume, device_of}

@@ -6,14 +6,15 @@ use Rattle.lfs_model.specs.Run.{Point, Run}
 use Rattle.lfs_fs.specs.InARow.{IsSavedAt, MountsSaved}
 use Rattle.lfs_fs.specs.Seen.{seen}
 use Rattle.lfs_fs.specs.Volume.{segments_of}
-use Rattle.lfs_fs.specs.VolumeUnits.{by_volume}
+use Rattle.lfs_volume.specs.Found.{by_volume}
 use Rattle.lfs_queue.specs.Kept.{KeepsDone}
 use Rattle.lfs_queue.specs.Queue.{queue_state, told_of}
 use Rattle.lfs_queue.specs.declared.queue.QueueDevice.{QueueDevice}
 use Rattle.pansuyog_calls.specs.Codes.{code_of_answer}
 use Rattle.pansuyog_calls.specs.InARow.{ServesByContract}
 use Rattle.pansuyog.specs.Making.{Mounts}
-use Rattle.pansuyog.specs.Mounted.{MountedVolume, device_of}
+use Rattle.lfs_places.specs.Places.{volume_content}
+use Rattle.pansuyog.specs.Mounted.{MountedVolume, device_of, places_of}
 use Rattle.pansuyog.specs.Orders.{CarriesOut, device_in, told_by}
 use Rattle.pansuyog.specs.Serving.{IsUnchanged}
 use Rattle.pansuyog.specs.declared.handle.Volume.{Volume}
@@ -32,13 +33,14 @@ pub data MakesInARow (last : Volume) : Volume → List Call → List ℤ → Lis
       → MakesInARow last old calls codes clocks
 
 -- The numbers are those of answers that are a run of the model. Once the orders that were told by one of them are carried out, or others
--- in their place, a stop leaves the state behind every call that was acknowledged by then, or a later one.
+-- in their place, a stop leaves at the places of the volume the state behind every call that was acknowledged by then, or a later one.
 pub record AreKept (old new : MountedVolume) (calls : List Call) (codes : List ℤ) (clocks : List ℕ) (first : Point) : Type 0 where
   pub answers : List Answer
   pub told : codes ≡ map code_of_answer answers
   pub points : List Point
   pub run : Run (segments_of (seen old)) first calls answers points
-  pub kept : KeepsDone (device_of new) (first ∷ points) calls answers (length (told_of (device_of old)) ∷ clocks)
+  pub kept : KeepsDone (device_of new) (volume_content (places_of new)) (first ∷ points) calls answers
+      (length (told_of (device_of old)) ∷ clocks)
 
 -- So it is of each list of calls, from a point on at which the volume is saved.
 abbrev pub CallsAreKept : Type 0

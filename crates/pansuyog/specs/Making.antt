@@ -7,13 +7,16 @@ use Rattle.lfs_model.specs.Tree.{Dir, new_form}
 use Rattle.lfs_model.specs.TreeOf.{Stands}
 use Rattle.lfs_model.specs.Volume.{mounted}
 use Rattle.lfs_model.specs.declared.limits.TheConstants.{CHECKPOINT_SLOTS, SEGMENT_SECTORS}
-use Rattle.lfs_format.specs.Making.{MayStand}
+use Rattle.lfs_format.specs.Making.{IsMaking, MayStand}
+use Rattle.lfs_format.specs.Shape.{unit_power_of}
+use Rattle.lfs_format.specs.declared.shape.Shape.{Shape}
 use Rattle.lfs_format.specs.declared.fault.FormatFault.{FormatFault}
 use Rattle.lfs_format.specs.declared.fault.FormatFault.TheVariants as format_fault
 use Rattle.lfs_fs.specs.Mounting.{FindsState, IsRefused, MountsFs}
 use Rattle.lfs_fs.specs.Seen.{seen}
-use Rattle.lfs_fs.specs.VolumeUnits.{IsPutIn, by_volume, in_volume}
-use Rattle.lfs_fs.specs.declared.in_volume.InVolume.{InVolume}
+use Rattle.lfs_fs.specs.Finding.{IsFoundOn}
+use Rattle.lfs_volume.specs.Standing.{in_volume}
+use Rattle.lfs_volume.specs.Found.{Found, by_volume}
 use Rattle.lfs_queue.specs.Images.{cells_of}
 use Rattle.lfs_queue.specs.Queue.{IsRoomier, due_of, queue_state, room_of, start_of, told_of}
 use Rattle.lfs_queue.specs.declared.image.Image.{Image as Given}
@@ -21,6 +24,7 @@ use Rattle.lfs_queue.specs.declared.queue.QueueDevice.{QueueDevice}
 use Rattle.lfs_store.specs.log.verify.declared.fault.MountFault.{MountFault}
 use Rattle.lfs_store.specs.log.verify.declared.fault.MountFault.TheVariants as mount_fault
 use Rattle.pansuyog_calls.specs.Codes.{already_mounted, code_of_format_fault, code_of_mount_fault, inval, no_memory, not_mounted}
+use Rattle.pansuyog_calls.specs.Making as calls
 use Rattle.pansuyog.specs.Mounted.{MountedVolume, device_of}
 use Rattle.pansuyog.specs.declared.handle.Source.{Source}
 use Rattle.pansuyog.specs.declared.handle.Source.TheVariants.{Nothing, Image, Device}
@@ -52,7 +56,7 @@ pub data IsNotTaken (old new : Volume) (code : ℤ) : Type 0 where
       → new.source ≡ Device device → IsRoomier was device → new.listing ≡ old.listing → IsNotTaken old new code
 
 -- A volume is mounted over such a device. It keeps its model, and no call of it fails.
-pub record MountsIn (device : InVolume QueueDevice) (fs : MountedVolume) : Type 0 where
+pub record MountsIn (device : Found QueueDevice) (fs : MountedVolume) : Type 0 where
   pub mounts : MountsFs (by_volume queue_state) device fs
   pub only : FindsState (by_volume queue_state) device fs
   pub durable : Only (by_volume queue_state device).content (by_volume queue_state (seen fs).log.device)
@@ -64,7 +68,7 @@ pub record MountsIn (device : InVolume QueueDevice) (fs : MountedVolume) : Type 
 
 -- The device's volume is mounted, over the device that is in it then.
 abbrev pub Mounts : QueueDevice → MountedVolume → Type 0
-Mounts device fs = (put : InVolume QueueDevice) × IsPutIn device put × MountsIn put fs
+Mounts device fs = (put : Found QueueDevice) × IsFoundOn queue_state device put × MountsIn put fs
 
 -- It isn't, for this fault.
 pub record IsNotMounted (old new : QueueDevice) (fault : MountFault) : Type 0 where
@@ -113,14 +117,32 @@ pub record Makes (segments version : ℕ) (old new : QueueDevice) (code : ℤ) :
   pub carries : Carries (queue_state old) (queue_state new)
   pub any_moment : LeavesOnly (queue_state old) (queue_state new) (MayStand version segments 0 (queue_state old))
 
-abbrev pub MakesOn : ℕ → ℕ → QueueDevice → Option MountedVolume → Source → ℤ → Type 0
-MakesOn segments version device None (Device after) code = Makes segments version device after code
-MakesOn segments version device fs source code = ⊥
+-- What an empty volume of a shape was to be made on, by what came of it.
+abbrev pub IsMadeWith : Shape → QueueDevice → QueueDevice → Result (Unit {0}) FormatFault → Type 0
+IsMadeWith shape old new outcome = calls.IsMadeWith queue_state shape old new outcome
 
-pub data MakesFrom (old new : Volume) (room segments version : ℕ) (code : ℤ) : Type 0 where
+-- An empty volume of a shape was to be made on a device.
+pub record MakesWith (shape : Shape) (old new : QueueDevice) (code : ℤ) : Type 0 where
+  pub outcome : Result (Unit {0}) FormatFault
+  pub number : code ≡ code_of_making outcome
+  pub made : IsMadeWith shape old new outcome
+  pub making : IsMaking shape.version shape.segments (unit_power_of shape.unit) (queue_state old) (queue_state new)
+
+abbrev pub MakesOn : (QueueDevice → QueueDevice → ℤ → Type 0) → QueueDevice → Option MountedVolume → Source → ℤ → Type 0
+MakesOn Makes device None (Device after) code = Makes device after code
+MakesOn Makes device fs source code = ⊥
+
+-- An empty volume was to be made, and so it was tried, on a device that was taken, or none was taken.
+pub data MakesBy (Makes : QueueDevice → QueueDevice → ℤ → Type 0) (old new : Volume) (room : ℕ) (code : ℤ) : Type 0 where
   was_tried : (device : QueueDevice) → old.fs ≡ None → IsTaken old.source room device
-      → MakesOn segments version device new.fs new.source code → new.listing ≡ old.listing → MakesFrom old new room segments version code
-  was_not_tried : IsNotTaken old new code → MakesFrom old new room segments version code
+      → MakesOn Makes device new.fs new.source code → new.listing ≡ old.listing → MakesBy Makes old new room code
+  was_not_tried : IsNotTaken old new code → MakesBy Makes old new room code
+
+abbrev pub MakesFrom : Volume → Volume → ℕ → ℕ → ℕ → ℤ → Type 0
+MakesFrom old new room segments version code = MakesBy (Makes segments version) old new room code
+
+abbrev pub MakesFromWith : Shape → Volume → Volume → ℕ → ℤ → Type 0
+MakesFromWith shape old new room code = MakesBy (MakesWith shape) old new room code
 
 -- What an unmounting leaves: the device that was in the volume.
 abbrev pub Unmounts : Option MountedVolume → Source → Source → ℤ → Type 0

@@ -6,7 +6,7 @@ use Rattle.lfs_model.specs.declared.Order.TheVariants.{Write, Sync}
 use Rattle.lfs_model.specs.declared.limits.TheConstants.{SECTOR_LEN}
 use Rattle.lfs_fs.specs.Seen.{seen}
 use Rattle.lfs_fs.specs.Volume.{IsStill}
-use Rattle.lfs_fs.specs.VolumeUnits.{by_volume}
+use Rattle.lfs_volume.specs.Found.{by_volume}
 use Rattle.lfs_queue.specs.Numbered.{HasNumber, IsNoneWaiting}
 use Rattle.lfs_queue.specs.Queue.{IsEmptied, carried_of, queue_state, told_of}
 use Rattle.lfs_queue.specs.declared.queue.QueueDevice.{QueueDevice}

@@ -1,7 +1,7 @@
 -- What a call of C makes of a volume: what the model's call makes of it. Every call is made.
 use Rattle.std.specs.Prelude.{◌≡◌, ℕ, ℤ, List}
 use Rattle.lfs_model.specs.Call.{Call}
-use Rattle.lfs_fs.specs.VolumeUnits.{by_volume}
+use Rattle.lfs_volume.specs.Found.{by_volume}
 use Rattle.lfs_queue.specs.Queue.{queue_state}
 use Rattle.pansuyog_calls.specs.Serving as calls
 use Rattle.pansuyog_calls.specs.Telling as telling

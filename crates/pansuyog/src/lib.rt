@@ -12,5 +12,6 @@ mod orders;
 mod place;
 pub mod rooms;
 mod saving;
+mod shapes;
 mod source;
 mod status;

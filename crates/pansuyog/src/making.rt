@@ -8,13 +8,14 @@ ghost use Rattle.pansuyog.specs.Making.{
   MountsFrom,
   MountsOn,
   Unmounts,
+  code_of_making,
   code_of_mounting,
 };
 ghost use Rattle.pansuyog.specs.Serving.{KeepsListing};
 ghost use Rattle.pansuyog.specs.declared.handle.Source.TheVariants as source_of;
 
 use crate::handle::{Handle, Source, Volume};
-use lfs_fs::{FormatFault, Fs, InVolume, MountFault, format_version};
+use lfs_fs::{FormatFault, Fs, MountFault, find_volume, format_version};
 use lfs_queue::QueueDevice;
 use pansuyog_calls::codes::{
     ALREADY_MOUNTED, INVAL, NO_MEMORY, NOT_MOUNTED, TOO_SMALL, code_of_mount,
@@ -24,7 +25,7 @@ use std::mem;
 
 /// The device that a volume is to be made on or mounted from: one that none is mounted on any more,
 /// or one that holds the sectors that were given. It has room for so many orders.
-fn take_device(alloc: Global, volume: &mut Volume, room: u32) -> Result<QueueDevice, i32>
+pub(crate) fn take_device(alloc: Global, volume: &mut Volume, room: u32) -> Result<QueueDevice, i32>
     ensures unmounted { IfOk result (λ device. volume.old.fs ≡ None) }
     ensures taken { IfOk result (λ device. IsTaken volume.old.source room device) }
     ensures fs { IfOk result (λ device. volume.new.fs ≡ None) }
@@ -51,16 +52,24 @@ fn take_device(alloc: Global, volume: &mut Volume, room: u32) -> Result<QueueDev
     }
 }
 
-/// Makes an empty volume on a device. It fails only where memory for an order is refused.
-fn make_on(device: &mut QueueDevice, segments: u32, version: u32) -> i32
-    ensures { Makes segments version device.old device.new result }
+/// The number of the making of a volume. A call of the device fails only where memory for an order
+/// is refused.
+pub(crate) fn code_of_made(made: Result<(), FormatFault>) -> i32
+    ensures { result ≡ code_of_making made }
 {
-    match format_version(device, segments, version) {
+    match made {
         Ok(()) => 0,
         Err(FormatFault::Inval) => INVAL,
         Err(FormatFault::TooSmall) => TOO_SMALL,
         Err(FormatFault::Device) => NO_MEMORY,
     }
+}
+
+/// Makes an empty volume on a device.
+fn make_on(device: &mut QueueDevice, segments: u32, version: u32) -> i32
+    ensures { Makes segments version device.old device.new result }
+{
+    code_of_made(format_version(device, segments, version))
 }
 
 /// Makes an empty volume of so many segments, in a version of the layout. Its orders wait then.
@@ -102,13 +111,20 @@ fn mount_on(alloc: Global, volume: &mut Volume, device: QueueDevice) -> i32
     ensures mounts { MountsOn device volume.new.fs volume.new.source result }
     ensures listing { KeepsListing volume.old volume.new }
 {
-    match Fs::mount(alloc, InVolume::new(device)) {
+    let found = match find_volume(device) {
+        Ok(found) => found,
+        Err((fault, device)) => {
+            volume.source = Source::Device(device);
+            return code_of(fault);
+        }
+    };
+    match Fs::mount(alloc, found) {
         Ok(fs) => {
             volume.fs = Some(fs);
             0
         }
-        Err((fault, device)) => {
-            volume.source = Source::Device(device.into_inner());
+        Err((fault, refused)) => {
+            volume.source = Source::Device(refused.into_inner());
             code_of(fault)
         }
     }

@@ -1,6 +1,6 @@
 //! Calls on the whole volume (POSIX.1-2017: fsync, sync), and those that the volume has besides.
 ghost use Rattle.lfs_model.specs.Call.{Fsync, Sync, Clean, Version, Upgrade};
-ghost use Rattle.lfs_fs.specs.VolumeUnits.{by_volume};
+ghost use Rattle.lfs_volume.specs.Found.{by_volume};
 ghost use Rattle.lfs_queue.specs.Queue.{queue_state};
 ghost use Rattle.pansuyog_calls.specs.Cleaning.{CleansOnceIn, TellsDue};
 ghost use Rattle.pansuyog.specs.Serving.{IsUnchanged, KeepsRest, ServesCall};

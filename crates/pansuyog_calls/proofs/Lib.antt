@@ -2,4 +2,4 @@ pub mod CallsInARow
 pub mod Filled
 pub mod Places
 pub mod Told
-mod Made
+pub mod Made

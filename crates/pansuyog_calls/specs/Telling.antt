@@ -1,10 +1,14 @@
 -- What C is told of an object, of the volume, and of the names in a directory.
-use Rattle.std.specs.Prelude.{◌≡◌, ℕ, ℤ, pos, List, length, map, Option, Some, None, Vec}
+use Rattle.std.specs.Prelude.{◌≡◌, ◌⊎◌, ℕ, ℤ, pos, true, List, length, map, Option, Some, None, Vec}
 use Rattle.std.specs.declared.alloc.Global.{Global}
 use Rattle.lfs_model.specs.Call as model
 use Rattle.lfs_model.specs.Call.{Answer, Call}
+use Rattle.lfs_model.specs.Refusal.{Halted}
 use Rattle.lfs_model.specs.Device.{DeviceState}
 use Rattle.lfs_fs.specs.Answers.{entry_of}
+use Rattle.lfs_format.specs.declared.shape.Shape.{Shape as ToldShape}
+use Rattle.lfs_fs.specs.Seen.{seen}
+use Rattle.lfs_fs.specs.Shapes.{IsShapeOf}
 use Rattle.lfs_fs.specs.declared.fs.Fs.{Fs}
 use Rattle.lfs_fs.specs.entries.declared.rows.ListedEntry.{ListedEntry as Row}
 use Rattle.lfs_fs.specs.declared.rows.Stat.{Stat as Told}
@@ -12,6 +16,7 @@ use Rattle.pansuyog_calls.specs.Bytes.{filled}
 use Rattle.pansuyog_calls.specs.Codes.{code_of_count, code_of_kind, code_of_refusal, not_mounted}
 use Rattle.pansuyog_calls.specs.Serving.{ServesIn}
 use Rattle.pansuyog_calls.specs.declared.rows.Entry.{Entry}
+use Rattle.pansuyog_calls.specs.declared.rows.Shape.{Shape}
 use Rattle.pansuyog_calls.specs.declared.rows.Space.{Space}
 use Rattle.pansuyog_calls.specs.declared.rows.Stat.{Stat}
 
@@ -46,6 +51,20 @@ abbrev pub TellsSpace : ℤ → Space → Space → Answer → Type 0
 TellsSpace code before after (model.Room blocks others need limit) = (code ≡ pos 0) × IsSpace blocks others need limit after
 TellsSpace code before after (model.Refuse why) = (code ≡ code_of_refusal why) × (after ≡ before)
 TellsSpace code before after _ = ⊥
+
+-- What C has of a shape is what a volume tells.
+pub record IsShape (shape : ToldShape) (out : Shape) : Type 0 where
+  pub segments : out.segments ≡ shape.segments
+  pub version : out.version ≡ shape.version
+  pub segment : out.segment_sectors ≡ shape.segment_sectors
+  pub unit : out.unit ≡ shape.unit
+
+-- C is told the shape of the volume that is mounted. Where that is halted, or none is, its memory is as it was.
+abbrev pub TellsShape : {D : Type 0} → Option (Fs D) → ℤ → Shape → Shape → Type 0
+TellsShape (Some fs) code before after =
+    ((code ≡ pos 0) × (shape : ToldShape) × IsShapeOf (seen fs) shape × IsShape shape after)
+    ⊎ ((code ≡ code_of_refusal Halted) × ((seen fs).log.halted ≡ true) × (after ≡ before))
+TellsShape None code before after = (code ≡ not_mounted) × (after ≡ before)
 
 -- C is told how many names there are, which are kept; where it is refused those that were kept are
 abbrev pub TellsListing : ℤ → List Row → List Row → Answer → Type 0

@@ -1,6 +1,6 @@
 //! Calls on open files (POSIX.1-2017: open, close, pread, pwrite, ftruncate).
 ghost use Rattle.std.specs.Prelude.{◌-◌, ◌^◌, length, min};
-ghost use Rattle.lfs_fs.specs.VolumeUnits.{by_volume};
+ghost use Rattle.lfs_volume.specs.Found.{by_volume};
 ghost use Rattle.lfs_model.specs.Call.{Open, Create, Close, Pread, Pwrite, Truncate};
 ghost use Rattle.pansuyog_calls.specs.Serving.{Answers, ServesBytes, ServesCall, ServesChange, TellsBytes};
 

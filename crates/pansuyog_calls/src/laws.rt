@@ -1,7 +1,7 @@
 //! The laws of the calls, each the contract of a function that does nothing.
 ghost use Rattle.pansuyog_calls.specs.InARow.{CallsAreKept, MountsAreSaved};
 ghost use Rattle.pansuyog_calls.specs.Laws.{LooksTellNothing, RefusalsTellNothing};
-ghost use Rattle.lfs_fs.specs.VolumeUnits.{by_volume};
+ghost use Rattle.lfs_volume.specs.Found.{by_volume};
 
 use lfs_device::SectorDevice;
 

@@ -11,6 +11,7 @@ pub mod making;
 pub mod names;
 pub mod rows;
 pub mod saving;
+pub mod shapes;
 pub mod status;
 pub mod taking;
 pub mod volume;

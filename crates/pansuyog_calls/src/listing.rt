@@ -1,6 +1,6 @@
 //! The listing of a directory, by one name a call (POSIX.1-2017: readdir).
 ghost use Rattle.std.specs.Prelude.{◌≡◌, Some, slice_get};
-ghost use Rattle.lfs_fs.specs.VolumeUnits.{by_volume};
+ghost use Rattle.lfs_volume.specs.Found.{by_volume};
 ghost use Rattle.lfs_model.specs.Call.{Readdir};
 ghost use Rattle.pansuyog_calls.specs.Codes.{code_of_kind};
 ghost use Rattle.pansuyog_calls.specs.Serving.{Answers};

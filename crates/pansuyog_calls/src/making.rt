@@ -1,7 +1,7 @@
 //! A volume is made, mounted and unmounted.
 ghost use Rattle.std.specs.Prelude.{◌≡◌, None};
 ghost use Rattle.lfs_model.specs.Device.{in_sectors};
-ghost use Rattle.pansuyog_calls.specs.Making.{Makes};
+ghost use Rattle.pansuyog_calls.specs.Making.{Makes, code_of_making};
 ghost use Rattle.pansuyog_calls.specs.Volumes.{KeepsListingAndAccess, MakesFrom, MountsDevice, MountsFrom, Unmounts};
 
 use crate::access::Access;
@@ -10,19 +10,26 @@ use crate::codes::{
 };
 use crate::volume::VolumeIn;
 use lfs_device::SectorDevice;
-use lfs_fs::{FormatFault, Fs, InVolume, format_version};
+use lfs_fs::{FormatFault, Fs, find_volume, format_version};
 use std::alloc::Global;
 
-/// Makes an empty volume on a device.
-fn make_on<D: SectorDevice>(device: &mut D, segments: u32, version: u32) -> i32
-    ensures { Makes (in_sectors D.state) segments version device.old device.new result }
+/// The number of the making of a volume.
+pub(crate) fn code_of_making(made: Result<(), FormatFault>) -> i32
+    ensures { result ≡ code_of_making made }
 {
-    match format_version(device, segments, version) {
+    match made {
         Ok(()) => 0,
         Err(FormatFault::Inval) => INVAL,
         Err(FormatFault::TooSmall) => TOO_SMALL,
         Err(FormatFault::Device) => DEVICE,
     }
+}
+
+/// Makes an empty volume on a device.
+fn make_on<D: SectorDevice>(device: &mut D, segments: u32, version: u32) -> i32
+    ensures { Makes (in_sectors D.state) segments version device.old device.new result }
+{
+    code_of_making(format_version(device, segments, version))
 }
 
 /// Makes an empty volume of so many segments, in a version of the layout, on a device on which none
@@ -47,13 +54,20 @@ fn mount_on<D: SectorDevice + Drop>(alloc: Global, volume: &mut VolumeIn<D>, dev
     ensures mounts { MountsDevice D.state device volume.new.fs volume.new.device result }
     ensures rest { KeepsListingAndAccess volume.old volume.new }
 {
-    match Fs::mount(alloc, InVolume::new(device)) {
+    let found = match find_volume(device) {
+        Ok(found) => found,
+        Err((fault, device)) => {
+            volume.device = Some(device);
+            return code_of_mount(fault);
+        }
+    };
+    match Fs::mount(alloc, found) {
         Ok(fs) => {
             volume.fs = Some(fs);
             0
         }
-        Err((fault, device)) => {
-            volume.device = Some(device.into_inner());
+        Err((fault, refused)) => {
+            volume.device = Some(refused.into_inner());
             code_of_mount(fault)
         }
     }

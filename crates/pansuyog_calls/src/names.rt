@@ -1,7 +1,7 @@
 //! Calls that change names (POSIX.1-2017: mkdir, link, symlink, unlink, rmdir, rename), and the one
 //! by which a directory takes longer ones.
 ghost use Rattle.lfs_model.specs.Call.{Mkdir, LinkTo, Symlink, Unlink, Rmdir, Rename, Widen};
-ghost use Rattle.lfs_fs.specs.VolumeUnits.{by_volume};
+ghost use Rattle.lfs_volume.specs.Found.{by_volume};
 ghost use Rattle.pansuyog_calls.specs.Serving.{ServesChange};
 
 use crate::access::Access;

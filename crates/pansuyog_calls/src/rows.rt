@@ -26,6 +26,18 @@ pub struct Space {
     pub limit: u64,
 }
 
+/// What a volume was made with, and the version of its layout, as C has it.
+#[repr(C)]
+#[derive(Drop)]
+pub struct Shape {
+    pub segments: u32,
+    pub version: u32,
+    /// How many sectors a segment has.
+    pub segment_sectors: u32,
+    /// How many sectors a unit has.
+    pub unit: u32,
+}
+
 /// What a name of a directory gives, as C has it.
 #[repr(C)]
 #[derive(Drop)]

@@ -1,6 +1,6 @@
 //! What is told of an object and of the volume (POSIX.1-2017: stat, lstat, readlink).
 ghost use Rattle.lfs_model.specs.Call as call;
-ghost use Rattle.lfs_fs.specs.VolumeUnits.{by_volume};
+ghost use Rattle.lfs_volume.specs.Found.{by_volume};
 ghost use Rattle.lfs_model.specs.Call.{StatOf, LstatOf, Readlink, Status};
 ghost use Rattle.std.specs.Prelude.{◌≡◌};
 ghost use Rattle.lfs_fs.specs.Answers.{status_of};

@@ -9,5 +9,6 @@ mod making;
 mod names;
 mod place;
 mod saving;
+mod shapes;
 mod source;
 mod status;

@@ -33,6 +33,16 @@ pub struct RawSpace {
     pub limit: u64,
 }
 
+/// `pansuyog_shape_t`.
+#[repr(C)]
+#[derive(Default)]
+pub struct RawShape {
+    pub segments: u32,
+    pub version: u32,
+    pub segment_sectors: u32,
+    pub unit: u32,
+}
+
 /// `pansuyog_entry_t`.
 #[repr(C)]
 #[derive(Default)]
@@ -108,6 +118,7 @@ declare! {
     is_cleaning_due();
     clean_once();
     space(space: *mut RawSpace);
+    shape(shape: *mut RawShape);
     version();
     upgrade();
     widen(path: *const u8, length: usize);

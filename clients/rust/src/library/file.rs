@@ -1,6 +1,7 @@
 //! What `pansuyog_file.h` has besides: an open file is taken.
 use super::calls::{OF_FILE, Raw};
 use super::{Answer, Library, Refused, answer};
+use crate::shape::Shape;
 use std::ffi::{c_int, c_void};
 use std::fs::File;
 use std::os::fd::IntoRawFd;
@@ -8,9 +9,15 @@ use std::os::fd::IntoRawFd;
 unsafe extern "C" {
     fn pansuyog_file_take(volume: *mut Raw, descriptor: *mut c_int, flags: u32) -> i32;
     fn pansuyog_file_errno(volume: *mut Raw) -> i32;
-    fn pansuyog_file_format(volume: *mut Raw, segments: u32, version: u32) -> i32;
+    fn pansuyog_file_format_with(volume: *mut Raw, segments: u32, version: u32, segment_sectors: u32, unit: u32) -> i32;
+    safe fn pansuyog_file_shape_sectors(segments: u32, version: u32, segment_sectors: u32, unit: u32) -> u32;
     fn pansuyog_file_mount(volume: *mut Raw) -> i32;
     fn malloc(size: usize) -> *mut c_void;
+}
+
+/// How many sectors a volume of a shape takes: 0 where there is none of it.
+pub fn shape_sectors(it: Shape) -> u32 {
+    pansuyog_file_shape_sectors(it.segments, it.version as u32, it.segment_sectors, it.unit)
 }
 
 const NO_MEMORY: Refused = Refused(-18);
@@ -60,9 +67,9 @@ impl FileLibrary {
         unsafe { pansuyog_file_errno(self.raw()) }
     }
 
-    pub fn format(&mut self, segments: u32, version: u32) -> Answer<u32> {
+    pub fn format(&mut self, it: Shape) -> Answer<u32> {
         // SAFETY: the call takes any numbers.
-        answer(unsafe { pansuyog_file_format(self.raw(), segments, version) })
+        answer(unsafe { pansuyog_file_format_with(self.raw(), it.segments, it.version as u32, it.segment_sectors, it.unit) })
     }
 
     pub fn mount(&mut self) -> Answer<u32> {

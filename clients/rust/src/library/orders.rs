@@ -2,12 +2,13 @@
 use super::calls::{OF_ORDERS, Raw};
 use super::{Answer, Library, answer};
 use crate::device::Sector;
+use crate::shape::Shape;
 use std::ffi::c_void;
 
 unsafe extern "C" {
     fn pansuyog_begin(volume: *mut Raw, sectors: u32) -> i32;
     fn pansuyog_give(volume: *mut Raw, first: u32, bytes: *const c_void, length: usize) -> i32;
-    fn pansuyog_format(volume: *mut Raw, segments: u32, version: u32, room: u32) -> i32;
+    fn pansuyog_format_with(volume: *mut Raw, segments: u32, version: u32, segment_sectors: u32, unit: u32, room: u32) -> i32;
     fn pansuyog_mount(volume: *mut Raw, room: u32) -> i32;
     fn pansuyog_carried(volume: *mut Raw) -> u64;
     fn pansuyog_told(volume: *mut Raw) -> u64;
@@ -43,9 +44,9 @@ impl OrderLibrary {
         answer(unsafe { pansuyog_give(self.raw(), first, bytes.as_ptr().cast(), bytes.len()) })
     }
 
-    pub fn format(&mut self, segments: u32, version: u32, room: u32) -> Answer<u32> {
+    pub fn format(&mut self, it: Shape, room: u32) -> Answer<u32> {
         // SAFETY: the call takes any numbers.
-        answer(unsafe { pansuyog_format(self.raw(), segments, version, room) })
+        answer(unsafe { pansuyog_format_with(self.raw(), it.segments, it.version as u32, it.segment_sectors, it.unit, room) })
     }
 
     pub fn mount(&mut self, room: u32) -> Answer<u32> {

@@ -2,7 +2,7 @@
 // No test needs all of it.
 #![allow(dead_code)]
 
-use pansuyog::{Backend, Device, Error, Image, SECTOR, Sector, Version, Volume, sectors_of};
+use pansuyog::{Backend, Device, Error, Image, SECTOR, Sector, Shape, Version, Volume, sectors_of};
 use std::collections::{HashMap, HashSet};
 use std::fmt::Display;
 use std::os::unix::fs::FileExt;
@@ -26,8 +26,13 @@ fn failed() -> io::Error {
 impl MemoryDevice {
     /// A device for a volume of so many segments.
     pub fn new(segments: u32) -> MemoryDevice {
+        MemoryDevice::of(sectors_of(segments) as usize)
+    }
+
+    /// A device of so many sectors.
+    pub fn of(sectors: usize) -> MemoryDevice {
         MemoryDevice {
-            sectors: vec![[0; SECTOR]; sectors_of(segments) as usize],
+            sectors: vec![[0; SECTOR]; sectors],
             old: HashMap::new(),
             unreadable: HashSet::new(),
             good_calls: usize::MAX,
@@ -84,7 +89,11 @@ pub trait Ground {
     type Under: Backend;
 
     /// Makes a volume in the place of what is there.
-    fn format(&mut self, segments: u32, version: Version) -> Volume<Self::Under>;
+    fn format_with(&mut self, shape: Shape) -> Volume<Self::Under>;
+
+    fn format(&mut self, segments: u32, version: Version) -> Volume<Self::Under> {
+        self.format_with(Shape::new(segments, version))
+    }
 
     /// A stop: what isn't saved is lost.
     fn stop(&mut self, volume: Volume<Self::Under>);
@@ -108,8 +117,9 @@ pub struct InMemory(Option<MemoryDevice>);
 impl Ground for InMemory {
     type Under = MemoryDevice;
 
-    fn format(&mut self, segments: u32, version: Version) -> Volume<MemoryDevice> {
-        Volume::format_over(MemoryDevice::new(segments), segments, version).unwrap()
+    fn format_with(&mut self, shape: Shape) -> Volume<MemoryDevice> {
+        let device = MemoryDevice::of(shape.sectors().unwrap() as usize);
+        Volume::format_over_with(device, shape).unwrap()
     }
 
     fn stop(&mut self, volume: Volume<MemoryDevice>) {
@@ -149,9 +159,9 @@ impl Drop for TemporaryImage {
 impl Ground for TemporaryImage {
     type Under = Image;
 
-    fn format(&mut self, segments: u32, version: Version) -> Volume {
+    fn format_with(&mut self, shape: Shape) -> Volume {
         let _ = fs::remove_file(&self.0);
-        pansuyog::make(&self.0, segments, version).unwrap();
+        pansuyog::make_with(&self.0, shape).unwrap();
         Volume::mount(&self.0).unwrap()
     }
 

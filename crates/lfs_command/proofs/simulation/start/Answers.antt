@@ -7,4 +7,4 @@ use Rattle.lfs_command.proofs.simulation.start.Goals as goal
 pub returns-clause-alone : goal.returns-clause-alone
 returns-clause-alone c =
     subst (λ (d : MemDevice). Only (device_state d).content (device_state d)) (sym c.stop_at.ensures)
-    (c.in_default-format_version.ensures.made.durable tt)
+    (c.in_default-format_with.ensures.made.durable tt)

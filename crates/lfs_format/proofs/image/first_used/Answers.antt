@@ -1,4 +1,4 @@
-use Rattle.std.proofs.Common.{rules, arith}
+use Rattle.std.proofs.Common.{arith}
 use Rattle.lfs_model.specs.Checkpoint.{usage_blocks}
 use Rattle.lfs_model.proofs.UnitSizes.{made_whole, shifted}
 use Rattle.lfs_format.proofs.image.first_used.Goals as goal

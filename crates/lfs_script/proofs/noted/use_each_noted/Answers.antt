@@ -1,14 +1,15 @@
 use Rattle.std.proofs.Common.{ap, refl, rules}
 use Rattle.lfs_device.specs.MemoryDevice.{device_state}
 use Rattle.lfs_script.proofs.InTurnNoted.{all_told, more_told, none_told, stops_told}
-use Rattle.lfs_script.proofs.Used.{alone_in_units, err_of, keeps_by_first, ok_of, same_units_later, told_by_first, unused_by_first}
-use Rattle.lfs_fs.specs.VolumeUnits.{in_volume}
+use Rattle.lfs_script.proofs.Used.{alone_in_volume, err_of, keeps_by_first, ok_of, on_of, same_later, told_by_first, unused_by_first}
+use Rattle.lfs_volume.specs.Finding.{found_places}
+use Rattle.lfs_volume.specs.Standing.{in_volume}
 use Rattle.lfs_script.proofs.noted.use_each_noted.Goals as goal
 
 pub loop-script-init : goal.loop-script-init
 loop-script-init g c = λ keeps. (
   keeps,
-  refl,
+  record { places = refl; units = λ places is. refl },
   λ before calls given was.
       none_told (in_volume device_state c.args.device) c.args.strict
       (record {
@@ -29,12 +30,14 @@ loop-script-preserved g c = λ keeps.
     let next = keeps_by_first first current left so_far.1 c.use_and_stop_noted.ensures.carries so_far.0 in
     let session = told_by_first first current left so_far.1 (ok_of _ c.in-Ok-default.is-0 c.use_and_stop_noted.ensures.ran) in (
       next,
-      same_units_later first current left so_far.1 (session.uses next).uses next,
+      same_later first current left so_far.1 (session.uses next).uses c.use_and_stop_noted.ensures.carries next
+          (on_of _ c.in-Ok-default.is-0 c.use_and_stop_noted.ensures.apart),
       λ before calls given was. more_told
           (in_volume device_state first) c.args.strict c.args.scripts.now c.loop-script.script-index c.script-item.result
           c.loop-script-test.true (search rules) c.as_slice-reader.ensures.value _ _ _ _ _ _ _ _
           (so_far.2 before calls given was) (_, _, session, session.uses next)
-          (alone_in_units _ left c.use_and_stop_noted.ensures.alone),
+          (alone_in_volume first left (found_places (device_state first).size (device_state first).content)
+          c.use_and_stop_noted.ensures.alone),
     )
 
 pub returns-in-Err-default-clause-stopped : goal.returns-in-Err-default-clause-stopped

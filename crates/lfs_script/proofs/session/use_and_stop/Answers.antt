@@ -1,22 +1,32 @@
-use Rattle.lfs_script.proofs.Used.{carries_behind, err_more, ok_more, stopped_behind, unused_behind}
+use Rattle.lfs_script.proofs.Used.{apart_behind, carries_behind, err_more, ok_more, on_all, stopped_behind, unfound_behind, unfound_carries}
+use Rattle.lfs_script.proofs.Used.{unused_behind}
 use Rattle.lfs_script.proofs.session.use_and_stop.Goals as goal
 
-pub use_volume-end-requires : goal.use_volume-end-requires
-use_volume-end-requires g c = c.new.ensures.whole
-
-pub returns-clause-ran : goal.returns-clause-ran
-returns-clause-ran g c =
+pub returns-in-Ok-clause-ran : goal.returns-in-Ok-clause-ran
+returns-in-Ok-clause-ran g c =
     ok_more _ _ c.use_volume-end.result.0
-    (λ end session. stopped_behind c.new.result c.use_volume-end.result.1 c.new.ensures.device c.new.ensures.held
-    c.into_inner-stopped.ensures c.use_volume-end.ensures.carries c.crash.ensures _ _ session) c.use_volume-end.ensures.ran
+    (λ end session. stopped_behind c.args.device c.in-Ok.found c.use_volume-end.result.1 c.in-Ok.ensures.found
+    c.into_inner-stopped.ensures.device c.use_volume-end.ensures.carries c.crash.ensures _ _ session) c.use_volume-end.ensures.ran
 
-pub returns-clause-refused : goal.returns-clause-refused
-returns-clause-refused g c =
+pub returns-in-Ok-clause-refused : goal.returns-in-Ok-clause-refused
+returns-in-Ok-clause-refused g c =
     err_more _ _ c.use_volume-end.result.0
-    (λ fault unused. unused_behind c.new.result c.use_volume-end.result.1 c.new.ensures.device c.new.ensures.held
-    c.into_inner-stopped.ensures c.use_volume-end.ensures.carries c.crash.ensures unused) c.use_volume-end.ensures.refused
+    (λ fault unused. unused_behind c.args.device c.in-Ok.found c.use_volume-end.result.1 c.in-Ok.ensures.found
+    c.into_inner-stopped.ensures.device c.use_volume-end.ensures.carries c.crash.ensures unused) c.use_volume-end.ensures.refused
 
-pub returns-clause-carries : goal.returns-clause-carries
-returns-clause-carries g c =
-    carries_behind c.new.result c.use_volume-end.result.1 c.new.ensures.device c.new.ensures.held c.into_inner-stopped.ensures
+pub returns-in-Ok-clause-apart : goal.returns-in-Ok-clause-apart
+returns-in-Ok-clause-apart g c =
+    on_all _ c.use_volume-end.result.0
+    (apart_behind c.args.device c.in-Ok.found c.use_volume-end.result.1 c.in-Ok.ensures.found c.into_inner-stopped.ensures.device
+    c.use_volume-end.ensures.carries c.crash.ensures c.into_inner-stopped.ensures.found)
+
+pub returns-in-Ok-clause-carries : goal.returns-in-Ok-clause-carries
+returns-in-Ok-clause-carries g c =
+    carries_behind c.args.device c.in-Ok.found c.use_volume-end.result.1 c.in-Ok.ensures.found c.into_inner-stopped.ensures.device
     c.use_volume-end.ensures.carries c.crash.ensures
+
+pub returns-in-Err-clause-refused : goal.returns-in-Err-clause-refused
+returns-in-Err-clause-refused g c = unfound_behind c.args.device c.in-Err.ensures.refused c.crash-in-Err.ensures _ _
+
+pub returns-in-Err-clause-carries : goal.returns-in-Err-clause-carries
+returns-in-Err-clause-carries g c = unfound_carries c.args.device c.in-Err.ensures.refused c.crash-in-Err.ensures

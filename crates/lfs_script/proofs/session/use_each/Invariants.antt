@@ -4,15 +4,15 @@ use Rattle.lfs_model.specs.Run.{Point}
 use Rattle.lfs_model.specs.Volume.{LeavesPrefix}
 use Rattle.lfs_device.specs.MemoryDevice.{device_state}
 use Rattle.lfs_script.specs.Series.{UsesInTurn, texts_of}
-use Rattle.lfs_model.specs.UnitLaws.{units_of}
-use Rattle.lfs_fs.specs.VolumeUnits.{in_volume}
+use Rattle.lfs_volume.specs.FindingLaws.{StandsAsOn}
+use Rattle.lfs_volume.specs.Standing.{in_volume}
 use Rattle.lfs_script.proofs.session.use_each.Given as goal
 
 -- where the device keeps its model, it still does, its volume has the units that it had, and the scripts so far were used in turn
 abbrev pub invariant-loop-script : goal.invariant-loop-script
 invariant-loop-script g l = (in_volume device_state l.fn.device l.fn.device).keeps_model
     → ((in_volume device_state l.fn.device l.current).keeps_model
-    × (units_of (device_state l.current).content ≡ units_of (device_state l.fn.device).content)
+    × StandsAsOn (device_state l.current) (device_state l.fn.device)
     × ((before : List Point) (calls : List Call) (given : List Answer)
     → LeavesPrefix (in_volume device_state l.fn.device l.fn.device) before calls given
     → UsesInTurn (in_volume device_state l.fn.device) (texts_of (take l.script-index l.scripts))

@@ -1,5 +1,5 @@
-use Rattle.lfs_fs.specs.VolumeUnits.{by_volume}
-use Rattle.lfs_fs.proofs.InVolumes.{volume_lawful}
+use Rattle.lfs_volume.specs.Found.{by_volume}
+use Rattle.lfs_volume.specs.Lawful.{volume_lawful}
 use Rattle.pansuyog_calls.proofs.CallsInARow.{calls_are_kept}
 use Rattle.pansuyog_calls.proofs.laws.calls_are_kept.Goals as goal
 

@@ -1,4 +1,4 @@
-use Rattle.lfs_fs.specs.VolumeUnits.{by_volume}
+use Rattle.lfs_volume.specs.Found.{by_volume}
 use Rattle.pansuyog_calls.proofs.CallsInARow.{mounts_are_saved}
 use Rattle.pansuyog_calls.proofs.laws.mounts_are_saved.Goals as goal
 

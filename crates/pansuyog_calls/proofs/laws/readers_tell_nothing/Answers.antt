@@ -1,5 +1,5 @@
 use Rattle.pansuyog_calls.proofs.Told.{looks_tell_nothing, refusals_tell_nothing}
-use Rattle.lfs_fs.specs.VolumeUnits.{by_volume}
+use Rattle.lfs_volume.specs.Found.{by_volume}
 use Rattle.pansuyog_calls.proofs.laws.readers_tell_nothing.Goals as goal
 
 pub returns-clause-looks : goal.returns-clause-looks

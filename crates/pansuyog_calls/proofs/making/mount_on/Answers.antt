@@ -1,17 +1,17 @@
 use Rattle.std.proofs.Common.{refl, rules}
-use Rattle.pansuyog_calls.proofs.Made.{not_mounted}
+use Rattle.pansuyog_calls.proofs.Made.{not_found, not_mounted}
 use Rattle.pansuyog_calls.proofs.making.mount_on.Goals as goal
 
 pub mount-requires : goal.mount-requires
-mount-requires g c = c.new.ensures.whole
+mount-requires g c = c.in-Ok.ensures.whole
 
-pub returns-in-Ok-clause-mounts : goal.returns-in-Ok-clause-mounts
-returns-in-Ok-clause-mounts g c =
-    let ensured = c.in-Ok.ensures in
+pub returns-in-Ok-mount-clause-mounts : goal.returns-in-Ok-mount-clause-mounts
+returns-in-Ok-mount-clause-mounts g c =
+    let ensured = c.in-Ok-mount.ensures in
     rw c.requires.nothing (
       refl,
-      c.new.result,
-      record { device = c.new.ensures.device; held = c.new.ensures.held },
+      c.in-Ok.found,
+      c.in-Ok.ensures.found,
       record {
         mounts = ensured.mounts;
         only = ensured.only;
@@ -23,13 +23,20 @@ returns-in-Ok-clause-mounts g c =
       },
     )
 
+pub returns-in-Err-mount-clause-mounts : goal.returns-in-Err-mount-clause-mounts
+returns-in-Err-mount-clause-mounts g c =
+    let ensured = c.in-Err-mount.ensures in
+    rw c.requires.unmounted (
+      c.in-Err-mount.fault,
+      search rules,
+      not_mounted g.D.SectorDevice.state c.args.device c.in-Ok.found c.in-Err-mount.refused c.in-Ok.ensures.found
+          c.into_inner.ensures.device ensured.reason ensured.untouched ensured.carries ensured.any_moment,
+    )
+
 pub returns-in-Err-clause-mounts : goal.returns-in-Err-clause-mounts
 returns-in-Err-clause-mounts g c =
-    let ensured = c.in-Err.ensures in
     rw c.requires.unmounted (
       c.in-Err.fault,
       search rules,
-      not_mounted g.D.SectorDevice.state c.new.result c.in-Err.device
-          (record { device = c.new.ensures.device; held = c.new.ensures.held }) c.into_inner.ensures ensured.reason
-          ensured.untouched ensured.carries ensured.any_moment,
+      not_found g.D.SectorDevice.state c.args.device c.in-Err.device c.in-Err.ensures.refused,
     )

@@ -10,22 +10,22 @@ pub const LOST: &[u8] = b"/lost+found";
 /// Paths below the folder that is made, by the numbers of the objects that stand there. The root's
 /// is empty, and so is that of an object that stands nowhere.
 #[derive(Drop)]
-pub struct Places {
+pub struct HostPaths {
     paths: Vec<Vec<u8>>,
 }
 
-impl Places {
+impl HostPaths {
     /// Nothing stands anywhere.
     ///
     /// # Errors
     ///
     /// Where memory runs out.
-    pub fn new(alloc: Global) -> Result<Places, AllocError> {
+    pub fn new(alloc: Global) -> Result<HostPaths, AllocError> {
         let mut paths = Vec::new(alloc);
         for _ in 0..FILE_NUMBERS {
             paths.push(Vec::new(alloc))?;
         }
-        Ok(Places { paths })
+        Ok(HostPaths { paths })
     }
 
     /// The path of an object.

@@ -1,0 +1,4 @@
+pub mod Copying
+pub mod Fitting
+pub mod Looking
+pub mod Paths
