@@ -11,6 +11,8 @@ import struct
 from typing import NamedTuple
 
 SECTOR, SEGMENT, FIRST = 512, 64, 2
+# By the new places: the device's sectors of the second slot and of the first segment.
+SECOND_SLOT, NEW_FIRST = 128, 256
 LEAST_SEGMENTS, MOST_SEGMENTS, SEGMENTS_STEP = 64, 1_024, 8
 MAGIC = b"SLFSCKP1"
 # The forms of a directory in each version; the one whose checkpoints have a checksum, what stands there behind the unit, and the largest unit.
@@ -210,14 +212,20 @@ def name_of(slot):
     return None if 0 in name or b"/" in name or name in (b".", b"..") else (number, name)
 
 
+def place_of(address):
+    """The device's sector at which a sector of a volume stands by the new places."""
+    return SECOND_SLOT * address if address < FIRST else NEW_FIRST - FIRST + address
+
+
 class Walk:
     """The stages over one image, in their order. Each is a function whose number the table of FORMAT.md has."""
 
     def __init__(self, image):
         self.image = image
+        self.is_apart = False
         self.checkpoint = self.newest()
         self.first_behind = FIRST + SEGMENT * self.checkpoint.segments
-        if len(image) // SECTOR < self.first_behind:
+        if len(image) // SECTOR < (place_of(self.first_behind) if self.is_apart else self.first_behind):
             raise Refused("TooSmall")
         self.code, self.reached, self.usage, self.labels = 0, {}, [], {}
         self.map, self.inodes, self.blocks, self.bytes_of, self.names = {}, {}, {}, {}, {}
@@ -225,16 +233,32 @@ class Walk:
         self.singles, self.doubles, self.leaves = {}, {}, {}
 
     def sector(self, address):
-        return bytes(self.image[SECTOR * address : SECTOR * (address + 1)])
+        at = place_of(address) if self.is_apart else address
+        return bytes(self.image[SECTOR * at : SECTOR * (at + 1)])
+
+    def is_older(self, slot, address):
+        """Whether a sector holds a slot's checkpoint of a version before the last."""
+        held = checkpoint_of(slot, self.sector(address))
+        return held is not None and held.version < SUMMED_VERSION
+
+    def is_at_new_places(self):
+        """Whether a volume may stand by the new places alone, where one of version 3 does. Old ones stand by the old places."""
+        if any(self.is_older(slot, slot) for slot in (0, 1)):
+            return False
+        if len(self.image) // SECTOR < place_of(FIRST + SEGMENT * LEAST_SEGMENTS) or self.is_older(1, SECOND_SLOT):
+            raise Refused("NoCheckpoint")
+        return True
 
     def newest(self):
         if len(self.image) // SECTOR < FIRST + SEGMENT * LEAST_SEGMENTS:
             raise Refused("TooSmall")
+        self.is_apart = self.is_at_new_places()
         found = [it for it in (checkpoint_of(slot, self.sector(slot)) for slot in (0, 1)) if it]
+        # Each place has checkpoints of its own versions alone.
+        found = [it for it in found if (it.version == SUMMED_VERSION) == self.is_apart]
         if not found:
             raise Refused("NoCheckpoint")
-        # A checkpoint of an older version counts before one of the last.
-        return max(found, key=lambda it: (it.version < SUMMED_VERSION, it.number))
+        return max(found, key=lambda it: it.number)
 
     def ask(self, holds):
         if not holds:

@@ -28,6 +28,8 @@ SLOTS = (64, 128)
 BLOCK = 512
 DIRECT, SINGLE, LEAF = 112, 240, 128
 ROOT = 1
+# The last version of the layout.
+LAST = 3
 LIMIT, BASE, META = 47, 720, 7
 
 
@@ -581,8 +583,8 @@ def answers_as_wanted(path):
     lines, wanted = texts_of(path)
     if wanted and wanted[-1].startswith("bad "):
         return None
-    segments = re.search(r"\.(\d+)(\.v2)?$", path)
-    state, found = new(int(segments[1]) if segments else 64, 2 if path.endswith(".v2") else 1), []
+    segments, version = re.search(r"(?:\.(\d+))?(?:\.v([23]))?$", path).groups()
+    state, found = new(int(segments or 64), int(version or 1)), []
     for line in lines:
         reply, state = step(state, line)
         found += reply

@@ -1,9 +1,11 @@
 """Changed images, and what `check`, `mount` and `run` say of them."""
 import random
+import struct
 from collections.abc import Iterator
 from typing import NamedTuple
 
 import format_checker
+import new_volume
 from fuzzing.corpus import Corpus
 from fuzzing.lines import replies
 from fuzzing.volumes import KINDS, SEGMENTS, Patched, Volumes, checked, expect, state_of
@@ -11,6 +13,8 @@ from served import SECTOR, Ran
 
 # One in so many of the images whose reply is an `ok` that was there before is tried.
 OK_TRIED = 8
+# A checkpoint that has a checksum, and was changed, mostly gets one that is right.
+SUMMED = 0.8
 # A script on a changed image. From this number of a checkpoint on nothing can be changed.
 CHANGES, LOOKS = [b"create /fuzz", b"pwrite 0 0 66757a7a"], [b"sync", b"tree", b"space"]
 WORN = 2**62
@@ -30,6 +34,11 @@ def put(made: bytearray, at: int, part: bytes) -> None:
     """Puts a part at the place of its length that holds a byte."""
     start = at - at % len(part)
     made[start : start + len(part)] = part
+
+
+def is_summed(content: bytes) -> bool:
+    """Whether a sector has the text and the version of a checkpoint that has a checksum."""
+    return content.startswith(format_checker.MAGIC) and content[20:24] == struct.pack("<I", format_checker.SUMMED_VERSION)
 
 
 class Images:
@@ -53,14 +62,17 @@ class Images:
         for _ in range(self.chance.choice((1, 1, 1, 1, 2, 3))):
             sector = self.sector(tried)
             content = changes.get(sector, self.volumes.sector(tried.base, sector))
-            changes[sector] = self.changed(tried, content)
+            made = self.changed(tried, content)
+            if is_summed(made) and self.chance.random() < SUMMED:
+                made = made[:508] + struct.pack("<I", format_checker.crc32c(made[:508]))
+            changes[sector] = made
         return Image(tried.base, changes)
 
     def sector(self, tried: Image) -> int:
         """Mostly one that is read."""
         if tried.reads and self.chance.random() < 0.97:
             return self.chance.choice(tried.reads)
-        return self.chance.randrange(2 + 64 * SEGMENTS)
+        return self.chance.randrange(len(self.volumes.base(tried.base).image) // SECTOR)
 
     def place(self, content: bytes) -> int:
         """A byte: any, one near the front, or one beside what isn't zero."""
@@ -94,9 +106,10 @@ class Images:
         return bytes(made)
 
     def address(self, tried: Image) -> int:
-        """A sector that is read or one beside it, or another number."""
+        """The address of a sector that is read or of one beside it, or another number."""
         if tried.reads and self.chance.random() < 0.6:
-            return max(0, self.chance.choice(tried.reads) + self.chance.choice((0, 0, 1, -1)))
+            before = new_volume.sectors_of(0, KINDS[tried.base].version) - format_checker.FIRST
+            return max(0, self.chance.choice(tried.reads) - before + self.chance.choice((0, 0, 1, -1)))
         return self.chance.choice(LONG)
 
     def reply(self, tried: Image, word: str = "check", script: bytes = b"") -> Ran:

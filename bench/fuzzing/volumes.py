@@ -7,6 +7,7 @@ from typing import NamedTuple
 
 import format_checker
 import model
+import new_volume
 from fuzzing.lines import replies
 from served import SECTOR, Served, Stop
 
@@ -72,6 +73,8 @@ class Kind(NamedTuple):
     # How often scripts take it, and whether it is changed as an image.
     weight: int
     of_images: bool = True
+    # How many sectors a unit of it has.
+    unit: int = 1
 
 
 KINDS = [
@@ -85,6 +88,10 @@ KINDS = [
     Kind("full", 1, FULL, 2, False),
     Kind("gone", 1, GONE, 1),
     Kind("wide", 2, WIDE, 1, False),
+    Kind("new of version 3", 3, "", 2),
+    Kind("small of version 3", 3, SMALL, 4, unit=8),
+    Kind("leaves of version 3", 3, LEAVES, 2, unit=8),
+    Kind("gone of version 3", 3, GONE, 1, unit=64),
 ]
 
 
@@ -124,8 +131,8 @@ def expect(what: str, wanted: str, found: str) -> None:
 
 def make_base(program: str, folder: str, kind: Kind) -> Base:
     image, state = f"{folder}/base", model.new(SEGMENTS, kind.version)
-    words = [program, "mkfs", image, "--segments", str(SEGMENTS), "--format", str(kind.version)]
-    subprocess.run(words, stdout=subprocess.DEVNULL, check=True)
+    with open(image, "wb") as file:
+        file.write(new_volume.image_of(SEGMENTS, kind.version, kind.unit))
     ran = subprocess.run([program, "run", image], input=kind.script.encode(), capture_output=True, check=True)
     wanted = ""
     for reply, state in replies(state, kind.script.encode().splitlines()):

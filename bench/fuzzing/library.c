@@ -1,0 +1,244 @@
+/* What LLVM's libFuzzer calls: the program `lfs` over an image in memory, some of whose bytes are others, whose calls fail and stop, and
+   which is refused memory. bench/fuzzing/library.py builds it with the program's module, whose calls of the system come here.
+
+   An input tells, byte by byte: the image it begins with; the allocation, the read, the write and the sync that fail, and within which
+   write the device stops, 0 for none, in two bytes each; what a stop leaves; how many bytes of the image are others, and for each which of
+   its live sectors it is in, where, and what it is; and then a script. An image that `check` finds well is one after each stop too, which
+   may spoil units of as many sectors as its volume's have. */
+#include <stdint.h>
+#include <stdio.h>
+#include <stdlib.h>
+#include <string.h>
+
+enum { SECTOR = 512, MOST_SECTORS = 256 + 64 * 64, MOST_BASES = 16, FILE_OF_IMAGE = 100, MOST_SAID = 1 << 22, SUMMED = 508 };
+enum { OLD, NEW, SPOILT, EACH_ITS_OWN };
+
+extern int lfs_main(void);
+
+static struct { uint32_t size, live[MOST_SECTORS], lives; uint8_t bytes[MOST_SECTORS * SECTOR]; } bases[MOST_BASES];
+static unsigned count_of_bases;
+
+static uint8_t image[MOST_SECTORS * SECTOR], synced[MOST_SECTORS * SECTOR];
+static uint8_t is_dirty[MOST_SECTORS];
+static uint32_t image_size;
+static char said[MOST_SAID];
+static size_t said_length;
+static const uint8_t *script;
+static size_t script_length;
+static const char *words[3];
+static int errno_now, is_stopped;
+/* How many calls of each kind were made, and which one fails. */
+static unsigned allocations, reads, writes, syncs, no_allocation, no_read, no_write, no_sync, stop_at;
+
+static uint32_t crc32c(const uint8_t *bytes, size_t length) {
+  uint32_t sum = UINT32_MAX;
+  for (size_t at = 0; at < length; ++at) {
+    sum ^= bytes[at];
+    for (int bit = 0; bit < 8; ++bit) sum = sum >> 1 ^ (sum & 1 ? 0x82f63b78 : 0);
+  }
+  return ~sum;
+}
+
+/* What the module calls in the place of the system. */
+
+struct memory { int64_t is_there; void *at; };
+static int refuses(void) { return ++allocations == no_allocation; }
+struct memory fuzz_alloc(size_t size, size_t align) {
+  void *at = refuses() ? NULL : malloc(size ? size : align);
+  return (struct memory){at != NULL, at ? at : image};
+}
+struct memory fuzz_realloc(void *old, size_t was, size_t size, size_t align) {
+  (void)was;
+  void *at = refuses() ? NULL : realloc(old, size ? size : align);
+  return (struct memory){at != NULL, at ? at : image};
+}
+void fuzz_dealloc(void *at) { free(at); }
+size_t fuzz_arg_count(void) { return 3; }
+int64_t fuzz_arg(size_t at, char *to, size_t room) {
+  size_t length = at < 3 ? strlen(words[at]) : 0;
+  if (at >= 3 || length > room) return at >= 3 ? -1 : -2;
+  memcpy(to, words[at], length);
+  return (int64_t)length;
+}
+int fuzz_errno(void) { return errno_now; }
+void fuzz_set_errno(int number) { errno_now = number; }
+
+static int64_t failed(void) {
+  errno_now = 5;
+  return -1;
+}
+int fuzz_open(const char *path, int flags) {
+  (void)path, (void)flags;
+  return FILE_OF_IMAGE;
+}
+/* A second descriptor of the image is the first. */
+int fuzz_fcntl(int file, int how) { return (void)how, file == FILE_OF_IMAGE ? file : 0; }
+int fuzz_close(int file) { return (void)file, 0; }
+int fuzz_flock(int file, int how) { return (void)file, (void)how, 0; }
+int fuzz_ftruncate(int file, int64_t size) { return (void)file, (void)size, 0; }
+
+int64_t fuzz_lseek(int file, int64_t at, int from) {
+  (void)file;
+  return from == 2 ? image_size + at : at;
+}
+
+int64_t fuzz_read(int file, uint8_t *to, size_t length) {
+  if (file != 0) return failed();
+  if (length > script_length) length = script_length;
+  memcpy(to, script, length);
+  script += length, script_length -= length;
+  return (int64_t)length;
+}
+
+int64_t fuzz_write(int file, const char *from, size_t length) {
+  for (size_t at = 0; file == 1 && at < length && said_length + 1 < MOST_SAID; ++at) said[said_length++] = from[at];
+  return (int64_t)length;
+}
+
+int64_t fuzz_pread(int file, uint8_t *to, size_t length, int64_t from) {
+  (void)file;
+  if (is_stopped || ++reads == no_read || from < 0) return failed();
+  if (from >= image_size) return 0;
+  if (length > image_size - (uint64_t)from) length = image_size - (size_t)from;
+  memcpy(to, image + from, length);
+  return (int64_t)length;
+}
+
+int64_t fuzz_pwrite(int file, const uint8_t *bytes, size_t length, int64_t from) {
+  (void)file;
+  if (from < 0 || (uint64_t)from + length > image_size || from % SECTOR || length % SECTOR) abort();
+  for (size_t at = 0; at < length; at += SECTOR) {
+    size_t sector = ((size_t)from + at) / SECTOR;
+    if (is_stopped || ++writes == no_write) return at ? (int64_t)at : failed();
+    is_stopped = writes == stop_at;
+    memcpy(image + sector * SECTOR, bytes + at, SECTOR);
+    is_dirty[sector] = 1;
+    if (is_stopped) return at ? (int64_t)at : failed();
+  }
+  return (int64_t)length;
+}
+
+int fuzz_fsync(int file) {
+  (void)file;
+  if (is_stopped || ++syncs == no_sync) return (int)failed();
+  for (size_t at = 0; at < MOST_SECTORS; ++at) {
+    if (is_dirty[at]) memcpy(synced + at * SECTOR, image + at * SECTOR, SECTOR);
+    is_dirty[at] = 0;
+  }
+  return 0;
+}
+
+int fuzz_fdatasync(int file) { return fuzz_fsync(file); }
+
+/* A regular file of mode 644, as the kernel lays out a `statx`. */
+int fuzz_statx(int folder, const char *path, int flags, unsigned mask, uint8_t *to) {
+  (void)folder, (void)path, (void)flags, (void)mask;
+  memset(to, 0, 256);
+  uint32_t all = 0x7ff, links = 1;
+  uint16_t mode = 0100644;
+  uint64_t size = image_size;
+  memcpy(to, &all, 4), memcpy(to + 16, &links, 4), memcpy(to + 28, &mode, 2), memcpy(to + 40, &size, 8);
+  return 0;
+}
+
+/* The runs. */
+
+static int run(const char *command, const uint8_t *text, size_t length) {
+  words[0] = "lfs", words[1] = command, words[2] = "/image";
+  script = text, script_length = length, said_length = 0, errno_now = 0;
+  int status = lfs_main();
+  said[said_length] = 0;
+  if (status < 0 || status > 3) abort();
+  return status;
+}
+
+/* How many sectors a stop may spoil at once: those of the least unit that a slot tells. */
+static size_t unit_of_image(void) {
+  const size_t slots[] = {0, 1, 128};
+  size_t unit = 64;
+  for (int at = 0; at < 3; ++at) {
+    const uint8_t *slot = image + SECTOR * slots[at];
+    size_t own = slot[24] <= 6 ? (size_t)1 << slot[24] : 1;
+    if (memcmp(slot, "SLFSCKP1", 8) == 0 && own < unit) unit = own;
+  }
+  return unit;
+}
+
+/* Stops the device. Of each unit the sectors that aren't synced are old or new, or all of it has other bytes. */
+static void crash(unsigned how, size_t unit) {
+  for (size_t first = 0; first < MOST_SECTORS; first += unit) {
+    unsigned left = how == EACH_ITS_OWN ? first / unit % EACH_ITS_OWN : how, is_spoilt = 0;
+    for (size_t at = first; at < first + unit; ++at) {
+      if (is_dirty[at] && left == OLD) memcpy(image + at * SECTOR, synced + at * SECTOR, SECTOR);
+      is_spoilt |= is_dirty[at] && left == SPOILT;
+      is_dirty[at] = 0;
+    }
+    for (size_t at = first * SECTOR; is_spoilt && at < (first + unit) * SECTOR; ++at) image[at] ^= 0xff;
+  }
+  is_stopped = 0;
+}
+
+static unsigned number(const uint8_t **from, size_t *left, size_t bytes) {
+  unsigned found = 0;
+  for (size_t at = 0; at < bytes && *left; ++at, ++*from, --*left) found |= (unsigned)**from << 8 * at;
+  return found;
+}
+
+static void begin(unsigned base) {
+  image_size = bases[base].size;
+  memcpy(image, bases[base].bytes, image_size);
+  memset(is_dirty, 0, sizeof is_dirty);
+  allocations = reads = writes = syncs = no_allocation = no_read = no_write = no_sync = stop_at = 0, is_stopped = 0;
+}
+
+/* Changes bytes of live sectors. The first bit of the count says whether a checkpoint gets its checksum. */
+static void patch(unsigned base, const uint8_t **from, size_t *left) {
+  unsigned count = number(from, left, 1);
+  for (unsigned at = 0; at < count / 2 % 8; ++at) {
+    uint8_t *sector = image + SECTOR * bases[base].live[number(from, left, 1) % bases[base].lives];
+    sector[number(from, left, 2) % SECTOR] = (uint8_t)number(from, left, 1);
+    uint32_t sum = crc32c(sector, SUMMED);
+    if (count % 2 && memcmp(sector, "SLFSCKP1", 8) == 0 && sector[20] == 3) memcpy(sector + SUMMED, &sum, 4);
+  }
+}
+
+static void keep_image(const char *path, int status) {
+  FILE *file = fopen(path, "ab");
+  if (!file || fwrite(&status, sizeof status, 1, file) != 1 || fwrite(&image_size, 4, 1, file) != 1) abort();
+  if (fwrite(image, 1, image_size, file) != image_size || fprintf(file, "%.80s\n", said) < 0 || fclose(file)) abort();
+}
+
+int LLVMFuzzerTestOneInput(const uint8_t *from, size_t left) {
+  unsigned base = number(&from, &left, 1) % count_of_bases;
+  begin(base);
+  unsigned fails[5];
+  for (int at = 0; at < 5; ++at) fails[at] = number(&from, &left, 2);
+  unsigned how = number(&from, &left, 1) % 4;
+  patch(base, &from, &left);
+  memcpy(synced, image, image_size);
+  int is_well = run("check", NULL, 0) == 0;
+  size_t unit = unit_of_image();
+  if (getenv("CHECKED")) keep_image(getenv("CHECKED"), is_well);
+  allocations = reads = writes = syncs = 0;
+  no_allocation = fails[0], no_read = fails[1], no_write = fails[2], no_sync = fails[3], stop_at = fails[4];
+  run("run", from, left);
+  crash(how, unit);
+  no_allocation = no_read = no_write = no_sync = stop_at = 0;
+  if (run("check", NULL, 0) != 0 && is_well) abort();
+  return 0;
+}
+
+int LLVMFuzzerInitialize(int *count, char ***given) {
+  (void)count, (void)given;
+  FILE *file = fopen(getenv("BASES"), "rb");
+  uint32_t size;
+  while (file && count_of_bases < MOST_BASES && fread(&size, 4, 1, file) == 1) {
+    if (size > sizeof image || fread(bases[count_of_bases].bytes, 1, size, file) != size) abort();
+    for (uint32_t at = 0; at < size / SECTOR; ++at) {
+      const uint8_t *sector = bases[count_of_bases].bytes + at * SECTOR;
+      if (sector[0] || memcmp(sector, sector + 1, SECTOR - 1)) bases[count_of_bases].live[bases[count_of_bases].lives++] = at;
+    }
+    bases[count_of_bases++].size = size;
+  }
+  return !file || !count_of_bases;
+}
