@@ -87,7 +87,7 @@ module _ {D : Type 0} (state : D → DeviceState) where
   pub keeps_saves : {h h' : LogState D} → Saves state h h' → h'.totals ≡ h.totals → KeepsMap state h h' 1
   keeps_saves s totals = keeps_all (saves_all s) s.carries s.running s.number s.segments totals s.moment
 
-  keeps_cleans : {h h' : LogState D} {vs : List ℕ} → Cleans state h h' vs → h'.totals ≡ h.totals → KeepsMap state h h' 1
+  pub keeps_cleans : {h h' : LogState D} {vs : List ℕ} → Cleans state h h' vs → h'.totals ≡ h.totals → KeepsMap state h h' 1
   keeps_cleans s totals = keeps_all (cleans_all s) s.carries s.running s.number s.segments totals s.moment
 
   pub keeps_weaker : {a b : LogState D} {x y : ℕ} → KeepsMap state a b x → x ≤ y → KeepsMap state a b y

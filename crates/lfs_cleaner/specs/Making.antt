@@ -8,10 +8,10 @@ use Rattle.lfs_model.specs.Stands.{LogMap}
 use Rattle.lfs_model.specs.Totals.{IsCounted}
 use Rattle.lfs_model.specs.TreeOf.{dropped}
 pub use Rattle.lfs_log.specs.LogState.{IsAtRest}
-use Rattle.lfs_log.specs.LogState.{LogState, Holds, IsSaved, LeavesSaved, AreAllSaved, Saves, commits_due}
+use Rattle.lfs_log.specs.LogState.{LogState, Holds, IsFull, IsSaved, LeavesSaved, AreAllSaved, Saves, commits_due}
 use Rattle.lfs_log.specs.Saving.{commit_orders, pass_orders}
-use Rattle.lfs_log.specs.Thresholds.{HasReserve, IsQuarterClean}
-use Rattle.lfs_cleaner.specs.Passing.{Passes}
+use Rattle.lfs_log.specs.Thresholds.{AreThreeSixteenthsClean, HasReserve, IsQuarterClean, LacksReserve}
+use Rattle.lfs_cleaner.specs.Passing.{Passes, TriesPass}
 
 -- the need of the files, by the totals of the log, is within the volume
 abbrev pub IsWithin : {D : Type 0} → LogState D → Type 0
@@ -21,6 +21,18 @@ IsWithin h =
 -- a quarter of the segments is clean
 abbrev pub HasQuarter : {D : Type 0} → LogState D → Type 0
 HasQuarter h = IsQuarterClean h.segments h.clean
+
+-- three sixteenths of the segments are
+abbrev pub HasThreeSixteenths : {D : Type 0} → LogState D → Type 0
+HasThreeSixteenths h = AreThreeSixteenthsClean h.segments h.clean
+
+-- a change cleans nothing before it where these are, where too few segments are clean for a commit, or where none can be made
+abbrev pub IsUncalled : {D : Type 0} → LogState D → Type 0
+IsUncalled h = HasThreeSixteenths h ⊎ (LacksReserve h.segments h.clean ⊎ ((h.saved ≡ false) × IsFull h))
+
+-- all is saved, and enough segments are clean for a commit
+abbrev pub IsSavedAmply : {D : Type 0} → LogState D → Type 0
+IsSavedAmply h = (h.saved ≡ true) × HasReserve h.segments h.clean
 
 -- how many orders passes give the device at most, where there are so many segments: they are an eighth of these
 abbrev pub passes_orders : ℕ → ℕ
@@ -216,3 +228,26 @@ module _ {D : Type 0} (state : D → DeviceState) where
     pub nothing : AreAllSaved h'
     pub room : (k : CheckpointValue) (m0 m : LogMap) → (state h'.device).keeps_model
         → MayMakeClean h k m0 m → (next : CheckpointValue) × (m1 : LogMap) × MayMakeClean h' next m1 m
+
+  -- ---- before a change
+  -- What is unsaved is committed, and one pass that wants a segment is tried, where enough are clean for a commit still.
+  pub record TriesBehind (h h' : LogState D) : Type 0 where
+    pub between : LogState D
+    pub commits : CommitsUnsaved h between
+    pub tries : (HasReserve between.segments between.clean × TriesPass state between h')
+        ⊎ (LacksReserve between.segments between.clean × (h' ≡ between))
+
+  -- So a change cleans before it: it makes one pass at most.
+  abbrev pub CleansBefore : LogState D → LogState D → Type 0
+  CleansBefore h h' = TriesBehind h h' ⊎ (IsUncalled h × (h' ≡ h))
+
+  -- The commit alone, which left too few segments clean for a further one.
+  pub record SavesOnly (h h' : LogState D) : Type 0 where
+    pub readied : IsReadied h h'
+    pub lacks : LacksReserve h'.segments h'.clean
+    pub clean : h.clean ≤ h'.clean + 8
+    pub told : length (state h'.device).told ≤ length (state h.device).told + commit_orders
+
+  -- how a change finds the log then
+  abbrev pub LeavesReady : LogState D → LogState D → Type 0
+  LeavesReady h h' = (h' ≡ h) ⊎ (SavesOnly h h' ⊎ IsSavedAmply h')

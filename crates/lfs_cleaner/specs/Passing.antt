@@ -1,26 +1,30 @@
 -- A pass of the cleaner, and where one may be made.
-use Rattle.std.specs.Prelude.{◌≡◌, ◌<◌, ◌≤◌, ◌+◌, ◌-◌, ◌*◌, ◌^◌, ℕ, List}
+use Rattle.std.specs.Prelude.{◌≡◌, ◌⊎◌, ◌<◌, ◌≤◌, ◌+◌, ◌-◌, ◌*◌, ◌^◌, ℕ, List}
 use Rattle.lfs_model.specs.Checkpoint.{CheckpointValue}
 use Rattle.lfs_model.specs.declared.limits.TheConstants.{LEAST_NEED, NEED_OF_META, NEED_OF_SEGMENT}
 use Rattle.lfs_model.specs.Device.{DeviceState}
 use Rattle.lfs_model.specs.Encodes.{IsLogMap}
 use Rattle.lfs_model.specs.Stands.{LogMap}
 use Rattle.lfs_model.specs.Totals.{data_in, meta_in}
-use Rattle.lfs_log.specs.segments.Victims.{AreVictims, IsChosen, pass_limit}
+use Rattle.lfs_log.specs.segments.Victims.{AreVictims, IsChosen, pass_limit, wanted_gain}
 use Rattle.lfs_log.specs.Cleaning.{Cleans}
 use Rattle.lfs_log.specs.Thresholds.{IsEighthClean}
 use Rattle.lfs_log.specs.LogState.{LogState, Holds, IsReadFault, Reads, AreAllSaved}
 use Rattle.lfs_log.specs.segments.Early.{AreUntaken}
 
 module _ {D : Type 0} (state : D → DeviceState) where
-  -- A pass over victims that were chosen: an eighth of the segments and one at most, by which a
-  -- segment is gained at least. They are clean then.
-  pub record Passes (h h' : LogState D) : Type 0 where
+  -- A pass over victims that were chosen, where so many segments are wanted: an eighth of the
+  -- segments and one at most, by which a segment is gained at least. They are clean then.
+  pub record PassesFor (wanted : ℕ) (h h' : LogState D) : Type 0 where
     pub victims : List ℕ
     pub gain : AreVictims h.usage h.totals.meta_blocks (pass_limit h.usage) victims
     pub choice : IsChosen h.usage h.totals.meta_blocks (pass_limit h.usage)
-        h.number victims
+        wanted h.number victims
     pub cleans : Cleans state h h' victims
+
+  -- as many are wanted as are missing to a quarter, and four at least
+  abbrev pub Passes : LogState D → LogState D → Type 0
+  Passes h h' = PassesFor (wanted_gain h.usage) h h'
 
   -- The log holds a log map for which a pass may be made. All is saved. An eighth of the segments
   -- is clean at least, but fewer than a quarter. The blocks of the files are within the volume. No
@@ -50,3 +54,7 @@ module _ {D : Type 0} (state : D → DeviceState) where
   pub record FailsPass (h h' : LogState D) : Type 0 where
     pub reads : Reads state h h'
     pub fault : IsReadFault state h h'
+
+  -- one that wants a segment, or why it isn't made
+  abbrev pub TriesPass : LogState D → LogState D → Type 0
+  TriesPass h h' = PassesFor 1 h h' ⊎ (RefusesPass h h' ⊎ FailsPass h h')

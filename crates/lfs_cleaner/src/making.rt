@@ -3,12 +3,12 @@
 ghost use Rattle.std.specs.Prelude.{◌≡◌, ◌≢◌, ◌<◌, ◌≤◌, ◌+◌, ◌*◌, ◌/◌, true, false, length, OnOk, OnErr, IsErrOf, IsTrue, IsFalse};
 ghost use Rattle.lfs_log.specs.memory.segments.Table.{clean_in};
 ghost use Rattle.lfs_log.specs.LogState.{AreAllSaved, Halts, IsFull};
-ghost use Rattle.lfs_cleaner.specs.Making.{CleansQuarter, FailsPasses, FailsClean, HaltsLater, HasQuarter, IsReadied, LacksPasses, LacksClean, Repeats, most_checkpoints, passes_orders, clean_orders};
+ghost use Rattle.lfs_cleaner.specs.Making.{CleansQuarter, FailsPasses, FailsClean, HaltsLater, HasQuarter, HasThreeSixteenths, IsReadied, LacksPasses, LacksClean, Repeats, most_checkpoints, passes_orders, clean_orders};
 ghost use Rattle.lfs_log.specs.Saving.{commit_orders};
 
 use crate::passing::pass;
 use lfs_device::SectorDevice;
-use lfs_log::thresholds::{is_quarter_clean, most_passes};
+use lfs_log::thresholds::{are_three_sixteenths_clean, is_quarter_clean, most_passes};
 use lfs_log::{Log, LogFault};
 
 /// Whether a quarter of the segments is clean.
@@ -18,6 +18,15 @@ pub fn has_quarter<D: SectorDevice>(log: &Log<D>) -> bool
         < log.now.segments }
 {
     is_quarter_clean(log.segments(), log.clean_segments())
+}
+
+/// Whether three sixteenths of the segments are clean.
+pub(crate) fn has_three_sixteenths<D: SectorDevice>(log: &Log<D>) -> bool
+    ensures yes { IsTrue result → HasThreeSixteenths log.now }
+    ensures no { IsFalse result → 16 * log.now.clean
+        < 3 * log.now.segments }
+{
+    are_three_sixteenths_clean(log.segments(), log.clean_segments())
 }
 
 /// Passes until a quarter of the segments is clean, an eighth of them times at most, for each pass

@@ -3,7 +3,7 @@ ghost use Rattle.std.specs.Prelude.{◌≤◌};
 use crate::helpers::{Row, all_well};
 use crate::segments::change;
 use lfs_layout::SegmentUsage;
-use lfs_memory::segments::victims::victims;
+use lfs_memory::segments::victims::{victims, wanted};
 use lfs_memory::segments::{Usage, before};
 
 /// Numbers from one up to another, without that.
@@ -27,6 +27,8 @@ enum Step<'a> {
     Takes(u32, u32, &'a [Run]),
     /// The same, where the acknowledged checkpoint has this number.
     TakesAt(u64, u32, u32, &'a [Run]),
+    /// The same, where so many segments are wanted.
+    TakesFor(u32, u32, u32, &'a [Run]),
     /// With so many there are none.
     TakesNone(u32, u32),
     /// Whether a segment of so many blocks, written for the checkpoint of this number, is better to
@@ -81,10 +83,11 @@ fn age_segment(usage: &mut Usage, segment: u32, live: u16, age: u32) -> bool {
 }
 
 /// Whether these are the victims.
-fn takes(usage: &Usage, meta: u32, most: u32, now: u64, runs: &[Run]) -> bool
-    requires { most ≤ 129 }
+fn takes(usage: &Usage, meta: u32, most: u32, want: u32, now: u64, runs: &[Run]) -> bool
+    requires most { most ≤ 129 }
+    requires least { 1 ≤ want }
 {
-    match victims(usage, meta, most, now) {
+    match victims(usage, meta, most, want, now) {
         Some(list) => are(list.as_slice(), runs),
         None => false,
     }
@@ -133,12 +136,19 @@ impl Row<Usage> for Step<'_> {
                 true
             }
             Step::Begins(segment) => usage.take_clean(1) == Some(segment),
-            Step::Takes(meta, most, runs) if most <= 129 => takes(usage, meta, most, NOW, runs),
+            Step::Takes(meta, most, runs) if most <= 129 => {
+                let want = wanted(usage);
+                takes(usage, meta, most, want, NOW, runs)
+            }
             Step::TakesAt(now, meta, most, runs) if most <= 129 => {
-                takes(usage, meta, most, now, runs)
+                let want = wanted(usage);
+                takes(usage, meta, most, want, now, runs)
+            }
+            Step::TakesFor(want, meta, most, runs) if most <= 129 && want >= 1 => {
+                takes(usage, meta, most, want, NOW, runs)
             }
             Step::TakesNone(meta, most) if most <= 129 => {
-                victims(usage, meta, most, NOW).is_none()
+                victims(usage, meta, most, 1, NOW).is_none()
             }
             Step::Before(a, b, now, want) if a.0 <= 63 && b.0 <= 63 => before(a, b, now) == want,
             _ => false,
@@ -256,6 +266,12 @@ fn as_many_as_are_missing_to_a_quarter(rt: HostRuntime) {
         Step::Fill((0, 54), 10, 0),
         Step::Takes(0, 8, &[(0, 7)]),
         Step::Takes(0, 9, &[(0, 9)]),
+        // Where one is wanted three gain it: 10 * 3 + 48 is 78, and fills two. Where two are, four
+        // do: 88 fills two.
+        Step::TakesFor(1, 0, 9, &[(0, 3)]),
+        Step::TakesFor(2, 0, 9, &[(0, 4)]),
+        // More than can be gained: nine gain most.
+        Step::TakesFor(60, 0, 9, &[(0, 9)]),
     ];
     all_well(&rt, Usage::new(rt.alloc(), 64, 0), &rows);
 }

@@ -19,6 +19,10 @@ IsEighthClean segments clean = segments ≤ 8 * clean
 abbrev pub IsQuarterClean : ℕ → ℕ → Type 0
 IsQuarterClean segments clean = segments ≤ 4 * clean
 
+-- three sixteenths are clean: a change makes no pass before it
+abbrev pub AreThreeSixteenthsClean : ℕ → ℕ → Type 0
+AreThreeSixteenthsClean segments clean = 3 * segments ≤ 16 * clean
+
 -- so many segments a pass empties at most
 abbrev pub most_victims : ℕ → ℕ
 most_victims segments = segments / 8 + 1

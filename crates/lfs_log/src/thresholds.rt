@@ -1,7 +1,7 @@
 //! How many segments are to be clean before each kind of work, and how many a pass takes: no other
 //! module says how few are too few.
 ghost use Rattle.std.specs.Prelude.{◌≡◌, ◌<◌, ◌≤◌, ◌*◌, IsTrue, IsFalse};
-ghost use Rattle.lfs_log.specs.Thresholds.{HasReserve, IsEighthClean, IsQuarterClean, LacksReserve, most_passes, most_victims, reserve_of};
+ghost use Rattle.lfs_log.specs.Thresholds.{AreThreeSixteenthsClean, HasReserve, IsEighthClean, IsQuarterClean, LacksReserve, most_passes, most_victims, reserve_of};
 
 /// So many segments are to be clean before a commit: eight, which it takes at most, and an eighth of
 /// all, which stays clean after it.
@@ -41,6 +41,14 @@ pub fn is_quarter_clean(segments: u32, clean: u32) -> bool
     ensures no { IsFalse result → 4 * clean < segments }
 {
     u64::from(segments) <= 4 * u64::from(clean)
+}
+
+/// Whether three sixteenths of the segments are clean, so that a change makes no pass before it.
+pub fn are_three_sixteenths_clean(segments: u32, clean: u32) -> bool
+    ensures yes { IsTrue result → AreThreeSixteenthsClean segments clean }
+    ensures no { IsFalse result → 16 * clean < 3 * segments }
+{
+    3 * u64::from(segments) <= 16 * u64::from(clean)
 }
 
 /// How many segments a pass empties at most: an eighth of all, and one.

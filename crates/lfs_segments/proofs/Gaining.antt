@@ -9,7 +9,7 @@ use Rattle.lfs_model.specs.Members.{IsIn, AreApart}
 use Rattle.lfs_segments.specs.declared.candidate.Preference.{Preference}
 use Rattle.lfs_segments.specs.Choosing.{Exhausts, Precedes}
 use Rattle.lfs_segments.specs.Table.{UsageTable, FitsTable}
-use Rattle.lfs_segments.specs.Victims.{load_of, gain_of, wanted_gain, MayBeVictim, AreFirst, AreVictims, IsChoice}
+use Rattle.lfs_segments.specs.Victims.{load_of, gain_of, MayBeVictim, AreFirst, AreVictims, IsChoice}
 use Rattle.lfs_segments.proofs.LeastSums.{all_in, fewer}
 use Rattle.lfs_segments.proofs.Choosing.{length_pushed}
 use Rattle.lfs_segments.proofs.Firsts.{same_beginning, taken_apart, taken_each, taken_first}
@@ -29,16 +29,16 @@ some_then None P never is = absurd (never is)
 some_then (Some x) P never is = refl
 
 -- ---- the beginnings of a list
-pub record Tried (t : UsageTable) (meta : ℕ) (xs : List ℕ) (best count : ℕ) : Type 0 where
+pub record Tried (t : UsageTable) (meta wanted : ℕ) (xs : List ℕ) (best count : ℕ) : Type 0 where
   pub inside : count ≤ length xs
   pub gains : gain_of t meta (take count xs) ≡ best
   pub all : (k : ℕ) → k ≤ length xs → gain_of t meta (take k xs) ≤ best
   pub fewer : (k : ℕ) → k < count → gain_of t meta (take k xs) < best
   pub none : best ≡ 0 → count ≡ 0
-  pub low : best < wanted_gain t
+  pub low : best < wanted
 
 -- those of a list with one more: those of the list, and itself
-module _ (t : UsageTable) {meta : ℕ} (xs : List ℕ) (x : ℕ) {best count : ℕ} (was : Tried t meta xs best count) where
+module _ (t : UsageTable) {meta wanted : ℕ} (xs : List ℕ) (x : ℕ) {best count : ℕ} (was : Tried t meta wanted xs best count) where
   same_gain : (k : ℕ) → k ≤ length xs → gain_of t meta (take k (xs ++ x ∷ [])) ≡ gain_of t meta (take k xs)
   same_gain k le = ap (gain_of t meta) (take-append-le k xs (x ∷ []) le)
 
@@ -49,8 +49,8 @@ module _ (t : UsageTable) {meta : ℕ} (xs : List ℕ) (x : ℕ) {best count : �
       → gain_of t meta (take k (xs ++ x ∷ [])) ≤ most
   all_pushed_gain most old new k = grind (arith, whole_gain k, same_gain k, was.all k)
 
-  pub tried_more : best < gain_of t meta (xs ++ x ∷ []) → gain_of t meta (xs ++ x ∷ []) < wanted_gain t
-      → Tried t meta (xs ++ x ∷ []) (gain_of t meta (xs ++ x ∷ [])) (length xs + 1)
+  pub tried_more : best < gain_of t meta (xs ++ x ∷ []) → gain_of t meta (xs ++ x ∷ []) < wanted
+      → Tried t meta wanted (xs ++ x ∷ []) (gain_of t meta (xs ++ x ∷ [])) (length xs + 1)
   tried_more more small = record {
     inside = omega (arith, length_pushed xs x);
     gains = whole_gain (length xs + 1) (omega arith);
@@ -60,7 +60,7 @@ module _ (t : UsageTable) {meta : ℕ} (xs : List ℕ) (x : ℕ) {best count : �
     low = small;
   }
 
-  pub tried_still : gain_of t meta (xs ++ x ∷ []) ≤ best → Tried t meta (xs ++ x ∷ []) best count
+  pub tried_still : gain_of t meta (xs ++ x ∷ []) ≤ best → Tried t meta wanted (xs ++ x ∷ []) best count
   tried_still less = record {
     inside = omega (arith, length_pushed xs x);
     gains = same_gain count was.inside ∙ was.gains;
@@ -72,17 +72,17 @@ module _ (t : UsageTable) {meta : ℕ} (xs : List ℕ) (x : ℕ) {best count : �
 
   -- with the numbers that a step has for them
   pub tried_next_more : {best' : ℕ} (count' : ℕ) → best' ≡ gain_of t meta (xs ++ x ∷ []) → count' ≡ length xs + 1 → best < best'
-      → best' < wanted_gain t → Tried t meta (xs ++ x ∷ []) best' count'
+      → best' < wanted → Tried t meta wanted (xs ++ x ∷ []) best' count'
   tried_next_more {best'} count' gain longer more small =
-      subst (λ n. Tried t meta (xs ++ x ∷ []) best' n) (sym longer)
-      (subst (λ n. Tried t meta (xs ++ x ∷ []) n (length xs + 1)) (sym gain)
+      subst (λ n. Tried t meta wanted (xs ++ x ∷ []) best' n) (sym longer)
+      (subst (λ n. Tried t meta wanted (xs ++ x ∷ []) n (length xs + 1)) (sym gain)
       (tried_more (omega arith) (omega arith)))
 
   pub tried_next_still : {best' count' gain : ℕ} → best' ≡ best → count' ≡ count → gain ≡ gain_of t meta (xs ++ x ∷ []) → gain ≤ best
-      → Tried t meta (xs ++ x ∷ []) best' count'
+      → Tried t meta wanted (xs ++ x ∷ []) best' count'
   tried_next_still {best'} same as_many is less =
-      subst (λ n. Tried t meta (xs ++ x ∷ []) best' n) (sym as_many)
-      (subst (λ n. Tried t meta (xs ++ x ∷ []) n count) (sym same) (tried_still (omega arith)))
+      subst (λ n. Tried t meta wanted (xs ++ x ∷ []) best' n) (sym as_many)
+      (subst (λ n. Tried t meta wanted (xs ++ x ∷ []) n count) (sym same) (tried_still (omega arith)))
 
 -- what a list with one more gains
 pub gain_pushed : (t : UsageTable) (meta : ℕ) (xs : List ℕ) (x : ℕ) {blocks load others gain : ℕ} → blocks ≡ sum_by (load_of t) xs
@@ -119,9 +119,9 @@ module _ {t : UsageTable} (meta most : ℕ) (p : Preference) {xs : List ℕ} (fi
       ended
 
   -- The one that is chosen at the end gains most.
-  pub choice_at_end : {best count : ℕ} → Tried t meta xs best count → length xs ≤ most
-      → (length xs ≡ most) ⊎ ((s : ℕ) → MayBeVictim t s → IsIn xs s) → 0 < count → IsChoice t meta most R (take count xs)
-  choice_at_end {best} {count} tried few ended some =
+  pub choice_at_end : {wanted best count : ℕ} → Tried t meta wanted xs best count → length xs ≤ most
+      → (length xs ≡ most) ⊎ ((s : ℕ) → MayBeVictim t s → IsIn xs s) → 0 < count → IsChoice t meta most wanted R (take count xs)
+  choice_at_end {wanted} {best} {count} tried few ended some =
       let inside = tried.inside in
       let long = length-take-le count xs inside in
       record {
@@ -135,16 +135,16 @@ module _ {t : UsageTable} (meta most : ℕ) (p : Preference) {xs : List ℕ} (fi
       }
 
   -- Where none gains, no first ones are victims.
-  pub exhausts : FitsTable t → {best count : ℕ} → Tried t meta xs best count → length xs ≤ most
+  pub exhausts : FitsTable t → {wanted best count : ℕ} → Tried t meta wanted xs best count → length xs ≤ most
       → (length xs ≡ most) ⊎ ((s : ℕ) → MayBeVictim t s → IsIn xs s) → count ≡ 0 → Exhausts t meta most p
   exhausts table tried few ended none = grind arith
 
 -- The first one that gains as many as are wanted is the choice.
-pub choice_at_once : (t : UsageTable) {meta : ℕ} (most : ℕ) (p : Preference) (xs : List ℕ) (x : ℕ) {best count : ℕ}
-    → Tried t meta xs best count
+pub choice_at_once : (t : UsageTable) {meta : ℕ} (most : ℕ) {wanted : ℕ} (p : Preference) (xs : List ℕ) (x : ℕ) {best count : ℕ}
+    → 0 < wanted → Tried t meta wanted xs best count
     → AreFirst t (Precedes t p) (xs ++ x ∷ []) → AllByRecursion (MayBeVictim t) (xs ++ x ∷ []) → AreApart (xs ++ x ∷ [])
-    → length xs < most → wanted_gain t ≤ gain_of t meta (xs ++ x ∷ []) → IsChoice t meta most (Precedes t p) (xs ++ x ∷ [])
-choice_at_once t {meta} most p xs x {best} tried first each apart few enough =
+    → length xs < most → wanted ≤ gain_of t meta (xs ++ x ∷ []) → IsChoice t meta most wanted (Precedes t p) (xs ++ x ∷ [])
+choice_at_once t {meta} most {wanted} p xs x {best} some tried first each apart few enough =
     let long = length_pushed xs x in
     record {
       victims = gains_some (omega arith) apart each (omega arith);

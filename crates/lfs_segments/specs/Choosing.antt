@@ -59,8 +59,8 @@ pub record Leads (t : UsageTable) (p : Preference) (last : Option Candidate) (s 
   pub behind : (c : Candidate) → next ≡ Some c → IsBehind t p last c.segment
 
 -- ---- a list of them
-abbrev pub IsChoiceBy : UsageTable → ℕ → ℕ → Preference → List ℕ → Type 0
-IsChoiceBy t meta most p vs = IsChoice t meta most (Precedes t p) vs
+abbrev pub IsChoiceBy : UsageTable → (meta most wanted : ℕ) → Preference → List ℕ → Type 0
+IsChoiceBy t meta most wanted p vs = IsChoice t meta most wanted (Precedes t p) vs
 
 -- The first ones of an order, as many as there are or may be taken, of which no beginning gains.
 pub record Exhausts (t : UsageTable) (meta most : ℕ) (p : Preference) : Type 0 where

@@ -62,33 +62,33 @@ pub record AreFirst (t : UsageTable) (order : ℕ → ℕ → Type 0) (vs : List
 abbrev pub gain_of : UsageTable → ℕ → List ℕ → ℕ
 gain_of t meta vs = length vs - (sum_by (load_of t) vs + meta + TABLE_BLOCKS + (CHUNK_BLOCKS - 1)) / CHUNK_BLOCKS
 
--- how many are wanted: as many as are missing to a quarter, and four at least
+-- how many a pass wants that makes a quarter clean: as many as are missing to it, and four at least
 abbrev pub wanted_gain : UsageTable → ℕ
 wanted_gain t = max (length t.segments / 4 - clean_in t.segments) LEAST_GAIN
 
 -- how many of those that are wanted are gained
-abbrev pub useful_gain : UsageTable → ℕ → List ℕ → ℕ
-useful_gain t meta vs = min (gain_of t meta vs) (wanted_gain t)
+abbrev pub useful_gain : UsageTable → (meta wanted : ℕ) → List ℕ → ℕ
+useful_gain t meta wanted vs = min (gain_of t meta vs) wanted
 
 -- Of the victims that are the first ones of an order these gain most of what is wanted, and no fewer of them gain as much. So they are
 -- the fewest that gain all that is wanted, or where none do, the fewest that gain most.
-pub record IsChoice (t : UsageTable) (meta most : ℕ) (order : ℕ → ℕ → Type 0) (vs : List ℕ) : Type 0 where
+pub record IsChoice (t : UsageTable) (meta most wanted : ℕ) (order : ℕ → ℕ → Type 0) (vs : List ℕ) : Type 0 where
   pub victims : AreVictims t meta most vs
   pub first : AreFirst t order vs
   pub best : (ws : List ℕ) → AreVictims t meta most ws → AreFirst t order ws
-      → useful_gain t meta ws ≤ useful_gain t meta vs
+      → useful_gain t meta wanted ws ≤ useful_gain t meta wanted vs
   pub fewest : (ws : List ℕ) → AreVictims t meta most ws → AreFirst t order ws
-      → length ws < length vs → useful_gain t meta ws < useful_gain t meta vs
+      → length ws < length vs → useful_gain t meta wanted ws < useful_gain t meta wanted vs
 
 -- no victims are the first ones of an order
 abbrev pub HasNoChoice : UsageTable → ℕ → ℕ → (ℕ → ℕ → Type 0) → Type 0
 HasNoChoice t meta most order = (ws : List ℕ) → AreVictims t meta most ws → AreFirst t order ws → ⊥
 
 -- The victims are chosen by benefit and cost, and where none can be, by their blocks.
-abbrev pub IsChosen : UsageTable → ℕ → ℕ → ℕ → List ℕ → Type 0
-IsChosen t meta most now vs =
-    IsChoice t meta most (IsPreferred t now) vs
-    ⊎ (HasNoChoice t meta most (IsPreferred t now) × IsChoice t meta most (ComesBefore t) vs)
+abbrev pub IsChosen : UsageTable → (meta most wanted now : ℕ) → List ℕ → Type 0
+IsChosen t meta most wanted now vs =
+    IsChoice t meta most wanted (IsPreferred t now) vs
+    ⊎ (HasNoChoice t meta most (IsPreferred t now) × IsChoice t meta most wanted (ComesBefore t) vs)
 
 -- how many victims a pass has at most
 abbrev pub pass_limit : UsageTable → ℕ

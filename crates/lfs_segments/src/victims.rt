@@ -26,30 +26,44 @@ const LEAST_GAIN: u32 = 4;
 ///
 /// Those go first whose cleaning is worth most by benefit and cost, where the acknowledged
 /// checkpoint has number `now`: of such lists, of at most so many segments, the shortest that gains
-/// as many segments as are missing to a quarter, and four at least, or else the one that gains
-/// most. Where none of them gains, the same of the lists in which those with the least blocks go
-/// first. There is none where no list of so few segments in use gains.
-pub fn victims(usage: &Usage, meta: u32, most: u32, now: u64) -> Option<ArrayVec<u16, 129>>
+/// as many segments as are wanted, or else the one that gains most. Where none of them gains, the
+/// same of the lists in which those with the least blocks go first. There is none where no list of
+/// so few segments in use gains.
+pub fn victims(
+    usage: &Usage,
+    meta: u32,
+    most: u32,
+    wanted: u32,
+    now: u64,
+) -> Option<ArrayVec<u16, 129>>
     requires most { most ≤ MOST_VICTIMS }
+    requires least { 1 ≤ wanted }
     ensures some { IfSome result (λ v. AreVictims usage.now meta most v.items) }
-    ensures choice { IfSome result (λ v. IsChosen usage.now meta most now v.items) }
+    ensures choice { IfSome result (λ v. IsChosen usage.now meta most wanted now v.items) }
     ensures none { IfNone result ((vs : List ℕ) → AreVictims usage.now meta most vs → ⊥) }
     ensures found { IsPressed usage.now meta → most ≡ pass_limit usage.now → IsSome result }
 {
-    if let Some(chosen) = choose(usage, meta, most, Preference::Benefit(now)) {
+    if let Some(chosen) = choose(usage, meta, most, wanted, Preference::Benefit(now)) {
         return Some(chosen);
     }
-    choose(usage, meta, most, Preference::Load)
+    choose(usage, meta, most, wanted, Preference::Load)
 }
 
 /// Of the first segments of an order, those by which so many segments are gained as are wanted, the
 /// fewest, or else those that gain most.
-fn choose(usage: &Usage, meta: u32, most: u32, preference: Preference) -> Option<ArrayVec<u16, 129>>
+fn choose(
+    usage: &Usage,
+    meta: u32,
+    most: u32,
+    wanted: u32,
+    preference: Preference,
+) -> Option<ArrayVec<u16, 129>>
     requires most { most ≤ MOST_VICTIMS }
-    ensures some { IfSome result (λ v. IsChoiceBy usage.now meta most preference v.items) }
+    requires least { 1 ≤ wanted }
+    ensures some { IfSome result (λ v. IsChoiceBy usage.now meta most wanted preference v.items) }
     ensures none { IfNone result (Exhausts usage.now meta most preference) }
 {
-    let wanted = wanted(usage);
+    let _count = usage.segments();
     let mut chosen = ArrayVec::new();
     let mut blocks = 0;
     let mut last = None;
@@ -86,10 +100,11 @@ fn shortened(mut chosen: ArrayVec<u16, 129>, count: u32) -> Option<ArrayVec<u16,
     Some(chosen)
 }
 
-/// How many segments a pass is to gain: those that are missing to a quarter, and four at least.
-fn wanted(usage: &Usage) -> u32
+/// How many segments a pass is to gain that makes a quarter clean: those that are missing to it, and
+/// four at least.
+pub fn wanted(usage: &Usage) -> u32
     ensures value { result ≡ wanted_gain usage.now }
-    ensures table { FitsTable usage.now }
+    ensures some { 1 ≤ result }
 {
     let missing = (usage.segments() / 4).saturating_sub(usage.clean());
     missing.max(LEAST_GAIN)

@@ -7,7 +7,7 @@ use Rattle.lfs_segments.proofs.victims.choose.Given as goal
 
 abbrev pub invariant-loop-others : goal.invariant-loop-others
 invariant-loop-others l =
-    Picked l.usage l.preference l.last l.chosen.items × Tried l.usage l.meta l.chosen.items l.best l.count
+    Picked l.usage l.preference l.last l.chosen.items × Tried l.usage l.meta l.wanted l.chosen.items l.best l.count
     × (length l.chosen.items ≡ l.others)
     × (l.blocks ≡ sum_by (load_of l.usage) l.chosen.items)
     × (l.blocks ≤ 64 * l.others)

@@ -3,7 +3,7 @@ use Rattle.lfs_log.specs.segments.Victims.{AreVictims, IsChosen, pass_limit}
 use Rattle.lfs_log.specs.Thresholds.{most_victims}
 use Rattle.lfs_log.proofs.Passes.{pass_done, pass_halts}
 use Rattle.lfs_cleaner.proofs.Pressing.{carried, not_refused, pressed_there}
-use Rattle.lfs_cleaner.proofs.passing.pass.Goals as goal
+use Rattle.lfs_cleaner.proofs.passing.pass_for.Goals as goal
 
 pub relocate-requires : goal.relocate-requires
 relocate-requires g c = rw c.as_slice.ensures.value c.in-Some.ensures.some.apart
@@ -30,7 +30,7 @@ returns-in-Ok-commit_relocated-clause-done g c =
       victims = vs;
       gain = carried (λ t a m x vs. AreVictims t a m vs) _
           c.usage.ensures c.meta.ensures limit c.number.ensures (sym c.as_slice.ensures.value) c.in-Some.ensures.some;
-      choice = carried (λ t a m x vs. IsChosen t a m x vs) _
+      choice = carried (λ t a m x vs. IsChosen t a m c.args.wanted x vs) _
           c.usage.ensures c.meta.ensures limit c.number.ensures (sym c.as_slice.ensures.value) c.in-Some.ensures.choice;
       cleans = pass_done g.D.SectorDevice.state c.commit_relocated.new.self (g.met.D.SectorDevice.lawful h.device) c.in-Ok.ensures.done
           (c.in-Ok-commit_relocated.ensures.done vs c.in-Ok.ensures.done.emptied);
