@@ -10,7 +10,8 @@ use Rattle.lfs_files.specs.declared.fault.StoreFault.{StoreFault}
 use Rattle.lfs_files.specs.declared.fault.StoreFault.TheVariants.{NoMemory, Log}
 use Rattle.lfs_cleaner.specs.log.LogState.{LogState, IsFull, IsStaged, IsRefused, IsStageFault}
 use Rattle.lfs_cleaner.specs.log.Saving.{commit_orders}
-use Rattle.lfs_cleaner.specs.Making.{FailsClean, HaltsLater, HasQuarter, IsAtRest, LacksClean, MakesClean, most_checkpoints, clean_orders}
+use Rattle.lfs_cleaner.specs.Making.{FailsClean, HaltsLater, HasQuarter, HasThreeSixteenths, IsAtRest, LacksClean, MakesClean}
+use Rattle.lfs_cleaner.specs.Making.{most_checkpoints, clean_orders, once_orders}
 use Rattle.lfs_cleaner.proofs.CleanBounds.{halts_first, lacks_commit}
 use Rattle.lfs_cleaner.proofs.of_log.of_memory.Going.{ok_then}
 use Rattle.lfs_store.specs.declared.store.Store.{Store}
@@ -54,7 +55,7 @@ told_after : {D : Type 0} (state : D → DeviceState) (a b h : LogState D) → b
     → (state h.device).told ≡ (state a.device).told
 told_after {D} state a b h same told = told ∙ ap (λ (l : LogState D). (state l.device).told) same
 
-keeps_then : {D : Type 0} (a b c : Store D) → KeepsDraft a b → KeepsDraft b c → KeepsDraft a c
+pub keeps_then : {D : Type 0} (a b c : Store D) → KeepsDraft a b → KeepsDraft b c → KeepsDraft a c
 keeps_then a b c one two = record {
   draft = cc;
   totals = cc;
@@ -175,17 +176,22 @@ module _ {D : Type 0} {state : D → DeviceState} where
     failed = λ e. absurd (cc);
     halted = λ e ne. absurd (ne is);
     still = λ t. (refl, refl);
-    quiet = λ room clean. refl;
+    quiet = λ room clean ample. refl;
     told = omega arith;
-    one_commit = λ two. omega arith;
-    idle = λ room clean. refl;
+    one_pass = λ two. omega arith;
+    one_commit = λ two ample. omega arith;
+    idle = λ room clean ample. refl;
   }
 
   -- ---- what holds however a draft ends, behind what readied the log
-  module _ {a b : Store D} (running : a.log.halted ≡ false) (quiet : HasRoomFor a.log a.draft → HasClean a.log → b.log ≡ a.log)
+  module _ {a b : Store D} (running : a.log.halted ≡ false)
+      (quiet : HasRoomFor a.log a.draft → HasClean a.log → HasThreeSixteenths a.log → b.log ≡ a.log)
       (told : length (state b.log.device).told
       ≤ length (state a.log.device).told + clean_orders a.log.segments)
-      (one_commit : HasCleanForTwo a.log → length (state b.log.device).told ≤ length (state a.log.device).told + commit_orders) where
+      (one_pass : HasCleanForTwo a.log
+      → length (state b.log.device).told ≤ length (state a.log.device).told + once_orders a.log.segments)
+      (one_commit : HasCleanForTwo a.log → HasThreeSixteenths a.log
+      → length (state b.log.device).told ≤ length (state a.log.device).told + commit_orders) where
     -- no room was made
     pub accepted_unready : {fault : LogFault} → Reserves state a b (Err fault) → (log_error fault ≡ log_error Full → IsFull b.log)
         → Accepted state a b.log (Err (Log fault))
@@ -202,10 +208,11 @@ module _ {D : Type 0} {state : D → DeviceState} where
       failed = λ e. room_fault _ b.log a.draft (made.device (as_log _ e)).fault;
       halted = λ e. made.halted (as_log _ e);
       still = λ t. absurd (cc);
-      quiet = λ room clean. cc (quiet room clean);
+      quiet = λ room clean ample. cc (quiet room clean ample);
       told = told;
+      one_pass = one_pass;
       one_commit = one_commit;
-      idle = λ room clean. told_after state a.log b.log b.log (quiet room clean) refl;
+      idle = λ room clean ample. told_after state a.log b.log b.log (quiet room clean ample) refl;
     }
 
     module _ {h : LogState D} (lawful : IsLawful (state b.log.device)) (made : Reserves state a b (Ok tt)) (enough : HasClean b.log) where
@@ -224,10 +231,11 @@ module _ {D : Type 0} {state : D → DeviceState} where
         failed = λ e. absurd (cc);
         halted = λ e. absurd (cc);
         still = λ t. absurd (cc);
-        quiet = λ room clean. cc (quiet room clean);
+        quiet = λ room clean ample. cc (quiet room clean ample);
         told = no_more (cc) told;
-        one_commit = λ two. no_more (cc) (one_commit two);
-        idle = λ room clean. told_after state a.log b.log h (quiet room clean) s.alters.looks.told;
+        one_pass = λ two. no_more (cc) (one_pass two);
+        one_commit = λ two ample. no_more (cc) (one_commit two ample);
+        idle = λ room clean ample. told_after state a.log b.log h (quiet room clean ample) s.alters.looks.told;
       }
 
       -- it is refused
@@ -252,8 +260,9 @@ module _ {D : Type 0} {state : D → DeviceState} where
             failed = λ e. rw (← made.keeps.draft) (accept_fault _ _ h b.draft lawful running made.done r.alters (failed (cc)));
             halted = λ e. absurd (running' (cc));
             still = λ t. absurd (cc);
-            quiet = λ room clean. cc (quiet room clean);
+            quiet = λ room clean ample. cc (quiet room clean ample);
             told = no_more (cc) told;
-            one_commit = λ two. no_more (cc) (one_commit two);
-            idle = λ room clean. told_after state a.log b.log h (quiet room clean) r.alters.looks.told;
+            one_pass = λ two. no_more (cc) (one_pass two);
+            one_commit = λ two ample. no_more (cc) (one_commit two ample);
+            idle = λ room clean ample. told_after state a.log b.log h (quiet room clean ample) r.alters.looks.told;
           }

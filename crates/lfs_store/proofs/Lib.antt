@@ -36,3 +36,4 @@ pub mod Known
 pub use Rattle.lfs_cleaner.proofs.of_log as of_log
 pub use Rattle.lfs_cleaner.proofs as of_cleaner
 pub use Rattle.lfs_cleaner.proofs.of_log.of_memory
+pub mod Befores

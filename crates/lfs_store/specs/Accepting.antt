@@ -13,7 +13,7 @@ use Rattle.lfs_cleaner.specs.log.verify.Faults.{IsFault, LacksLog}
 use Rattle.lfs_cleaner.specs.log.memory.Removing.{without_file}
 use Rattle.lfs_cleaner.specs.log.LogState.{LogState, Holds, LeavesSaved}
 use Rattle.lfs_cleaner.specs.log.Thresholds.{HasReserve}
-use Rattle.lfs_cleaner.specs.Making.{MakesClean, MayMakeClean, most_checkpoints}
+use Rattle.lfs_cleaner.specs.Making.{IsSavedAmply, MakesClean, MayMakeClean, SavesOnly, most_checkpoints}
 use Rattle.lfs_store.specs.declared.draft.Draft.{Draft}
 use Rattle.lfs_store.specs.StoreState.{Fits, asked_by, with_draft}
 
@@ -72,6 +72,10 @@ module _ {D : Type 0} (state : D → DeviceState) where
     pub spent : h'.number + most_checkpoints h' ≤ h.number + most_checkpoints h
     pub able : (k : CheckpointValue) (m0 m : LogMap) → (state h'.device).keeps_model → MayMakeClean state h k m0 m
         → (next : CheckpointValue) × (m1 : LogMap) × MayMakeClean state h' next m1 m
+
+  -- how a draft finds the log behind a pass: nothing was done, or room can be made still, or all is saved, with enough segments clean
+  abbrev pub FindsReady : LogState D → LogState D → Type 0
+  FindsReady h h' = (h' ≡ h) ⊎ ((Readies h h' × SavesOnly state h h') ⊎ IsSavedAmply h')
 
   -- A draft is staged: the log has the log map with all its changes, and enough segments are clean for a commit.
   pub record Accepts (h h' : LogState D) (d : Draft) : Type 0 where

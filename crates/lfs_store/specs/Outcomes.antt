@@ -8,9 +8,9 @@ use Rattle.lfs_files.specs.declared.fault.StoreFault.TheVariants.{NoMemory, Log}
 use Rattle.lfs_files.specs.declared.fault.LogFault.TheVariants.{Full, Device, Halted}
 use Rattle.lfs_cleaner.specs.log.LogState.{LogState, Halts, IsFull, Saves}
 use Rattle.lfs_cleaner.specs.log.Saving.{commit_orders, orders_for}
-use Rattle.lfs_cleaner.specs.Making.{FailsClean, HaltsLater, HasQuarter, IsAtRest}
+use Rattle.lfs_cleaner.specs.Making.{FailsClean, HaltsLater, HasQuarter, HasThreeSixteenths, IsAtRest}
 use Rattle.lfs_cleaner.specs.Making.{LacksClean, MakesClean, MayNotMakeClean, most_checkpoints}
-use Rattle.lfs_cleaner.specs.Making.{clean_orders}
+use Rattle.lfs_cleaner.specs.Making.{clean_orders, once_orders}
 use Rattle.lfs_store.specs.declared.store.Store.{Store}
 use Rattle.lfs_store.specs.Keeping.{KeepsDraft}
 use Rattle.lfs_store.specs.StoreState.{asked_by}
@@ -65,9 +65,12 @@ module _ {D : Type 0} (state : D → DeviceState) where
     pub halted : IsErrOf result (Log Halted) → old.log.halted ≢ true
         → HaltsLater state old.log h' (most_checkpoints old.log)
     pub still : old.log.halted ≡ true → (h' ≡ old.log) × IsErrOf result (Log Halted)
-    pub quiet : HasRoomFor old.log old.draft → HasClean old.log → h'.number ≡ old.log.number
+    pub quiet : HasRoomFor old.log old.draft → HasClean old.log → HasThreeSixteenths old.log → h'.number ≡ old.log.number
     pub told : length (state h'.device).told
         ≤ length (state old.log.device).told + clean_orders old.log.segments
-    pub one_commit : HasCleanForTwo old.log
+    pub one_pass : HasCleanForTwo old.log
+        → length (state h'.device).told ≤ length (state old.log.device).told + once_orders old.log.segments
+    pub one_commit : HasCleanForTwo old.log → HasThreeSixteenths old.log
         → length (state h'.device).told ≤ length (state old.log.device).told + commit_orders
-    pub idle : HasRoomFor old.log old.draft → HasClean old.log → (state h'.device).told ≡ (state old.log.device).told
+    pub idle : HasRoomFor old.log old.draft → HasClean old.log → HasThreeSixteenths old.log
+        → (state h'.device).told ≡ (state old.log.device).told

@@ -1,6 +1,6 @@
 //! A store from its mount on: a draft is staged after room is made for it, and a commit saves what
 //! was staged.
-ghost use Rattle.std.specs.Prelude.{◌≡◌, ◌<◌, ◌≤◌, ◌+◌, ◌/◌, true, false, length, IfOk, IfErr, OnOk, OnErr, IsErrOf, ◌⊎◌, MatchResult, IsTrue, IsFalse};
+ghost use Rattle.std.specs.Prelude.{◌≡◌, ◌<◌, ◌≤◌, ◌+◌, ◌/◌, true, false, length, IfOk, IfErr, OnOk, OnErr, IsOk, IsErrOf, ◌⊎◌, MatchResult, IsTrue, IsFalse};
 ghost use Rattle.lfs_model.specs.Device.{Only, IsUntouched, Carries, LeavesOnly};
 ghost use Rattle.lfs_cleaner.specs.log.verify.Loading.{HasTables, IsLoaded};
 ghost use Rattle.lfs_cleaner.specs.log.verify.Verified.{HasLogMap, IsRefusedLog};
@@ -12,7 +12,7 @@ use crate::store::Store;
 use lfs_cache::CachedDevice;
 use lfs_cleaner::volume_log::verify::Tables;
 use lfs_cleaner::volume_log::{Log, LogFault, MountFault};
-use lfs_cleaner::{clean_once, has_quarter, make_clean};
+use lfs_cleaner::{clean_before_change, clean_once, has_quarter, make_clean};
 use lfs_device::SectorDevice;
 use lfs_files::StoreFault;
 use lfs_model::limits::MOST_UNSAVED;
@@ -29,9 +29,9 @@ impl<D: SectorDevice> Store<D> {
     ghost use Rattle.lfs_cleaner.specs.log.Mounting.{HasWholeUnits};
     ghost use Rattle.lfs_cleaner.specs.log.Saving.{commit_orders, orders_for};
     ghost use Rattle.lfs_cleaner.specs.log.Thresholds.{LacksReserve};
-    ghost use Rattle.lfs_cleaner.specs.Making.{CleansOnce, HasQuarter, once_orders, passes_orders, clean_orders};
+    ghost use Rattle.lfs_cleaner.specs.Making.{CleansBefore, CleansOnce, HasQuarter, HasThreeSixteenths, once_orders, passes_orders, clean_orders};
     ghost use Rattle.lfs_store.specs.Recounting.{MountsTotals};
-    ghost use Rattle.lfs_store.specs.Accepting.{Readies, HasClean, HasCleanForTwo, HasRoomFor};
+    ghost use Rattle.lfs_store.specs.Accepting.{FindsReady, Readies, HasClean, HasCleanForTwo, HasRoomFor};
     ghost use Rattle.lfs_store.specs.Keeping.{KeepsDraft, OnlyDrafts};
     ghost use Rattle.lfs_store.specs.Outcomes.{Accepted, Cleaned, Committed, Reserves};
 
@@ -247,6 +247,8 @@ impl<D: SectorDevice> Store<D> {
         ensures once { OnOk result ((self.new.log ≡ self.old.log) ⊎ (HasClean self.new.log
             ⊎ ((self.new.log.saved ≡ true) × AreAllSaved self.new.log))) }
         ensures clean { OnOk result (self.old.log.clean ≤ self.new.log.clean + 8) }
+        ensures still { self.old.log.saved ≡ true
+            → IsOk result × (self.new.log ≡ self.old.log) }
         ensures told { length (D.state self.new.log.device).told
             ≤ length (D.state self.old.log.device).told + commit_orders }
     {
@@ -298,10 +300,29 @@ impl<D: SectorDevice> Store<D> {
         }
     }
 
-    /// Readies the log for a change, the only place that knows when one may begin: memory has room
-    /// for the draft, else early writes or a commit make it; and enough segments are clean for the
-    /// commit that saves it, else the cleaner makes them so.
-    fn reserve(&mut self) -> Result<(), LogFault>
+    /// Cleans before a change, where few segments are clean, though enough for a commit: one pass at
+    /// most.
+    fn clean_before_change(&mut self) -> Result<(), LogFault>
+        requires { self.old.log.halted ≡ false }
+        ensures makes { Reserves D.SectorDevice.state self.old self.new result }
+        ensures once { OnOk result (CleansBefore D.SectorDevice.state self.old.log self.new.log) }
+        ensures ready { OnOk result (FindsReady D.SectorDevice.state self.old.log self.new.log) }
+        ensures quiet { HasThreeSixteenths self.old.log → IsOk result
+            × (self.new.log ≡ self.old.log) }
+        ensures lacks { IsErrOf result LogFault.Full → ⊥ }
+        ensures told { length (D.state self.new.log.device).told
+            ≤ length (D.state self.old.log.device).told
+            + once_orders self.old.log.segments }
+        ensures room { length (D.state self.new.log.device).told
+            ≤ length (D.state self.old.log.device).told
+            + clean_orders self.old.log.segments }
+    {
+        clean_before_change(&mut self.log)
+    }
+
+    /// Makes room for the draft: memory has room for it, else early writes or a commit make it; and
+    /// enough segments are clean for the commit that saves it, else the cleaner makes them so.
+    fn prepare(&mut self) -> Result<(), LogFault>
         requires { self.old.log.halted ≡ false }
         ensures makes { Reserves D.SectorDevice.state self.old self.new result }
         ensures enough { OnOk result (HasClean self.new.log) }
@@ -309,10 +330,16 @@ impl<D: SectorDevice> Store<D> {
             → self.new.log.waiting + asked_by self.new.draft ≤ MOST_UNSAVED) }
         ensures quiet { HasRoomFor self.old.log self.old.draft → HasClean self.old.log
             → self.new.log ≡ self.old.log }
+        ensures still { self.old.log.saved ≡ true → HasClean self.old.log
+            → IsOk result × (self.new.log ≡ self.old.log) }
         ensures lacks { IsErrOf result LogFault.Full → IsFull self.new.log }
         ensures told { length (D.state self.new.log.device).told
             ≤ length (D.state self.old.log.device).told
             + clean_orders self.old.log.segments }
+        ensures passes { self.old.log.saved ≡ true
+            → length (D.state self.new.log.device).told
+            ≤ length (D.state self.old.log.device).told
+            + passes_orders self.old.log.segments }
         ensures one_commit { HasCleanForTwo self.old.log
             → length (D.state self.new.log.device).told
             ≤ length (D.state self.old.log.device).told + commit_orders }
@@ -322,6 +349,32 @@ impl<D: SectorDevice> Store<D> {
             return Ok(());
         }
         self.make_clean()
+    }
+
+    /// Readies the log for a change, the only place that knows when one may begin: behind a pass of
+    /// the cleaner where few segments are clean, and with room for the draft.
+    fn reserve(&mut self) -> Result<(), LogFault>
+        requires { self.old.log.halted ≡ false }
+        ensures makes { Reserves D.SectorDevice.state self.old self.new result }
+        ensures enough { OnOk result (HasClean self.new.log) }
+        ensures room { OnOk result (self.new.log.saved ≡ false
+            → self.new.log.waiting + asked_by self.new.draft ≤ MOST_UNSAVED) }
+        ensures quiet { HasRoomFor self.old.log self.old.draft → HasClean self.old.log
+            → HasThreeSixteenths self.old.log → self.new.log ≡ self.old.log }
+        ensures lacks { IsErrOf result LogFault.Full → IsFull self.new.log }
+        ensures told { length (D.state self.new.log.device).told
+            ≤ length (D.state self.old.log.device).told
+            + clean_orders self.old.log.segments }
+        ensures one_pass { HasCleanForTwo self.old.log
+            → length (D.state self.new.log.device).told
+            ≤ length (D.state self.old.log.device).told
+            + once_orders self.old.log.segments }
+        ensures one_commit { HasCleanForTwo self.old.log → HasThreeSixteenths self.old.log
+            → length (D.state self.new.log.device).told
+            ≤ length (D.state self.old.log.device).told + commit_orders }
+    {
+        self.clean_before_change()?;
+        self.prepare()
     }
 
     /// Stages the draft, and leaves it as it is.
@@ -347,8 +400,9 @@ impl<D: SectorDevice> Store<D> {
     }
 
     /// Stages the draft whole, or not at all. Where memory has no room for it, full chunks of what
-    /// isn't saved are written before it, and a commit comes where that doesn't suffice; passes of
-    /// the cleaner come where too few segments are clean. The draft is empty afterwards.
+    /// isn't saved are written before it, and a commit comes where that doesn't suffice. One pass of
+    /// the cleaner comes before it where fewer than three sixteenths of the segments are clean, and
+    /// passes until a quarter is, where too few are. The draft is empty afterwards.
     ///
     /// # Errors
     ///

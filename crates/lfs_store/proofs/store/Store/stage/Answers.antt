@@ -10,17 +10,17 @@ returns-then-is_halted-clause-accepts g c =
 
 pub returns-in-Err-clause-accepts : goal.returns-in-Err-clause-accepts
 returns-in-Err-clause-accepts g c =
-    accepted_unready (cc) c.reserve.ensures.quiet c.reserve.ensures.told c.reserve.ensures.one_commit
+    accepted_unready (cc) c.reserve.ensures.quiet c.reserve.ensures.told c.reserve.ensures.one_pass c.reserve.ensures.one_commit
     c.in-Err.ensures.makes c.in-Err.ensures.lacks
 
 pub returns-in-Ok-staged-clause-accepts : goal.returns-in-Ok-staged-clause-accepts
 returns-in-Ok-staged-clause-accepts g c =
-    accepted_staged (cc) c.reserve.ensures.quiet c.reserve.ensures.told c.reserve.ensures.one_commit
+    accepted_staged (cc) c.reserve.ensures.quiet c.reserve.ensures.told c.reserve.ensures.one_pass c.reserve.ensures.one_commit
     (g.met.D.SectorDevice.lawful _) c.in-Ok.ensures.makes c.in-Ok.ensures.enough c.in-Ok-staged.ensures.done c.in-Ok-staged.ensures.counted
 
 pub returns-in-Err-Full-clause-accepts : goal.returns-in-Err-Full-clause-accepts
 returns-in-Err-Full-clause-accepts g c =
-    accepted_refused (cc) c.reserve.ensures.quiet c.reserve.ensures.told c.reserve.ensures.one_commit
+    accepted_refused (cc) c.reserve.ensures.quiet c.reserve.ensures.told c.reserve.ensures.one_pass c.reserve.ensures.one_commit
     (g.met.D.SectorDevice.lawful _) c.in-Ok.ensures.makes c.in-Ok.ensures.enough
     (where_err _ _ c.in-Err-Full.is c.stage-staged.ensures.refused) (where_err _ _ c.in-Err-Full.is c.stage-staged.ensures.kept)
     (λ e. absurd (cc)) (λ e. absurd (cc))
@@ -31,7 +31,7 @@ returns-in-Err-Full-clause-accepts g c =
 pub returns-in-Err-Device-clause-accepts : goal.returns-in-Err-Device-clause-accepts
 returns-in-Err-Device-clause-accepts g c =
     let device : c.stage-staged.result ≡ Err Device = search rules in
-    accepted_refused (cc) c.reserve.ensures.quiet c.reserve.ensures.told c.reserve.ensures.one_commit
+    accepted_refused (cc) c.reserve.ensures.quiet c.reserve.ensures.told c.reserve.ensures.one_pass c.reserve.ensures.one_commit
     (g.met.D.SectorDevice.lawful _) c.in-Ok.ensures.makes c.in-Ok.ensures.enough (where_err _ _ device c.stage-staged.ensures.refused)
     (where_err _ _ device c.stage-staged.ensures.kept)
     (λ e. absurd (cc)) (λ e. absurd (cc)) (λ e. absurd (cc))
