@@ -32,14 +32,15 @@
  *
  * Memory. The library keeps the sectors, of 514 bytes each, the orders that wait, of 520 each, and 0.7 to 4.7 MB besides. Where memory
  * for an order is refused the volume is halted, as by a device that failed: unmount it, and begin anew. pansuyog_mount takes memory for
- * `room` orders before, besides those that wait; 1,100 are enough, where orders are carried out after each call, unless the cleaner has
- * to make much room at once on a large volume that is nearly full. Then more memory is asked for.
+ * `room` orders before, besides those that wait; 1,100 are enough, where orders are carried out after each call, unless the cleaner
+ * makes room on a large volume that is nearly full. Then more memory is asked for.
  *
  * So many orders come of one call of a mounted volume at most, also where it is refused, where the volume has N segments:
  *  - none of a call that only reads, nor of pansuyog_open and pansuyog_close;
- *  - 516 of pansuyog_sync and pansuyog_fsync, and of each other call but those that clean while N / 8 + 16 segments are clean, which is so
- *    on 128 segments or more where no cleaning is due;
- *  - 8 * N + 520 of pansuyog_clean_once;
+ *  - 516 of pansuyog_sync and pansuyog_fsync, and of each other call but those that clean while N / 8 + 16 segments are clean, and three
+ *    sixteenths of them too, which is so on 128 segments or more where no cleaning is due;
+ *  - 8 * N + 520 of pansuyog_clean_once, and of each other call but pansuyog_clean while N / 8 + 16 segments are clean: it makes one pass of
+ *    the cleaner at most then;
  *  - N / 8 * (8 * N + 4) + 516 of any other. */
 #ifndef PANSUYOG_H
 #define PANSUYOG_H

@@ -2,7 +2,7 @@
 use Rattle.std.specs.Prelude.{◌≡◌, ◌⊎◌, ◌<◌, ◌≤◌, ◌+◌, ◌*◌, ◌^◌, ℕ}
 use Rattle.lfs_model.specs.declared.limits.TheConstants.{LEAST_NEED, MOST_UNSAVED, NEED_OF_META, NEED_OF_SEGMENT}
 use Rattle.lfs_model.specs.Device.{DeviceState}
-use Rattle.lfs_store.specs.cleaner.Making.{HaltsLater, MayNotMakeClean, most_checkpoints, clean_orders}
+use Rattle.lfs_store.specs.cleaner.Making.{HaltsLater, HasThreeSixteenths, MayNotMakeClean, most_checkpoints, clean_orders, once_orders}
 use Rattle.lfs_store.specs.log.LogState.{LogState}
 use Rattle.lfs_store.specs.log.Saving.{commit_orders}
 use Rattle.lfs_store.specs.Accepting.{Accepts, Declines, HasClean, HasCleanForTwo, IsAcceptFault}
@@ -21,12 +21,14 @@ abbrev pub limit_of : {D : Type 0} → Fs D → ℕ
 limit_of f = NEED_OF_SEGMENT * (seen f).log.segments
 
 module _ {D : Type 0} (state : D → DeviceState) where
-  -- The device is given no more orders than where room is made, and no more than in a commit where enough segments are clean for two. It
-  -- is given none where memory has room for so many blocks more and enough segments are clean for a commit.
+  -- The device is given no more orders than where room is made, no more than in a commit and a pass where enough segments are clean for
+  -- two commits, and no more than in a commit where three sixteenths are clean too. It is given none where memory has room for so many
+  -- blocks more and enough segments are clean for a commit, three sixteenths too.
   pub record TellsFew (old new : LogState D) (asked : ℕ) : Type 0 where
     pub room : TellsAtMost state old new (clean_orders old.segments)
-    pub one_commit : HasCleanForTwo old → TellsAtMost state old new commit_orders
-    pub idle : HasClean old → old.waiting + asked ≤ MOST_UNSAVED → TellsNothing state old new
+    pub one_pass : HasCleanForTwo old → TellsAtMost state old new (once_orders old.segments)
+    pub one_commit : HasCleanForTwo old → HasThreeSixteenths old → TellsAtMost state old new commit_orders
+    pub idle : HasClean old → HasThreeSixteenths old → old.waiting + asked ≤ MOST_UNSAVED → TellsNothing state old new
 
   -- The draft is staged, and the totals are those with it.
   pub record StagesDraft (old new : Fs D) : Type 0 where

@@ -17,7 +17,7 @@ use Rattle.lfs_model.specs.UnitLaws.{LeavesShape}
 use Rattle.lfs_model.specs.Volume.{IsLogOf}
 use Rattle.lfs_store.specs.log.LogState.{Holds, LogState, Reads}
 use Rattle.lfs_store.specs.log.Saving.{commit_orders}
-use Rattle.lfs_store.specs.cleaner.Making.{clean_orders}
+use Rattle.lfs_store.specs.cleaner.Making.{HasThreeSixteenths, clean_orders, once_orders}
 use Rattle.lfs_store.specs.Accepting.{HasClean, HasCleanForTwo}
 use Rattle.lfs_model.specs.Totals.{IsCounted}
 use Rattle.lfs_fs.specs.Asking.{most_asked}
@@ -157,14 +157,17 @@ module _ {D : Type 0} (state : D → DeviceState) where
     pub stuck : answer ≡ Refuse Stuck → ⊥
     -- so many writes and syncs are given the device at most, and none by a call that may not write
     pub told : TellsAtMost old.log new.log (most_orders call (segments_of old))
-    -- no more than in a commit, where enough segments are clean for two: no pass of the cleaner comes then
-    pub one_commit : cleans call ≡ false → HasCleanForTwo old.log → TellsAtMost old.log new.log commit_orders
+    -- no more than in a commit and a pass of the cleaner, where enough segments are clean for two: one pass comes at most then
+    pub one_pass : cleans call ≡ false → HasCleanForTwo old.log → TellsAtMost old.log new.log (once_orders (segments_of old))
+    -- and no more than in a commit, where three sixteenths are clean too: no pass comes then
+    pub one_commit : cleans call ≡ false → HasCleanForTwo old.log → HasThreeSixteenths old.log
+        → TellsAtMost old.log new.log commit_orders
     -- none by one that saves, where all is saved
     pub all_saved : commits call ≡ true → old.log.saved ≡ true → TellsNothing old.log new.log
     -- nor by any that neither saves nor cleans, where memory has room for what it asks for at most beside what isn't saved, and enough
-    -- segments are clean: it is saved later
-    pub idle : commits call ≡ false → cleans call ≡ false → HasClean old.log → old.log.waiting + most_asked call ≤ MOST_UNSAVED
-        → TellsNothing old.log new.log
+    -- segments are clean, three sixteenths too: it is saved later
+    pub idle : commits call ≡ false → cleans call ≡ false → HasClean old.log → HasThreeSixteenths old.log
+        → old.log.waiting + most_asked call ≤ MOST_UNSAVED → TellsNothing old.log new.log
 
   -- A call of a volume at a point: its answer is the model's, or an excused refusal; a stop at any moment leaves what it might have left
   -- before, or the state before or after the call, without files of no name, in the units that the volume had; where the call saves, what

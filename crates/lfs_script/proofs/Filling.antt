@@ -161,9 +161,10 @@ module _ {D : Type 0} {state : D → DeviceState} {old new : Mounted D} {h off :
     memory = behaves.memory;
     stuck = behaves.stuck;
     told = behaves.told;
+    one_pass = behaves.one_pass;
     one_commit = behaves.one_commit;
     all_saved = behaves.all_saved;
-    idle = λ later unclean clean room. behaves.idle later unclean clean
+    idle = λ later unclean clean ample room. behaves.idle later unclean clean ample
         (long_asked h off old.log.waiting 456 w v long_v room);
   }
 
@@ -180,9 +181,10 @@ module _ {D : Type 0} {state : D → DeviceState} {old new : Mounted D} {h off :
     memory = λ takes e. absurd (cc);
     stuck = none;
     told = at_most _ _ _ behaves.told;
+    one_pass = λ unclean. behaves.one_pass refl;
     one_commit = λ unclean. behaves.one_commit refl;
     all_saved = λ saves. absurd (cc);
-    idle = λ later unclean clean room. behaves.idle refl refl clean (omega (arith, room));
+    idle = λ later unclean clean ample room. behaves.idle refl refl clean ample (omega (arith, room));
   }
 
   long_serves : {w : List ℕ} (v : List ℕ) → 65536 < length w → 65536 < length v → (a : Answer) → Serves state old new (Pwrite h off w) a

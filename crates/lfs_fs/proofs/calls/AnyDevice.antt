@@ -8,6 +8,7 @@ use Rattle.lfs_fs.proofs.Prelude.{◌⊎◌, HasClean}
 use Rattle.lfs_model.specs.declared.limits.TheConstants.{MOST_UNSAVED}
 use Rattle.lfs_model.specs.Refusal.{NoMemory}
 use Rattle.lfs_store.specs.Accepting.{HasCleanForTwo}
+use Rattle.lfs_store.specs.cleaner.Making.{HasThreeSixteenths, once_orders}
 use Rattle.lfs_store.specs.memory.Present.{Looks}
 use Rattle.lfs_fs.specs.Asking.{most_asked}
 use Rattle.lfs_fs.specs.Volume.{TellsNothing}
@@ -79,10 +80,12 @@ module _ {D : Type 0} (state : D → DeviceState) where
   pub record IsBounded (old new : Mounted D) (call : Call) : Type 0 where
     pub few : CommitsFew old new
     pub told : TellsAtMost state old.log new.log (most_orders call (segments_of old))
-    pub one_commit : cleans call ≡ false → HasCleanForTwo old.log → TellsAtMost state old.log new.log commit_orders
+    pub one_pass : cleans call ≡ false → HasCleanForTwo old.log → TellsAtMost state old.log new.log (once_orders (segments_of old))
+    pub one_commit : cleans call ≡ false → HasCleanForTwo old.log → HasThreeSixteenths old.log
+        → TellsAtMost state old.log new.log commit_orders
     pub all_saved : commits call ≡ true → old.log.saved ≡ true → TellsNothing state old.log new.log
-    pub idle : commits call ≡ false → cleans call ≡ false → HasClean old.log → old.log.waiting + most_asked call ≤ MOST_UNSAVED
-        → TellsNothing state old.log new.log
+    pub idle : commits call ≡ false → cleans call ≡ false → HasClean old.log → HasThreeSixteenths old.log
+        → old.log.waiting + most_asked call ≤ MOST_UNSAVED → TellsNothing state old.log new.log
 
   -- one that changes the tree, or was to, by a draft that asks for so many blocks of memory
   pub change_bounded : (old new : Mounted D) (call : Call) {asked : ℕ} → changes call ≡ true → CommitsFew old new → asked ≤ most_asked call
@@ -90,9 +93,10 @@ module _ {D : Type 0} (state : D → DeviceState) where
   change_bounded old new call change few small tells = record {
     few = few;
     told = subst (λ (most : ℕ). TellsAtMost state old.log new.log most) (sym (change_orders call (segments_of old) change)) tells.room;
+    one_pass = λ unclean. tells.one_pass;
     one_commit = λ unclean. tells.one_commit;
     all_saved = λ saves all. absurd (not_both saves (change_saves_none call change));
-    idle = λ later unclean clean room. tells.idle clean (omega (arith, small, room));
+    idle = λ later unclean clean ample room. tells.idle clean ample (omega (arith, small, room));
   }
 
   -- one that saves
@@ -101,9 +105,10 @@ module _ {D : Type 0} (state : D → DeviceState) where
   sync_bounded old new few told none = record {
     few = few;
     told = told;
-    one_commit = λ unclean clean. told;
+    one_pass = λ unclean clean. omega (arith, told);
+    one_commit = λ unclean clean ample. told;
     all_saved = λ saves all. none all;
-    idle = λ later unclean clean room. absurd (cc);
+    idle = λ later. absurd (cc);
   }
 
   -- one that cleans
@@ -112,9 +117,10 @@ module _ {D : Type 0} (state : D → DeviceState) where
   clean_bounded old new few told = record {
     few = few;
     told = told;
-    one_commit = λ unclean clean. absurd (cc);
+    one_pass = λ unclean. absurd (cc);
+    one_commit = λ unclean. absurd (cc);
     all_saved = λ saves all. absurd (cc);
-    idle = λ later unclean clean room. absurd (cc);
+    idle = λ later unclean. absurd (cc);
   }
 
   module _ {old new : Mounted D} (call : Call) (a : Answer) where
@@ -133,9 +139,10 @@ module _ {D : Type 0} (state : D → DeviceState) where
         memory = memory;
         stuck = stuck;
         told = tells_none old.log new.log (most_orders call (segments_of old)) looks.told;
-        one_commit = λ unclean clean. tells_none old.log new.log commit_orders looks.told;
+        one_pass = λ unclean clean. tells_none old.log new.log (once_orders (segments_of old)) looks.told;
+        one_commit = λ unclean clean ample. tells_none old.log new.log commit_orders looks.told;
         all_saved = λ saves all. looks.told;
-        idle = λ later unclean clean room. looks.told;
+        idle = λ later unclean clean ample room. looks.told;
       }
 
       -- the open files stay
@@ -161,6 +168,7 @@ module _ {D : Type 0} (state : D → DeviceState) where
       memory = memory;
       stuck = none;
       told = bounded.told;
+      one_pass = bounded.one_pass;
       one_commit = bounded.one_commit;
       all_saved = bounded.all_saved;
       idle = bounded.idle;
@@ -179,6 +187,7 @@ module _ {D : Type 0} (state : D → DeviceState) where
       memory = λ takes. ok_refuses_none ok;
       stuck = ok_refuses_none ok;
       told = bounded.told;
+      one_pass = bounded.one_pass;
       one_commit = bounded.one_commit;
       all_saved = bounded.all_saved;
       idle = bounded.idle;

@@ -92,6 +92,7 @@ module _ {D : Type 0} {state : D → DeviceState} {old new : Mounted D} (was : o
         record {
           few = sync.behaves.few;
           told = sync.behaves.told;
+          one_pass = sync.behaves.one_pass;
           one_commit = sync.behaves.one_commit;
           all_saved = λ saves. sync.behaves.all_saved refl;
           idle = λ later. absurd (cc);

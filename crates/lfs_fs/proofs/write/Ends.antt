@@ -13,6 +13,7 @@ use Rattle.lfs_model.specs.Refusal as refusal
 use Rattle.lfs_files.specs.declared.fault.LogFault.TheVariants as log
 use Rattle.lfs_files.specs.declared.fault.StoreFault.TheVariants as store
 use Rattle.lfs_store.specs.Accepting.{SavesFew}
+use Rattle.lfs_store.specs.cleaner.Making.{HasThreeSixteenths, once_orders}
 use Rattle.lfs_fs.specs.declared.error.FsError.TheVariants as error
 use Rattle.lfs_fs.specs.Accepting.{IsDeclined, limit_of}
 use Rattle.lfs_fs.specs.Asking.{most_asked}
@@ -86,14 +87,21 @@ module _ {D : Type 0} (state : D → DeviceState) (lawful : (d : D) → IsLawful
       tells_after tells = record {
         room = told_before (clean_orders a.segments)
             (subst (λ (n : ℕ). TellsAtMost state b h (clean_orders n)) reads.segments tells.room);
-        one_commit = λ clean. told_before commit_orders (tells.one_commit
-            (let same = reads.clean in let size = reads.segments in omega (arith, clean, same, size)));
-        idle = λ clean room. tells.idle (clean_still state reads clean) (let same = reads.waiting in omega (arith, same, room))
+        one_pass = λ clean. told_before (once_orders a.segments)
+            (subst (λ (n : ℕ). TellsAtMost state b h (once_orders n)) reads.segments (tells.one_pass
+            (let same = reads.clean in let size = reads.segments in omega (arith, clean, same, size))));
+        one_commit = λ clean ample. told_before commit_orders (tells.one_commit
+            (let same = reads.clean in let size = reads.segments in omega (arith, clean, same, size)) (still_ample ample));
+        idle = λ clean ample room. tells.idle (clean_still state reads clean) (still_ample ample)
+            (let same = reads.waiting in omega (arith, same, room))
             ∙ reads.looks.told;
       }
         where
           told_before : (most : ℕ) → TellsAtMost state b h most → TellsAtMost state a h most
           told_before most = subst (λ (told : List Order). length (state h.device).told ≤ length told + most) reads.looks.told
+
+          still_ample : HasThreeSixteenths a → HasThreeSixteenths b
+          still_ample ample = let same = reads.clean in let size = reads.segments in omega (arith, ample, same, size)
 
       -- what a stop leaves after the reads is what it leaves from before them
       leaves_after : {k : CheckpointValue} {m0 m : LogMap} → Holds state a k m0 m

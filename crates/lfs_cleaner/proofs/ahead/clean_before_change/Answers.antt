@@ -28,7 +28,8 @@ returns-then-not-may_commit-2-clause-done g c = inl (record {
 pub returns-then-not-may_commit-2-clause-makes : goal.returns-then-not-may_commit-2-clause-makes
 returns-then-not-may_commit-2-clause-makes g c =
     let ready = c.in-Ok.ensures.done in
-    makes_after ready {x = 0} (omega arith) (keeps_none _ _ (g.met.D.SectorDevice.lawful c.commit_unsaved.new.log.device) ready.keeps.running)
+    makes_after ready {x = 0} (omega arith)
+    (keeps_none _ _ (g.met.D.SectorDevice.lawful c.commit_unsaved.new.log.device) ready.keeps.running)
 
 pub returns-clause-done : goal.returns-clause-done
 returns-clause-done g c =
@@ -45,8 +46,8 @@ returns-clause-makes g c =
     let least = (whole_count g.D.SectorDevice.state c.args.log.now c.are_tables_whole.ensures c.requires).least in
     let ready = c.in-Ok.ensures.done in
     on_success c.try_pass.result _ _ _
-    (λ tries same. makes_after ready {x = 1} (omega (arith, least)) (keeps_tried (g.met.D.SectorDevice.lawful c.commit_unsaved.new.log.device)
-    ready.keeps.running tries c.try_pass.ensures.totals))
+    (λ tries same. makes_after ready {x = 1} (omega (arith, least))
+    (keeps_tried (g.met.D.SectorDevice.lawful c.commit_unsaved.new.log.device) ready.keeps.running tries c.try_pass.ensures.totals))
     c.try_pass.ensures.done c.try_pass.ensures.done
 
 pub returns-clause-halted : goal.returns-clause-halted

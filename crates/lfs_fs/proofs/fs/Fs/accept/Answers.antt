@@ -12,8 +12,9 @@ returns-in-Err-accept-clause-refused g c =
     } c.in-Err-accept.fault c.from.ensures c.requires.running c.in-Ok.ensures.young c.in-Err-accept.ensures.accepts.kept
     record {
       room = c.in-Err-accept.ensures.accepts.told;
+      one_pass = c.in-Err-accept.ensures.accepts.one_pass;
       one_commit = c.in-Err-accept.ensures.accepts.one_commit;
-      idle = λ clean room. c.in-Err-accept.ensures.accepts.idle (c.requires.running, room) clean;
+      idle = λ clean ample room. c.in-Err-accept.ensures.accepts.idle (c.requires.running, room) clean ample;
     }
     (λ e. c.in-Err-accept.ensures.accepts.full (ap Err e)) (λ e. c.in-Err-accept.ensures.accepts.never (ap Err e))
     (λ e. c.in-Err-accept.ensures.accepts.memory (ap Err e)) (λ e. c.in-Err-accept.ensures.accepts.device (ap Err e))
