@@ -49,7 +49,7 @@ way_only v v' x {up} named one y there =
     ⊎_elim (λ (was : IsInMemory v y). inl was) (λ (way : IsOnWay up y). inr (way_above x y named way)) (one y there)
 
 -- a block of data has none below it
-no_data_above : (x y : Entry) → y ≡ parent x → IsDataBlock y → ⊥
+pub no_data_above : (x y : Entry) → y ≡ parent x → IsDataBlock y → ⊥
 no_data_above x (Data n i) named is = no_data_parent n i x (sym named)
 no_data_above x (Leaf n q) named is = is
 no_data_above x (Double n) named is = is
@@ -175,7 +175,7 @@ brings_one v v' {c} formed order order' none stay inside few =
     one_came c order order' formed stay inside (still_out v v (entry_at c) refl none) few
 
 -- ---- in one of some segments
-in_list : (vs : List ℕ) (i : ℕ) → i < length vs → IsIn vs (get_or vs i 0)
+pub in_list : (vs : List ℕ) (i : ℕ) → i < length vs → IsIn vs (get_or vs i 0)
 in_list [] i lt = absurd (omega (arith, lt))
 in_list (v ∷ vs) zero lt = inl refl
 in_list (v ∷ vs) (suc i) lt = inr (in_list vs i (omega (arith, lt)))

@@ -1,4 +1,5 @@
 pub mod Sealed
+pub mod StaysCleanable
 pub mod Padding
 pub mod MapSteps
 pub mod UsageCounts
@@ -17,6 +18,7 @@ pub mod Relocations
 pub mod TableBlocks
 pub mod RowLabels
 pub mod Vacated
+pub mod Collected
 pub mod Cleaned
 pub mod Passes
 pub mod StoodBlocks
@@ -30,5 +32,9 @@ pub use Rattle.lfs_verify.proofs as of_verify
 pub mod EarlyBlocks
 pub mod EarlyWrites
 pub mod KeptRuns
+pub mod LeftMemory
+pub mod GroupOrder
+pub mod Bringing
+pub mod Movings
 pub mod LogReads
 pub mod Pressing

@@ -11,8 +11,9 @@ use Rattle.lfs_memory.specs.segments.Chunk.{Chunk, due_in, room_behind, room_in}
 use Rattle.lfs_memory.specs.segments.Table.{UsageTable, address_of, kept_of, stale_of}
 use Rattle.lfs_memory.specs.declared.memory.LogMemory.{LogMemory}
 use Rattle.lfs_memory.specs.Memory.{GoesUpTo, Goes, IsMemory, OnlyPads, PadsChunk, Stops}
+use Rattle.lfs_memory.specs.Moving.{HoldsOn, StaysPut}
 use Rattle.lfs_memory.proofs.Going.{goes_then, stops_then}
-use Rattle.lfs_memory.proofs.Padded.{pads_emptied, pads_log, pads_memory, pads_only, to_full}
+use Rattle.lfs_memory.proofs.Padded.{pads_emptied, pads_memory, pads_only, pads_stays, to_full}
 use Rattle.lfs_memory.proofs.Rooms.{room_some}
 use Rattle.lfs_log.specs.Keeping.{OnlyChunk}
 use Rattle.lfs_log.specs.Settling.{AreAnew}
@@ -48,7 +49,7 @@ padded_goes {d} {v} {v'} lawful memory pads =
       room = omega (arith, only.clean);
       no_failure = refl;
       emptied = pads_emptied pads (to_full memory);
-      log = λ k m0 m keeps is. pads_log pads (to_full memory) d k m0 m is;
+      log = λ k m0 m keeps is. (pads_stays pads (to_full memory) d k m0 m is).0;
       quiet = λ k m0 m keeps is. started (λ c. StandsOn (shape_of k) c m0) lawful (settled_stands d k m0 is.running.settled);
     }
 
@@ -67,6 +68,13 @@ padded_sealed {d} {d'} {v} {v'} {v''} lawful memory some pads goes only =
       log = both.log;
       quiet = both.quiet;
     }
+
+pub padded_stays : {d d' : DeviceState} {v v' v'' : LogMemory} → IsMemory v → PadsChunk v v' → HoldsOn d d' v' v'' StaysPut
+    → HoldsOn d d' v v'' StaysPut
+padded_stays {d} memory pads stays k m0 m keeps is =
+    let first = pads_stays pads (to_full memory) d k m0 m is in
+    let second = stays k m0 m keeps first.0 in
+    (second.0, λ y. second.1 y ∙ first.1 y)
 
 pub padded_stops : {d d' : DeviceState} {v v' : LogMemory} → IsLawful d → IsMemory v → PadsChunk v v' → Stops d d' v' → Stops d d' v
 padded_stops lawful memory pads stops = stops_then (padded_goes lawful memory pads) stops

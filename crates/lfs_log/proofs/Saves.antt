@@ -1,5 +1,5 @@
 -- A commit, from its two halves.
-use Rattle.std.proofs.Common.{◌≡◌, ◌<◌, ◌≤◌, ⊎_elim, inl, ◌+◌, ◌*◌, ℕ, [], length, sym, ◌∙◌, ap, arith}
+use Rattle.std.proofs.Common.{◌≡◌, ◌<◌, ◌≤◌, ⊎_elim, inl, ◌+◌, ◌*◌, ℕ, [], length, sym, ◌∙◌, ap, subst, arith}
 use Rattle.lfs_model.specs.Checkpoint.{CheckpointValue, shape_of}
 use Rattle.lfs_model.specs.Content.{Content}
 use Rattle.lfs_model.specs.Crash.{StandsOn, StandsForOn}
@@ -9,40 +9,63 @@ use Rattle.lfs_model.specs.TreeOf.{dropped}
 use Rattle.lfs_model.proofs.Moments.{carries_then, joined, weaker}
 use Rattle.lfs_model.proofs.Settled.{settled_stands}
 use Rattle.lfs_memory.specs.segments.Table.{SegmentNumbers, clean_in}
-use Rattle.lfs_memory.specs.segments.Chunk.{room_in}
+use Rattle.lfs_memory.specs.segments.Chunk.{Chunk, room_in}
 use Rattle.lfs_memory.specs.segments.Emptied.{IsEmptied}
 use Rattle.lfs_memory.specs.segments.Spare.{emptied_in, spare_in}
 use Rattle.lfs_memory.proofs.of_segments.Spare.{emptied_stay, spare_there, emptied_given}
 use Rattle.lfs_memory.specs.declared.memory.LogMemory.{LogMemory}
-use Rattle.lfs_memory.specs.Memory.{IsMemory, Goes, Stops, room_of}
+use Rattle.lfs_memory.specs.Memory.{Goes, Stops, room_of}
 use Rattle.lfs_log.specs.Publishing.{IsAcknowledged, Publishes, PublishFails, LeavesEither}
-use Rattle.lfs_log.specs.Saving.{CommitsAll, CommitFails, orders_for, segments_for}
+use Rattle.lfs_log.specs.Saving.{CommitsAll, CommitsIn, CommitsOpen, CommitFails, CommitFailsIn, CommitFailsOpen, IsSpared, IsSparedBy}
+use Rattle.lfs_log.specs.Saving.{orders_for_open, segments_for, segments_for_open, segments_open}
 use Rattle.lfs_memory.proofs.Begun.{zero_or_more}
 use Rattle.lfs_memory.proofs.Rooms.{room_none, room_some}
 use Rattle.lfs_log.proofs.Cleaned.{emptied_clean}
 
--- a commit of so many blocks, begun with no chunk, takes no more segments than these want
-pub segments_taken : (v v' : LogMemory) (blocks : ℕ) → v.chunk.names ≡ [] → IsMemory v' → room_of v ≤ room_of v' + (blocks + 48)
-    → clean_in v.usage.segments ≤ clean_in v'.usage.segments + segments_for blocks
-segments_taken v v' blocks closed memory room =
-    let none = room_none v.chunk (ap length closed) in
-    let few : room_in v'.chunk ≤ 62 = ⊎_elim
-    (λ (z : length v'.chunk.names ≡ 0). let r = room_none v'.chunk z in omega (arith, r))
-    (λ (some : 0 < length v'.chunk.names). let r = room_some v'.chunk some in omega (arith, r, some))
-    (zero_or_more (length v'.chunk.names)) in
-    omega (arith, none, few, room)
+-- how many blocks more a chunk takes at most, that has one
+pub few_more : (c : Chunk) → room_in c ≤ 62
+few_more c = ⊎_elim
+    (λ (none : length c.names ≡ 0). let r = room_none c none in omega (arith, r))
+    (λ (some : 0 < length c.names). let r = room_some c some in omega (arith, r, some))
+    (zero_or_more (length c.names))
+
+-- a commit of so many blocks takes no more segments than these want, with the chunk that has begun
+pub segments_taken : (v v' : LogMemory) (blocks : ℕ) → room_of v ≤ room_of v' + (blocks + 48)
+    → clean_in v.usage.segments ≤ clean_in v'.usage.segments + segments_for_open blocks (room_in v.chunk)
+segments_taken v v' blocks room =
+    let few = few_more v'.chunk in
+    let before = few_more v.chunk in
+    omega (arith, few, before, room)
+
+-- one that is begun with no chunk: as many as these want
+pub commits_closed : {d d' : DeviceState} {v v' : LogMemory} {version number : ℕ} → v.chunk.names ≡ []
+    → CommitsOpen d d' v v' version number → CommitsAll d d' v v' version number
+commits_closed {d} {d'} {v} {v'} {version} {number} closed =
+    let n = length v.dirty.blocks in
+    subst (λ (r : ℕ). CommitsIn (segments_for_open n r) (orders_for_open n r) d d' v v' version number)
+    (room_none v.chunk (ap length closed))
+
+pub fails_closed : {d d' : DeviceState} {v : LogMemory} {version number : ℕ} → v.chunk.names ≡ [] → CommitFailsOpen d d' v version number
+    → CommitFails d d' v version number
+fails_closed {d} {d'} {v} {version} {number} closed =
+    subst (λ (r : ℕ). CommitFailsIn (orders_for_open (length v.dirty.blocks) r) d d' v version number)
+    (room_none v.chunk (ap length closed))
+
+pub spared_closed : (v : LogMemory) → v.chunk.names ≡ [] → IsSpared v → IsSparedBy (segments_open v) v
+spared_closed v closed =
+    subst (λ (r : ℕ). IsSparedBy (segments_for_open (length v.dirty.blocks) r) v) (sym (room_none v.chunk (ap length closed)))
 
 -- and there is room for them, where so many are clean
 pub room_there : (v : LogMemory) (blocks : ℕ) → segments_for blocks ≤ clean_in v.usage.segments → blocks + 48 ≤ room_of v
 room_there v blocks clean = omega (arith, clean)
 
 -- in an eighth of the segments nothing lives then
-pub many_spare : (v v' : LogMemory) (blocks : ℕ) → length v'.usage.segments ≡ length v.usage.segments
+pub many_spare : (v v' : LogMemory) (most : ℕ) → length v'.usage.segments ≡ length v.usage.segments
     → ((s : ℕ) → IsEmptied v.usage s → IsEmptied v'.usage s)
-    → length v.usage.segments + 8 * segments_for blocks ≤ 8 * (clean_in v.usage.segments + emptied_in v.usage.segments)
-    → clean_in v.usage.segments ≤ clean_in v'.usage.segments + segments_for blocks
+    → IsSparedBy most v
+    → clean_in v.usage.segments ≤ clean_in v'.usage.segments + most
     → length v'.usage.segments ≤ 8 * spare_in v'.usage.segments
-many_spare v v' blocks size stay spare taken =
+many_spare v v' most size stay spare taken =
     let there = spare_there v'.usage in
     let more = emptied_stay size stay in
     omega (arith, size, spare, taken, there, more)
@@ -62,8 +85,8 @@ either_then a b c v v' n version number goes back moment k m0 m keeps is =
     joined P Q Q (goes.quiet k m0 m (back keeps) is.log)
     (moment k m0 m keeps (acknowledged_on b v' n goes (back keeps) k m is)) (λ x h. inl h) (λ x h. h)
 
-pub out_stops : {d d' : DeviceState} {v : LogMemory} (version number : ℕ)
-    → length d'.told + 3 ≤ length d.told + orders_for (length v.dirty.blocks) → Stops d d' v → CommitFails d d' v version number
+pub out_stops : {d d' : DeviceState} {v : LogMemory} {orders : ℕ} (version number : ℕ)
+    → length d'.told + 3 ≤ length d.told + orders → Stops d d' v → CommitFailsIn orders d d' v version number
 out_stops {d} {d'} version number told stops = record {
   carries = stops.carries;
   cause = stops.cause;
@@ -73,10 +96,11 @@ out_stops {d} {d'} version number told stops = record {
   told = omega (arith, told);
 }
 
-pub publish_fails : (a : DeviceState) {b c : DeviceState} (v : LogMemory) {v' : LogMemory} (n : ℕ) {version number : ℕ} → Goes a b v v' n
-    → length b.told + 3 ≤ length a.told + orders_for (length v.dirty.blocks) → length c.told ≤ length b.told + 3
-    → PublishFails b c v' version number → CommitFails a c v version number
-publish_fails a {b} {c} v {v'} n {version} {number} goes told more fails = record {
+pub publish_fails : (a : DeviceState) {b c : DeviceState} (v : LogMemory) {v' : LogMemory} (n : ℕ) {orders version number : ℕ}
+    → Goes a b v v' n
+    → length b.told + 3 ≤ length a.told + orders → length c.told ≤ length b.told + 3
+    → PublishFails b c v' version number → CommitFailsIn orders a c v version number
+publish_fails a {b} {c} v {v'} n {orders} {version} {number} goes told more fails = record {
   carries = carries_then goes.carries fails.carries;
   cause = λ k m0 m keeps is. (let worse = fails.failed in let before = goes.carries.failed_orders in omega (arith, worse, before));
   left = λ k m0 m keeps is.
@@ -85,14 +109,13 @@ publish_fails a {b} {c} v {v'} n {version} {number} goes told more fails = recor
   told = omega (arith, told, more);
 }
 
-pub commits : {a b c : DeviceState} {v v' v'' : LogMemory} (n : ℕ) {version number : ℕ} → Goes a b v v' n
+pub commits : {a b c : DeviceState} {v v' v'' : LogMemory} (n : ℕ) {most orders version number : ℕ} → Goes a b v v' n
     → Publishes b c v' v'' version number
-    → clean_in v.usage.segments ≤ clean_in v'.usage.segments + segments_for (length v.dirty.blocks)
-    → length v.usage.segments + 8 * segments_for (length v.dirty.blocks) ≤ 8 * (clean_in v.usage.segments + emptied_in v.usage.segments)
+    → clean_in v.usage.segments ≤ clean_in v'.usage.segments + most → IsSparedBy most v
     → v''.chunk.names ≡ [] → v''.dirty.blocks ≡ [] → v''.dirty.capacity ≡ v.dirty.capacity
-    → length b.told + 3 ≤ length a.told + orders_for (length v.dirty.blocks) → length c.told ≤ length b.told + 3
-    → CommitsAll a c v v'' version number
-commits {a} {b} {c} {v} {v'} {v''} n {version} {number} goes done taken spare chunk dirty capacity told more = record {
+    → length b.told + 3 ≤ length a.told + orders → length c.told ≤ length b.told + 3
+    → CommitsIn most orders a c v v'' version number
+commits {a} {b} {c} {v} {v'} {v''} n {most} {orders} {version} {number} goes done taken spare chunk dirty capacity told more = record {
   carries = carries_then goes.carries done.carries;
   memory = done.memory;
   chunk = chunk;
@@ -111,7 +134,7 @@ commits {a} {b} {c} {v} {v'} {v''} n {version} {number} goes done taken spare ch
   told = omega (arith, told, more);
 }
   where
-    gains : clean_in v.usage.segments + emptied_in v.usage.segments ≤ clean_in v''.usage.segments + segments_for (length v.dirty.blocks)
+    gains : clean_in v.usage.segments + emptied_in v.usage.segments ≤ clean_in v''.usage.segments + most
     gains =
         let given = emptied_given done.released in
         let more = emptied_stay goes.segments goes.emptied in

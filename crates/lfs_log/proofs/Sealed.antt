@@ -5,16 +5,18 @@ use Rattle.lfs_model.specs.Crash.{IsFreeSector}
 use Rattle.lfs_model.specs.Device.{DeviceState, MayWriteUnit, CrashWritesUnit, Carries, Elapses, IsLawful, put, left_new}
 use Rattle.lfs_model.specs.Entry.{entries_in, entry_of}
 use Rattle.std.proofs.lemmas.List.{length-map}
+use Rattle.lfs_model.specs.Memory.{Memory}
 use Rattle.lfs_model.specs.Stands.{LogMap}
 use Rattle.lfs_model.specs.Summary.{summary_sector}
 use Rattle.lfs_model.specs.Settled.{IsSettled}
-use Rattle.lfs_model.proofs.Leaving.{closing}
+use Rattle.lfs_model.proofs.Leaving.{closing_to}
 use Rattle.lfs_memory.specs.segments.Chunk.{Chunk, entries_of, room_in}
 use Rattle.lfs_memory.specs.segments.Table.{used_of}
 use Rattle.lfs_memory.specs.inodes.Blocks.{blocks_of}
 use Rattle.lfs_memory.specs.declared.memory.LogMemory.{LogMemory}
 use Rattle.lfs_memory.specs.Memory.{IsMemory, IsMemoryUpTo, IsLog, EndsUnit, Goes, Stops, Quiet, tables_of}
-use Rattle.lfs_memory.proofs.Opened.{closed_segment, closed_chunk, as_chunk, is_open, stays_settled, stays_quiet, taken_free}
+use Rattle.lfs_memory.specs.Moving.{HoldsOn, StaysPut}
+use Rattle.lfs_memory.proofs.Opened.{closed_segment, closed_chunk, as_chunk_to, is_open, is_open_to, stays_settled, stays_quiet, taken_free}
 use Rattle.lfs_memory.proofs.Rooms.{room_none}
 use Rattle.lfs_model.proofs.UnitSizes.{segment_whole}
 use Rattle.lfs_model.proofs.UnitWrites.{to_unit}
@@ -62,23 +64,26 @@ module _ {d d' : DeviceState} {v : LogMemory} (memory : IsMemoryUpTo 63 v) (some
     none : length c.names ≡ 0
     none = ap length ended
 
-    log : (k : CheckpointValue) (m0 m : LogMap) → d'.keeps_model → IsLog d v k m0 m → IsLog d' v' k m0 m
-    log k m0 m keeps is =
+    -- no block moves by that
+    pub seal_stays : HoldsOn d d' v v' StaysPut
+    seal_stays k m0 m keeps is =
         let few : k.segments ≤ 1024 = let e = is.segments in let most = memory.count.most in omega (arith, e, most) in
         let long = length-map v.chunk.names entry_of in
         let used = (memory.opened some).used in
-        let w = closing d d' (blocks_of v.dirty) (tables_of v) k m0 m v.chunk.segment v.chunk.start (entries_of v.chunk)
+        let o = is_open_to is some in
+        let w = closing_to d d' (blocks_of v.dirty) (tables_of v) k m0 m v.chunk.segment v.chunk.start (entries_of v.chunk)
         (summary_sector v.chunk.names) 1024
-        (is_open is some) (omega (arith, long, used))
+        o.0 (omega (arith, long, used))
         (subst (λ (p : ℕ). used_of v.usage v.chunk.segment % 2 ^ p ≡ 0) is.unit ends) spelt
         (record { content = is_put keeps; crash = crash; unit = carries.unit }) few in
-        record {
-          running = as_chunk (sym (closed_segment c none)) (sym (closed_chunk c none)) w;
-          hidden = is.hidden;
-          segments = is.segments;
-          unit = is.unit;
-          tight = is.tight;
-        }
+        let last = as_chunk_to (StaysPut is.running.memory) (sym (closed_segment c none)) (sym (closed_chunk c none))
+        (w.0, λ y. w.1 y ∙ ap (λ (M : Memory). M.at y) o.1) in
+        let done : IsLog d' v' k m0 m =
+        record { running = last.0; hidden = is.hidden; segments = is.segments; unit = is.unit; tight = is.tight } in
+        (done, last.1)
+
+    log : (k : CheckpointValue) (m0 m : LogMap) → d'.keeps_model → IsLog d v k m0 m → IsLog d' v' k m0 m
+    log k m0 m keeps is = (seal_stays k m0 m keeps is).0
 
     pub seal_goes : Goes d d' v v' (room_in v.chunk)
     seal_goes = record {

@@ -18,7 +18,7 @@ use Rattle.lfs_memory.proofs.of_segments.LeastSums.{fewer}
 use Rattle.lfs_log.specs.Relocating.{IsInOrder}
 
 -- ---- the numbers of a table
-numbers : Blocks → List ℕ
+pub numbers : Blocks → List ℕ
 numbers [] = []
 numbers (e ∷ es) = e.0 ∷ numbers es
 
@@ -27,7 +27,7 @@ unfolding numbers
 length_numbers [] = refl
 length_numbers (e ∷ es) = ap suc (length_numbers es)
 
-number_there : (es : Blocks) (c : ℕ) → IsIn (numbers es) c → (i : ℕ) × (i < length es) × (number_at es i ≡ c)
+pub number_there : (es : Blocks) (c : ℕ) → IsIn (numbers es) c → (i : ℕ) × (i < length es) × (number_at es i ≡ c)
 unfolding numbers
 number_there [] c is = absurd is
 number_there (e ∷ es) c is = ⊎_elim
@@ -44,7 +44,7 @@ numbers_apart (e ∷ es) sorted = (
   numbers_apart es (T_right _ _ sorted),
 )
 
-found_in : (es : Blocks) (c : ℕ) {b : List ℕ} → find nat_cmp c es ≡ Some b → IsIn (numbers es) c
+pub found_in : (es : Blocks) (c : ℕ) {b : List ℕ} → find nat_cmp c es ≡ Some b → IsIn (numbers es) c
 unfolding numbers
 found_in [] c found = absurd (cc)
 found_in (e ∷ es) c {b} found = ⊎_elim
@@ -60,7 +60,7 @@ has_or_not None = inr refl
 has_or_not (Some b) = inl (b, refl)
 
 module _ {t : TableValue} (order : IsInOrder t) where
-  formed : (c : ℕ) → IsIn (numbers t.blocks) c → IsCode c
+  pub formed : (c : ℕ) → IsIn (numbers t.blocks) c → IsCode c
   formed c is = let r = number_there _ c is in subst IsCode r.2 (order.codes r.0 r.1)
 
   has_number : (c : ℕ) → IsIn (numbers t.blocks) c → Has t (entry_at c)

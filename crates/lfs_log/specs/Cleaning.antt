@@ -32,6 +32,10 @@ pub record IsCleanable (t : UsageTable) (s : ℕ) : Type 0 where
   pub before : kept_of t s ≡ used_of t s
   pub apart : t.last ≡ Some s → ⊥
 
+-- each such segment still is one, and the chunk doesn't stand there
+abbrev pub StayCleanable : LogMemory → LogMemory → Type 0
+StayCleanable v v' = (s : ℕ) → IsCleanable v.usage s → IsCleanable v'.usage s × (v'.chunk.segment ≡ s → ⊥)
+
 abbrev pub AreCleanable : UsageTable → List ℕ → Type 0
 AreCleanable t vs = (i : ℕ) → i < length vs → IsCleanable t (get_or vs i 0)
 

@@ -5,8 +5,12 @@ pub mod Opening
 pub mod LogState
 pub mod Held
 pub mod Mounting
+pub mod Groups
+pub mod Brought
+pub mod Moving
 pub mod Relocating
 pub mod Cleaning
+pub mod Collecting
 pub mod Telling
 pub mod Placing
 pub mod Early

@@ -1,10 +1,13 @@
 -- What the steps of a commit promise by which blocks get places in the log, and how many orders they give the device.
-use Rattle.std.specs.Prelude.{◌≤◌, ◌+◌, ℕ, Result, OnOk, OnErr}
+use Rattle.std.specs.Prelude.{◌≡◌, ◌≤◌, ◌+◌, ℕ, Result, OnOk, OnErr}
 use Rattle.lfs_device.specs.declared.device.DeviceFault.{DeviceFault}
 use Rattle.lfs_model.specs.Device.{DeviceState}
 use Rattle.lfs_model.specs.declared.limits.TheConstants.{CHUNK_BLOCKS}
 use Rattle.lfs_memory.specs.declared.memory.LogMemory.{LogMemory}
 use Rattle.lfs_memory.specs.Memory.{Goes, GoesUpTo, Stops, room_of}
+use Rattle.lfs_memory.specs.Lifting.{IsInMemory}
+use Rattle.lfs_memory.specs.segments.Table.{kept_of}
+use Rattle.lfs_model.specs.Entry.{Entry}
 use Rattle.lfs_log.specs.Telling.{orders_due}
 
 -- Blocks are saved: so many places went to them at most, and so many orders, with those for summaries that may come.
@@ -30,3 +33,12 @@ pub record WritesNext {T : Type 0} (d d' : DeviceState) (v v' : LogMemory) (resu
   pub stopped : OnErr result (Stops d d' v)
   pub room : room_of v ≤ room_of v' + 1
   pub tells : orders_due d' v' ≤ orders_due d v + 1
+
+-- as many sectors of each segment are kept
+abbrev pub KeepsKept : LogMemory → LogMemory → Type 0
+KeepsKept v v' = (s : ℕ) → kept_of v'.usage s ≡ kept_of v.usage s
+
+-- x isn't in memory any more, and no other block came in
+pub record LeavesMemory (v v' : LogMemory) (x : Entry) : Type 0 where
+  pub gone : IsInMemory v' x → ⊥
+  pub only : (y : Entry) → IsInMemory v' y → IsInMemory v y

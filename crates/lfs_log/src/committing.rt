@@ -4,9 +4,10 @@ ghost use Rattle.std.specs.Prelude.{◌≡◌, ◌<◌, ◌≤◌, ◌+◌, ◌^
 ghost use Rattle.lfs_memory.specs.segments.Table.{clean_in};
 ghost use Rattle.lfs_log.specs.Settling.{AreAnew};
 ghost use Rattle.lfs_memory.specs.Memory.{IsMemory, AreMapsOut, EndsUnit, HoldsVolume, Goes, OnlyPads, PadsChunk, Stops, room_of};
+ghost use Rattle.lfs_memory.specs.Moving.{HoldsOn, StaysPut};
 ghost use Rattle.lfs_log.specs.Publishing.{IsAllOut};
 ghost use Rattle.lfs_log.specs.Versions.{number_of};
-ghost use Rattle.lfs_log.specs.Saving.{CommitsAll, CommitFails, IsSpared, orders_for, segments_for};
+ghost use Rattle.lfs_log.specs.Saving.{CommitsAll, CommitsOpen, CommitFails, CommitFailsOpen, IsSpared, IsSparedBy, orders_open, segments_for, segments_open};
 ghost use Rattle.lfs_log.specs.Placing.{EndsSaving};
 ghost use Rattle.lfs_log.specs.Telling.{orders_due};
 
@@ -61,6 +62,8 @@ pub fn seal_rest<D: SectorDevice>(device: &mut D, memory: &mut LogMemory) -> Res
     ensures done { OnOk result (Goes (D.state device.old) (D.state device.new) memory.old memory.new
         OPEN_CHUNK_BLOCKS) }
     ensures stopped { OnErr result (Stops (D.state device.old) (D.state device.new) memory.old) }
+    ensures stays { OnOk result (HoldsOn (D.state device.old) (D.state device.new)
+        memory.old memory.new StaysPut) }
     ensures only { OnlyPads memory.old memory.new }
     ensures ended { OnOk result (memory.new.chunk.names ≡ []) }
     ensures told { length (D.state device.new).told + clean_in memory.new.usage.segments
@@ -73,16 +76,14 @@ pub fn seal_rest<D: SectorDevice>(device: &mut D, memory: &mut LogMemory) -> Res
     seal(device, memory)
 }
 
-/// Writes all that changed to segments that were clean.
+/// Writes all that changed behind the chunk that has begun, and to segments that were clean.
 fn write_out<D: SectorDevice>(
     device: &mut D,
     memory: &mut LogMemory,
     age: u32,
 ) -> Result<(), DeviceFault>
-    requires clean { segments_for (length memory.old.dirty.blocks)
-        ≤ clean_in memory.old.usage.segments }
-    requires closed { memory.old.chunk.names ≡ [] }
-    requires spare { IsSpared memory.old }
+    requires room { length memory.old.dirty.blocks + TABLE_BLOCKS ≤ room_of memory.old }
+    requires spare { IsSparedBy (segments_open memory.old) memory.old }
     requires memory { IsMemory memory.old }
     requires size { HoldsVolume (D.state device.old) memory.old }
     ensures done { OnOk result (Goes (D.state device.old) (D.state device.new)
@@ -91,9 +92,9 @@ fn write_out<D: SectorDevice>(
     ensures capacity { OnOk result (memory.new.dirty.capacity ≡ memory.old.dirty.capacity) }
     ensures out { OnOk result (IsAllOut memory.new) }
     ensures taken { clean_in memory.old.usage.segments
-        ≤ clean_in memory.new.usage.segments + segments_for (length memory.old.dirty.blocks) }
+        ≤ clean_in memory.new.usage.segments + segments_open memory.old }
     ensures told { length (D.state device.new).told + 3
-        ≤ length (D.state device.old).told + orders_for (length memory.old.dirty.blocks) }
+        ≤ length (D.state device.old).told + orders_open memory.old }
 {
     place_all(device, memory, age)?;
     seal_rest(device, memory)?;
@@ -101,9 +102,38 @@ fn write_out<D: SectorDevice>(
     Ok(())
 }
 
-/// Saves all that memory holds, but for files without a name: blocks to clean segments, a sync, the
-/// next checkpoint after the one of this number to its slot, a sync. No more segments are taken for
-/// it than its blocks want, and those that were emptied are clean then.
+/// Saves all that memory holds, but for files without a name: blocks behind the chunk that has
+/// begun and to clean segments, a sync, the next checkpoint after the one of this number to its
+/// slot, a sync. No more segments are taken for it than its blocks want with that chunk, and those
+/// that were emptied are clean then.
+///
+/// # Errors
+///
+/// The device's fault: a stop leaves what was acknowledged or what was to be saved.
+pub fn save_open<D: SectorDevice>(
+    device: &mut D,
+    memory: &mut LogMemory,
+    version: LayoutVersion,
+    number: u64,
+) -> Result<(), DeviceFault>
+    requires number { number < 2 ^ 64 - 1 }
+    requires room { length memory.old.dirty.blocks + TABLE_BLOCKS ≤ room_of memory.old }
+    requires spare { IsSparedBy (segments_open memory.old) memory.old }
+    requires memory { IsMemory memory.old }
+    requires size { HoldsVolume (D.state device.old) memory.old }
+    ensures done { OnOk result (CommitsOpen (D.state device.old) (D.state device.new) memory.old
+        memory.new (number_of version) number) }
+    ensures stopped { OnErr result (CommitFailsOpen (D.state device.old) (D.state device.new)
+        memory.old (number_of version) number) }
+{
+    let age = u32::try_from(number + 1).unwrap_or(u32::MAX);
+    write_out(device, memory, age)?;
+    publish(device, memory, version, number)?;
+    Ok(())
+}
+
+/// The same where no chunk has begun: blocks go to clean segments, and no more of these are taken
+/// for it than its blocks want.
 ///
 /// # Errors
 ///
@@ -126,8 +156,5 @@ pub fn save<D: SectorDevice>(
     ensures stopped { OnErr result (CommitFails (D.state device.old) (D.state device.new) memory.old
         (number_of version) number) }
 {
-    let age = u32::try_from(number + 1).unwrap_or(u32::MAX);
-    write_out(device, memory, age)?;
-    publish(device, memory, version, number)?;
-    Ok(())
+    save_open(device, memory, version, number)
 }

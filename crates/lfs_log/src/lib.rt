@@ -2,11 +2,14 @@
 #![tactic(auto)]
 
 pub mod cleaning;
+pub mod collecting;
 pub mod committing;
 pub mod early;
+pub mod groups;
 mod layout_version;
 mod log;
 pub mod mapping;
+pub mod moving;
 pub mod opening;
 pub mod placing;
 pub mod publishing;

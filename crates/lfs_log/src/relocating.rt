@@ -1,5 +1,5 @@
 //! The blocks of segments come into memory, so that the next commit writes them elsewhere.
-ghost use Rattle.std.specs.Prelude.{◌≡◌, ◌<◌, ◌≤◌, ◌⊎◌, ◌+◌, ◌*◌, [], true, false, None, length, OnOk, OnErr, IsErrOf};
+ghost use Rattle.std.specs.Prelude.{◌≡◌, ◌<◌, ◌≤◌, ◌⊎◌, ◌+◌, ◌*◌, [], true, false, None, length, OnOk, OnErr, IfOk, IsErrOf, IsTrue, IsFalse};
 ghost use Rattle.lfs_model.specs.Content.{block};
 ghost use Rattle.lfs_model.specs.Device.{cell_at};
 ghost use Rattle.lfs_model.specs.Entry as entry;
@@ -8,6 +8,7 @@ ghost use Rattle.lfs_model.specs.Reach.{segment_start};
 ghost use Rattle.lfs_model.specs.Summary.{FitsSummary, IsPlaced};
 ghost use Rattle.lfs_memory.specs.Lifting.{IsCountedAbove, IsInMemory, IsMapLost, MapLifts};
 ghost use Rattle.lfs_memory.specs.Memory.{HoldsVolume, IsMemory};
+ghost use Rattle.lfs_memory.specs.Moving.{MovesIn};
 ghost use Rattle.lfs_memory.specs.Present.{Looks};
 ghost use Rattle.lfs_memory.specs.inodes.Key.{entry_of};
 ghost use Rattle.lfs_memory.specs.inodes.MapValue.{block_in};
@@ -39,7 +40,7 @@ pub fn are_in_order(memory: &LogMemory)
 /// # Errors
 ///
 /// As those of `lift`.
-fn bring_inode<D: SectorDevice>(
+pub(crate) fn bring_inode<D: SectorDevice>(
     device: &mut CachedDevice<D>,
     memory: &mut LogMemory,
     key: BlockKey,
@@ -50,6 +51,13 @@ fn bring_inode<D: SectorDevice>(
         (entry_of key) result }
     ensures came { BringsOne memory.old memory.new (entry_of key) }
     ensures lacks { IsErrOf result LiftFault.Full → IsInMemory memory.new (entry_of key) → ⊥ }
+    ensures comes { IfOk result (λ found. IsTrue found → (memory.new ≡ memory.old)
+        ⊎ MovesIn (D.state device.old) (D.state device.new) memory.old memory.new
+        (entry_of key)) }
+    ensures last { memory.new.usage.last ≡ memory.old.usage.last }
+    ensures more { length memory.new.dirty.blocks ≤ length memory.old.dirty.blocks + 1 }
+    ensures same { IfOk result (λ found. IsFalse found → memory.new ≡ memory.old) }
+    ensures kept { OnErr result (memory.new.dirty ≡ memory.old.dirty) }
 {
     if has_block(memory, key) {
         return Ok(true);
@@ -71,7 +79,7 @@ fn bring_inode<D: SectorDevice>(
 /// # Errors
 ///
 /// As those of `lift`.
-fn bring_child<D: SectorDevice>(
+pub(crate) fn bring_child<D: SectorDevice>(
     device: &mut CachedDevice<D>,
     memory: &mut LogMemory,
     key: BlockKey,
@@ -83,6 +91,13 @@ fn bring_child<D: SectorDevice>(
         (entry_of key) result }
     ensures came { BringsOne memory.old memory.new (entry_of key) }
     ensures lacks { IsErrOf result LiftFault.Full → IsInMemory memory.new (entry_of key) → ⊥ }
+    ensures comes { IfOk result (λ found. IsTrue found → (memory.new ≡ memory.old)
+        ⊎ MovesIn (D.state device.old) (D.state device.new) memory.old memory.new
+        (entry_of key)) }
+    ensures last { memory.new.usage.last ≡ memory.old.usage.last }
+    ensures more { length memory.new.dirty.blocks ≤ length memory.old.dirty.blocks + 1 }
+    ensures same { IfOk result (λ found. IsFalse found → memory.new ≡ memory.old) }
+    ensures kept { OnErr result (memory.new.dirty ≡ memory.old.dirty) }
 {
     if has_block(memory, key) {
         return Ok(true);
@@ -163,7 +178,11 @@ fn relocate_file_block<D: SectorDevice>(
 /// # Errors
 ///
 /// Where it isn't counted there.
-fn relocate_map(memory: &mut LogMemory, index: u32, address: u32) -> Result<(), DeviceFault>
+pub(crate) fn relocate_map(
+    memory: &mut LogMemory,
+    index: u32,
+    address: u32,
+) -> Result<(), DeviceFault>
     requires index { index < MAP_BLOCKS }
     requires above { CHECKPOINT_SLOTS ≤ address }
     ensures done { OnOk result ((memory.new ≡ memory.old) ⊎ MapLifts memory.old memory.new index) }
@@ -203,7 +222,11 @@ fn leave_usage(usage: &mut Usage, index: u32, address: u32) -> Result<(), Device
 /// # Errors
 ///
 /// Where it isn't counted there.
-fn relocate_usage(memory: &mut LogMemory, index: u32, address: u32) -> Result<(), DeviceFault>
+pub(crate) fn relocate_usage(
+    memory: &mut LogMemory,
+    index: u32,
+    address: u32,
+) -> Result<(), DeviceFault>
     requires index { index < USAGE_BLOCKS }
     requires above { CHECKPOINT_SLOTS ≤ address }
     ensures done { OnOk result ((memory.new ≡ memory.old)
@@ -221,7 +244,7 @@ fn relocate_usage(memory: &mut LogMemory, index: u32, address: u32) -> Result<()
 
 /// The key of a block of a file.
 #[tactic(auto, unfolding(lfs_model::specs::Summary::IsPlaced))]
-fn key_of(name: BlockName) -> BlockKey
+pub(crate) fn key_of(name: BlockName) -> BlockKey
     requires placed { IsPlaced name.kind name.file name.index }
     requires file { 1 ≤ name.file }
     ensures { entry_of result ≡ entry.entry_of name }
@@ -299,7 +322,7 @@ fn relocate_chunk<D: SectorDevice>(
 /// # Errors
 ///
 /// Where it can't be read, or a call of the device failed.
-fn read_sector<D: SectorDevice>(
+pub(crate) fn read_sector<D: SectorDevice>(
     device: &mut CachedDevice<D>,
     address: u32,
     out: &mut [u8; 512],

@@ -9,10 +9,10 @@ use Rattle.lfs_model.specs.Device.{DeviceState}
 use Rattle.lfs_model.specs.Entry.{Entry, Data, Leaf, Double, Inode, Map, Usage, entry_of}
 use Rattle.lfs_model.specs.Stands.{LogMap}
 use Rattle.lfs_model.specs.Summary.{BlockNameValue}
-use Rattle.lfs_model.specs.Memory.{is_shown}
+use Rattle.lfs_model.specs.Memory.{Memory, is_shown}
 use Rattle.lfs_model.specs.Running.{Tables, Running, IsAddressed, IsNoted, IsTakenFrom, GoesOnIn}
 use Rattle.lfs_model.specs.Committing.{place_of}
-use Rattle.lfs_model.proofs.Leaving.{beginning, going_on}
+use Rattle.lfs_model.proofs.Leaving.{beginning_to, going_on_to}
 use Rattle.lfs_segments.specs.Table.{UsageTable, used_of, stale_of}
 use Rattle.lfs_segments.specs.Chunk.{entries_of}
 use Rattle.lfs_segments.specs.Steps.{TakesSegment, GoesOn}
@@ -23,7 +23,7 @@ use Rattle.lfs_inodes.specs.Blocks.{Capacity, TableValue, blocks_of}
 use Rattle.lfs_inodes.specs.MapValue.{MapValue}
 use Rattle.lfs_memory.specs.declared.memory.LogMemory.{LogMemory}
 use Rattle.lfs_memory.specs.Memory.{IsMemory, IsMemoryUpTo, IsLog, Places, tables_by, segment_in, chunk_in}
-use Rattle.lfs_memory.proofs.Opened.{is_open, is_closed, as_chunk, open_segment, open_chunk, taken_free}
+use Rattle.lfs_memory.proofs.Opened.{is_open_to, is_closed_to, as_chunk_to, open_segment, open_chunk, taken_free}
 use Rattle.lfs_memory.proofs.Stales.{stays_stale}
 
 pub zero_or_more : (n : ℕ) → (n ≡ 0) ⊎ (0 < n)
@@ -163,25 +163,38 @@ module _ {v v' : LogMemory} {name : BlockNameValue} {lives : Bool} {age place : 
       (stays_emptied v'.usage middle).1 v'.chunk.segment lives p.noted unkept
 
   module _ {d : DeviceState} {k : CheckpointValue} {m0 m : LogMap} (is : IsLog d v k m0 m) where
-    pub begun : Running d (blocks_of v.dirty) before k m0 m v'.chunk.segment (Some (entries_of v.chunk))
-    begun = ⊎_elim first more (zero_or_more (length v.chunk.names))
+    -- and each block stands where it stood
+    abbrev pub StaysSo : Memory → Type 0
+    StaysSo M = (y : Entry) → M.at y ≡ is.running.memory.at y
+
+    pub begun_to : (w : Running d (blocks_of v.dirty) before k m0 m v'.chunk.segment (Some (entries_of v.chunk))) × StaysSo w.memory
+    begun_to = ⊎_elim first more (zero_or_more (length v.chunk.names))
       where
-        first : length v.chunk.names ≡ 0 → Running d (blocks_of v.dirty) before k m0 m v'.chunk.segment (Some (entries_of v.chunk))
+        first : length v.chunk.names ≡ 0
+            → (w : Running d (blocks_of v.dirty) before k m0 m v'.chunk.segment (Some (entries_of v.chunk))) × StaysSo w.memory
         first none =
-            as_chunk {b = v'.chunk.segment} refl (ap Some (sym (no_entries v.chunk.names none))) (elim (p.begun none) [
+            let c = is_closed_to is none in
+            let same : StaysSo c.0.memory = λ y. ap (λ (M : Memory). M.at y) c.1 in
+            as_chunk_to {b = v'.chunk.segment} StaysSo refl (ap Some (sym (no_entries v.chunk.names none))) (elim (p.begun none) [
               | inl t ↦
-                  beginning d _ _ before k m0 m 1024 v'.chunk.segment (is_closed is none)
-                  (omega arith) (taken_tables v.map age t)
+                  let n = beginning_to d _ _ before k m0 m 1024 v'.chunk.segment c.0
+                  (omega arith) (taken_tables v.map age t) in
+                  (n.0, λ y. n.1 y ∙ same y)
               | inr g ↦
-                  going_on d _ _ before k m0 m 1024 v'.chunk.segment (is_closed is none)
-                  (omega arith) (gone_tables v.map age g)
+                  let n = going_on_to d _ _ before k m0 m 1024 v'.chunk.segment c.0
+                  (omega arith) (gone_tables v.map age g) in
+                  (n.0, λ y. n.1 y ∙ same y)
             ])
 
-        more : 0 < length v.chunk.names → Running d (blocks_of v.dirty) before k m0 m v'.chunk.segment (Some (entries_of v.chunk))
+        more : 0 < length v.chunk.names
+            → (w : Running d (blocks_of v.dirty) before k m0 m v'.chunk.segment (Some (entries_of v.chunk))) × StaysSo w.memory
         more some =
             let w = p.went_on some in
-            rw w.0 (as_chunk
-            {y = Some (entries_of v.chunk)} (sym w.1) refl (is_open is some))
+            let o = is_open_to is some in
+            rw w.0 (as_chunk_to {y = Some (entries_of v.chunk)} StaysSo (sym w.1) refl (o.0, λ y. ap (λ (M : Memory). M.at y) o.1))
+
+    pub begun : Running d (blocks_of v.dirty) before k m0 m v'.chunk.segment (Some (entries_of v.chunk))
+    begun = begun_to.0
 
     -- the place may be written
     pub free_place : IsFreeSector d.content k place

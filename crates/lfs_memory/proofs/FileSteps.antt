@@ -4,15 +4,16 @@ use Rattle.std.proofs.Common.{subst, arith}
 use Rattle.std.specs.Prelude.{get_or}
 use Rattle.lfs_model.specs.Committing.{IsWritten, place_of}
 use Rattle.lfs_model.specs.Checkpoint.{CheckpointValue}
+use Rattle.lfs_model.specs.Counting.{segment_of}
 use Rattle.lfs_model.specs.Device.{DeviceState, MayWriteUnit, CrashWritesUnit, Carries, Elapses, IsLawful, put, left_new}
 use Rattle.lfs_model.specs.Entry.{Entry, Data, Leaf, Double, Inode, Map, Usage, entry_of, entry_by}
 use Rattle.lfs_model.specs.Stands.{LogMap}
 use Rattle.lfs_model.specs.Summary.{BlockNameValue}
-use Rattle.lfs_model.specs.Memory.{parent, file_of, is_shown, is_nameless}
+use Rattle.lfs_model.specs.Memory.{Memory, parent, file_of, is_shown, is_nameless}
 use Rattle.lfs_model.specs.Running.{IsAddressed, IsLowest, Moves}
 use Rattle.lfs_model.specs.Settled.{IsSettled}
 use Rattle.lfs_model.proofs.Entries.{data_below, leaf_below, double_below}
-use Rattle.lfs_model.proofs.Stepping.{stepping, stepping_tight}
+use Rattle.lfs_model.proofs.Stepping.{stepping_to, stepping_tight}
 use Rattle.lfs_inodes.specs.Blocks.{TableValue, blocks_of}
 use Rattle.lfs_inodes.specs.Code.{kind_by}
 use Rattle.lfs_inodes.specs.MapValue.{MapValue, is_hidden_in}
@@ -20,10 +21,11 @@ use Rattle.lfs_segments.specs.Chunk.{Chunk, entries_of}
 use Rattle.lfs_segments.specs.Table.{UsageTable}
 use Rattle.lfs_memory.specs.declared.memory.LogMemory.{LogMemory}
 use Rattle.lfs_memory.specs.Memory.{IsMemory, IsLog, IsPointedAt, Places, GoesUpTo, Quiet, Stops, tables_by}
-use Rattle.lfs_memory.proofs.Begun.{before, begun, noted, place_is, room_left, opened_after, segment_after, segments_same, unit_same}
+use Rattle.lfs_memory.proofs.Begun.{before, begun_to, noted, place_is, room_left, opened_after, segment_after, segments_same, unit_same}
 use Rattle.lfs_memory.proofs.Begun.{memory_after}
 use Rattle.lfs_memory.proofs.Begun.{free_place, placed_emptied}
-use Rattle.lfs_memory.proofs.Opened.{as_chunk, stays_settled, stays_quiet}
+use Rattle.lfs_memory.specs.Moving.{GoesOut, MovesOut}
+use Rattle.lfs_memory.proofs.Opened.{as_chunk_to, stays_settled, stays_quiet}
 use Rattle.lfs_memory.proofs.Rooms.{takes_place}
 use Rattle.lfs_model.proofs.UnitWrites.{to_unit}
 
@@ -89,26 +91,43 @@ module _ {v v' : LogMemory} {name : BlockNameValue} {lives : Bool} {age place : 
     module _ (is_put : d'.keeps_model → d'.content ≡ put d.content place bytes) (named : entry_of name ≡ x)
         (low : IsLowest (blocks_of v.dirty) x) (there : blocks_of v.dirty x ≡ Some bytes)
         (moves : Moves (blocks_of v.dirty) (blocks_of dirty') x place) (few : f < 4096) (hides : lives ≡ not (is_hidden_in v.map f)) where
-      log : (k : CheckpointValue) (m0 m : LogMap) → d'.keeps_model → IsLog d v k m0 m → IsLog d' after k m0 m
-      log k m0 m keeps is =
+      -- x goes out, to this segment
+      pub file_moves : MovesOut d d' v after x
+      file_moves k m0 m keeps is =
           let same_place = place_is memory p in
           let es = entries_of v.chunk in
-          let running = begun memory p is in
+          let begins = begun_to memory p is in
+          let running = begins.0 in
           let moved : Moves (blocks_of v.dirty) (blocks_of dirty') x (place_of (before memory p)
           v'.chunk.segment) = rw same_place at moves in
-          let next = stepping d d' (blocks_of v.dirty) _ (before memory p)
+          let next = stepping_to d d' (blocks_of v.dirty) _ (before memory p)
           (tables_by map' v'.usage) k m0 m v'.chunk.segment es x bytes running (room_left memory p) low there (is.tight x bytes there)
           (subst (λ (n : ℕ). IsWritten d d' n bytes) same_place (record { content = is_put keeps; crash = crash; unit = carries.unit }))
           moved (noted memory p is map' (hides ∙ shows m x f (is_hidden_in v.map f) of_file (is.hidden f few)) addressed) in
-          record {
-            running = as_chunk (sym (segment_after memory p))
-                (sym (opened_after memory p ∙ ap (λ (e : Entry). Some (es ++ e ∷ [])) named)) next;
+          let room = room_left memory p in
+          let Out : Memory → Type 0 = λ (M : Memory). GoesOut is.running.memory M x × (segment_of (M.at x) ≡ v'.chunk.segment) in
+          let out : Out next.0.memory = (
+            record {
+              was = sym (begins.1 x) ∙ next.1.0;
+              now = let at = next.1.1 in omega (arith, at);
+              others = λ y ne. next.1.2 y ne ∙ begins.1 y;
+            },
+            let at = next.1.1 in omega (arith, at, room),
+          ) in
+          let last = as_chunk_to Out (sym (segment_after memory p))
+          (sym (opened_after memory p ∙ ap (λ (e : Entry). Some (es ++ e ∷ [])) named)) (next.0, out) in
+          let done : IsLog d' after k m0 m = record {
+            running = last.0;
             hidden = λ n lt. is.hidden n lt ∙ ap (λ (l : List Bool). get_or l n false) (sym points.hidden);
             segments = segments_same memory p ∙ is.segments;
             unit = unit_same memory p ∙ is.unit;
             tight = stepping_tight d _ _ (before memory p) k m0 m
                 v'.chunk.segment es x bytes running (room_left memory p) there moved is.tight;
-          }
+          } in
+          (done, last.1)
+
+      log : (k : CheckpointValue) (m0 m : LogMap) → d'.keeps_model → IsLog d v k m0 m → IsLog d' after k m0 m
+      log k m0 m keeps is = (file_moves k m0 m keeps is).0
 
       pub file_goes : dirty'.capacity ≡ v.dirty.capacity → d'.failures ≡ d.failures → GoesUpTo 63 d d' v after 1
       file_goes capacity no_failure = record {
@@ -131,4 +150,12 @@ pub goes_to : (most : ℕ) {d d' : DeviceState} {v : LogMemory} (w : LogMemory) 
 goes_to most {d} {d'} {v} w {usage} {dirty} {chunk} n u t c goes =
     subst (λ (x : Chunk). GoesUpTo most d d' v (record { map = w.map; usage = w.usage; dirty = w.dirty; chunk = x }) n) (sym c)
     (subst (λ (x : TableValue). GoesUpTo most d d' v (record { map = w.map; usage = w.usage; dirty = x; chunk = chunk }) n) (sym t)
+    (rw u goes))
+
+pub moves_to : {d d' : DeviceState} {v : LogMemory} (w : LogMemory) {usage : UsageTable} {dirty : TableValue} {chunk : Chunk} (x : Entry)
+    → w.usage ≡ usage → w.dirty ≡ dirty → w.chunk ≡ chunk
+    → MovesOut d d' v (record { map = w.map; usage = usage; dirty = dirty; chunk = chunk }) x → MovesOut d d' v w x
+moves_to {d} {d'} {v} w {usage} {dirty} {chunk} x u t c goes =
+    subst (λ (y : Chunk). MovesOut d d' v (record { map = w.map; usage = w.usage; dirty = w.dirty; chunk = y }) x) (sym c)
+    (subst (λ (y : TableValue). MovesOut d d' v (record { map = w.map; usage = w.usage; dirty = y; chunk = chunk }) x) (sym t)
     (rw u goes))

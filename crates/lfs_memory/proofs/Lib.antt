@@ -11,6 +11,7 @@ pub mod Lifted
 pub mod Lent
 pub mod LiftedKeys
 pub mod Gathered
+pub mod Moved
 pub mod LogMaps
 pub mod Keys
 pub mod Looses
@@ -31,6 +32,8 @@ pub mod Unlinked
 pub mod Staged
 pub mod SegmentsTaken
 pub mod Pressed
+pub mod Elsewhere
+pub mod Spared
 pub use Rattle.lfs_segments.proofs as of_segments
 pub use Rattle.lfs_inodes.proofs as of_inodes
 pub mod Versions

@@ -5,6 +5,7 @@ use Rattle.lfs_model.specs.Content.{Content}
 use Rattle.lfs_model.specs.Crash.{IsFreeSector, StandsOn}
 use Rattle.lfs_model.specs.Device.{DeviceState, MayWriteUnit, CrashWritesUnit, Carries, Elapses, IsLawful, LeavesOnly}
 use Rattle.lfs_model.specs.Entry.{Entry}
+use Rattle.lfs_model.specs.Memory.{Memory}
 use Rattle.lfs_model.specs.Stands.{LogMap}
 use Rattle.lfs_model.specs.Running.{Dirty, Tables, Running}
 use Rattle.lfs_model.specs.Settled.{IsSettled}
@@ -34,12 +35,32 @@ pub as_chunk : {d : DeviceState} {dirty : Dirty} {t : Tables} {k : CheckpointVal
 as_chunk {d} {dirty} {t} {k} {m0} {m} {b} s c w =
     subst (λ (o : Option (List Entry)). Running d dirty t k m0 m b o) c (rw s at w)
 
+-- and what is known of its memory
+pub as_chunk_to : {d : DeviceState} {dirty : Dirty} {t : Tables} {k : CheckpointValue} {m0 m : LogMap} {a b : ℕ} {x y : Option (List Entry)}
+    (P : Memory → Type 0)
+    → a ≡ b → x ≡ y → (w : Running d dirty t k m0 m a x) × P w.memory → (w : Running d dirty t k m0 m b y) × P w.memory
+as_chunk_to {d} {dirty} {t} {k} {m0} {m} {b = b} {x} P s c w =
+    subst (λ (o : Option (List Entry)). (w : Running d dirty t k m0 m b o) × P w.memory) c
+    (subst (λ (n : ℕ). (w : Running d dirty t k m0 m n x) × P w.memory) s w)
+
 module _ {d : DeviceState} {v : LogMemory} {k : CheckpointValue} {m0 m : LogMap} (is : IsLog d v k m0 m) where
   pub is_open : 0 < length v.chunk.names → Running d (blocks_of v.dirty) (tables_of v) k m0 m v.chunk.segment (Some (entries_of v.chunk))
   is_open some = as_chunk (open_segment v.chunk some) (open_chunk v.chunk some) is.running
 
   pub is_closed : length v.chunk.names ≡ 0 → Running d (blocks_of v.dirty) (tables_of v) k m0 m 1024 None
   is_closed none = as_chunk (closed_segment v.chunk none) (closed_chunk v.chunk none) is.running
+
+  -- with the same memory
+  abbrev pub IsSameLog : ℕ → Option (List Entry) → Type 0
+  IsSameLog seg chunk = (w : Running d (blocks_of v.dirty) (tables_of v) k m0 m seg chunk) × (w.memory ≡ is.running.memory)
+
+  pub is_open_to : 0 < length v.chunk.names → IsSameLog v.chunk.segment (Some (entries_of v.chunk))
+  is_open_to some = as_chunk_to (λ (M : Memory). M ≡ is.running.memory) (open_segment v.chunk some) (open_chunk v.chunk some)
+      (is.running, refl)
+
+  pub is_closed_to : length v.chunk.names ≡ 0 → IsSameLog 1024 None
+  is_closed_to none = as_chunk_to (λ (M : Memory). M ≡ is.running.memory) (closed_segment v.chunk none) (closed_chunk v.chunk none)
+      (is.running, refl)
 
 -- a write to a free sector, done or failed
 module _ {d d' : DeviceState} {k : CheckpointValue} (m0 : LogMap) (at : ℕ) (bytes : List ℕ) (settled : IsSettled d k m0)

@@ -5,9 +5,10 @@ use Rattle.std.proofs.lemmas.List.{map-append}
 use Rattle.lfs_model.specs.Checkpoint.{CheckpointValue, IsSegmentCount}
 use Rattle.lfs_model.specs.Device.{DeviceState}
 use Rattle.lfs_model.specs.Entry.{Entry, entry_of}
-use Rattle.lfs_model.specs.Running.{IsPadded}
+use Rattle.lfs_model.specs.Memory.{Memory}
+use Rattle.lfs_model.specs.Running.{IsPadded, Running}
 use Rattle.lfs_model.specs.Stands.{LogMap}
-use Rattle.lfs_model.proofs.Padding.{padding_chunk}
+use Rattle.lfs_model.proofs.Padding.{padding_to}
 use Rattle.lfs_model.proofs.UnitSizes.{filled_up}
 use Rattle.lfs_segments.specs.Chunk.{entries_of, usage_name}
 use Rattle.lfs_segments.specs.Table.{used_of}
@@ -16,9 +17,10 @@ use Rattle.lfs_segments.proofs.StaysEmptied.{padded_emptied}
 use Rattle.lfs_segments.specs.Emptied.{IsEmptied}
 use Rattle.lfs_inodes.specs.Blocks.{TableValue, blocks_of}
 use Rattle.lfs_memory.specs.declared.memory.LogMemory.{LogMemory}
-use Rattle.lfs_memory.specs.Memory.{IsMemoryUpTo, IsLog, OnlyPads, PadsChunk, PadsOnce, chunk_in, tables_by, tables_of}
+use Rattle.lfs_memory.specs.Memory.{IsMemoryUpTo, IsLog, OnlyPads, PadsChunk, PadsOnce, chunk_in, segment_in, tables_by, tables_of}
+use Rattle.lfs_memory.specs.Moving.{StaysPut}
 use Rattle.lfs_memory.proofs.Looses.{tops_same}
-use Rattle.lfs_memory.proofs.Opened.{as_chunk, is_open, open_chunk, open_segment}
+use Rattle.lfs_memory.proofs.Opened.{as_chunk_to, is_open_to, open_chunk, open_segment}
 
 module _ {v v' : LogMemory} (memory : IsMemoryUpTo 63 v) (go : PadsOnce v v') where
   long : length v'.chunk.names ≡ suc (length v.chunk.names)
@@ -42,17 +44,26 @@ module _ {v v' : LogMemory} (memory : IsMemoryUpTo 63 v) (go : PadsOnce v v') wh
   chunk_now = open_chunk v'.chunk more ∙ ap Some (ap (map entry_of) go.names
       ∙ map-append entry_of v.chunk.names (usage_name (v.chunk.segment / 64) ∷ []))
 
-  padded_log : (d : DeviceState) (k : CheckpointValue) (m0 m : LogMap) → IsLog d v k m0 m → IsLog d v' k m0 m
-  padded_log d k m0 m is =
-      let w = padding_chunk d (blocks_of v.dirty) (tables_of v) (tables_by v.map v'.usage) k m0 m v.chunk.segment (entries_of v.chunk)
-      (entry_of (usage_name (v.chunk.segment / 64))) (is_open is go.some) go.room is_padded in
-      record {
-        running = rw (go.map, go.dirty) (as_chunk (sym (open_segment v'.chunk more ∙ go.place.segment)) (sym chunk_now) w);
+  -- and no block moves
+  padded_stays : (d : DeviceState) (k : CheckpointValue) (m0 m : LogMap) (is : IsLog d v k m0 m)
+      → (is' : IsLog d v' k m0 m) × StaysPut is.running.memory is'.running.memory
+  padded_stays d k m0 m is =
+      let o = is_open_to is go.some in
+      let w = padding_to d (blocks_of v.dirty) (tables_of v) (tables_by v.map v'.usage) k m0 m v.chunk.segment (entries_of v.chunk)
+      (entry_of (usage_name (v.chunk.segment / 64))) o.0 go.room is_padded in
+      let Same : Memory → Type 0 = StaysPut is.running.memory in
+      let next = as_chunk_to Same (sym (open_segment v'.chunk more ∙ go.place.segment)) (sym chunk_now)
+      (w.0, λ y. w.1 y ∙ ap (λ (M : Memory). M.at y) o.1) in
+      let last : (w' : Running d (blocks_of v'.dirty) (tables_of v') k m0 m (segment_in v'.chunk) (chunk_in v'.chunk)) × Same w'.memory =
+      rw (go.map, go.dirty) next in
+      let done : IsLog d v' k m0 m = record {
+        running = last.0;
         hidden = rw go.map is.hidden;
         segments = go.pads.size ∙ is.segments;
         unit = go.pads.unit ∙ is.unit;
         tight = rw go.dirty is.tight;
-      }
+      } in
+      (done, last.1)
 
   padded_only : OnlyPads v v'
   padded_only = record {
@@ -133,11 +144,14 @@ pads_begun PadsChunk.nothing some = some
 pads_begun (PadsChunk.more w v' before one) some =
     let long = ap length one.names ∙ length-append w.chunk.names (usage_name (w.chunk.segment / 64) ∷ []) in omega (arith, long)
 
-pub pads_log : {v v' : LogMemory} → PadsChunk v v' → IsMemoryUpTo 63 v → (d : DeviceState) (k : CheckpointValue) (m0 m : LogMap)
-    → IsLog d v k m0 m → IsLog d v' k m0 m
-pads_log PadsChunk.nothing memory d k m0 m is = is
-pads_log (PadsChunk.more w v' before one) memory d k m0 m is =
-    padded_log (pads_memory before memory) one d k m0 m (pads_log before memory d k m0 m is)
+pub pads_stays : {v v' : LogMemory} → PadsChunk v v' → IsMemoryUpTo 63 v
+    → (d : DeviceState) (k : CheckpointValue) (m0 m : LogMap) (is : IsLog d v k m0 m)
+    → (is' : IsLog d v' k m0 m) × StaysPut is.running.memory is'.running.memory
+pads_stays PadsChunk.nothing memory d k m0 m is = (is, λ y. refl)
+pads_stays (PadsChunk.more w v' before one) memory d k m0 m is =
+    let first = pads_stays before memory d k m0 m is in
+    let second = padded_stays (pads_memory before memory) one d k m0 m first.0 in
+    (second.0, λ y. second.1 y ∙ first.1 y)
 
 -- what a part in use lacks of whole units
 pub lacks : {p used unit rest : ℕ} → p ≤ 6 → unit ≡ 2 ^ p → rest ≡ used % unit → (rest ≡ 0 → ⊥)

@@ -3,6 +3,7 @@ pub mod Memory
 pub mod Present
 pub mod Pointers
 pub mod Lifting
+pub mod Moving
 pub mod Changing
 pub mod Counting
 pub mod Removing

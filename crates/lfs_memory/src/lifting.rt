@@ -8,6 +8,7 @@ ghost use Rattle.lfs_inodes.specs.Key.{entry_of};
 ghost use Rattle.lfs_inodes.specs.Blocks.{blocks_of};
 ghost use Rattle.lfs_inodes.specs.MapValue.{address_in, is_hidden_in, block_in};
 ghost use Rattle.lfs_memory.specs.Memory.{IsMemory, tables_of};
+ghost use Rattle.lfs_memory.specs.Moving.{MovesIn};
 ghost use Rattle.lfs_memory.specs.Lifting.{EndsLifting, IsInMemory, Prepares, Gathers, IsCountedAbove, Brings, MapLifts, IsMapLost, IsAbsent};
 
 use crate::changing::pointer_to;
@@ -51,6 +52,7 @@ pub fn lift_map(memory: &mut LogMemory, index: usize) -> Result<(), DeviceFault>
     ensures done { OnOk result (MapLifts memory.old memory.new index) }
     ensures same { OnErr result (memory.new ≡ memory.old) }
     ensures lost { OnErr result (IsMapLost memory.old index) }
+    ensures last { memory.new.usage.last ≡ memory.old.usage.last }
 {
     let address = memory.map.block_address(index);
     if address == IN_MEMORY {
@@ -81,6 +83,7 @@ pub(crate) fn lift_map_of(memory: &mut LogMemory, number: u16) -> Result<(), Dev
     ensures dirty { OnOk result (memory.new.dirty ≡ memory.old.dirty) }
     ensures same { OnErr result (memory.new ≡ memory.old) }
     ensures lost { OnErr result (IsMapLost memory.old (number / BLOCK_FILES)) }
+    ensures last { memory.new.usage.last ≡ memory.old.usage.last }
 {
     if memory.map.is_hidden(number) {
         return Ok(());
@@ -143,10 +146,13 @@ pub fn lift<D: SectorDevice>(
         → block_in memory.old.map (n / BLOCK_FILES) ≡ 1 }
     ensures prepares { Prepares (D.state device.old) (D.state device.new) memory.old memory.new 1 }
     ensures gathers { Gathers (D.state device.old) (D.state device.new) memory.old memory.new }
+    ensures comes { OnOk result (MovesIn (D.state device.old) (D.state device.new)
+        memory.old memory.new (entry_of key)) }
     ensures inside { OnOk result (IsInMemory memory.new (entry_of key)) }
     ensures same { OnErr result (memory.new ≡ memory.old) }
     ensures ends { EndsLifting (D.state device.old) (D.state device.new) memory.old memory.new
         result }
+    ensures last { memory.new.usage.last ≡ memory.old.usage.last }
 {
     if memory.dirty.len() >= memory.dirty.capacity() {
         return Err(LiftFault::Full);
@@ -191,6 +197,9 @@ pub fn lift_inode<D: SectorDevice>(
     ensures gathers { Gathers (D.state device.old) (D.state device.new) memory.old memory.new }
     ensures inside { IfOk result (λ found. IsTrue found
         → (1 ≤ number) × IsInMemory memory.new (Inode number)) }
+    ensures comes { IfOk result (λ found. IsTrue found → (memory.new ≡ memory.old)
+        ⊎ MovesIn (D.state device.old) (D.state device.new) memory.old memory.new
+        (Inode number)) }
     ensures none { IfOk result (λ found. IsFalse found
         → (number ≡ 0) ⊎ (address_in memory.old.map number ≡ 0)) }
     ensures same { IfOk result (λ found. IsFalse found → memory.new ≡ memory.old) }
@@ -199,6 +208,7 @@ pub fn lift_inode<D: SectorDevice>(
     ensures kept { OnErr result (memory.new.dirty ≡ memory.old.dirty) }
     ensures ends { EndsLifting (D.state device.old) (D.state device.new) memory.old memory.new
         result }
+    ensures last { memory.new.usage.last ≡ memory.old.usage.last }
 {
     let address = inode_pointer(memory, number);
     if address == 0 {
@@ -246,6 +256,9 @@ pub fn lift_child<D: SectorDevice>(
     requires above { IsInMemory memory.old (parent (entry_of key)) }
     ensures prepares { Prepares (D.state device.old) (D.state device.new) memory.old memory.new 1 }
     ensures gathers { Gathers (D.state device.old) (D.state device.new) memory.old memory.new }
+    ensures comes { IfOk result (λ found. IsTrue found → (memory.new ≡ memory.old)
+        ⊎ MovesIn (D.state device.old) (D.state device.new) memory.old memory.new
+        (entry_of key)) }
     ensures inside { IfOk result (λ found. IsTrue found → IsInMemory memory.new (entry_of key)) }
     ensures none { IfOk result (λ found. IsFalse found
         → IsAtAddress (blocks_of memory.new.dirty) (tables_of memory.new) (entry_of key) 0) }
@@ -253,6 +266,7 @@ pub fn lift_child<D: SectorDevice>(
     ensures kept { OnErr result (memory.new ≡ memory.old) }
     ensures ends { EndsLifting (D.state device.old) (D.state device.new) memory.old memory.new
         result }
+    ensures last { memory.new.usage.last ≡ memory.old.usage.last }
 {
     let address = known_pointer(memory, key);
     if address == 0 {

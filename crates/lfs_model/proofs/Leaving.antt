@@ -18,7 +18,8 @@ use Rattle.lfs_model.specs.Lifting.{IsTaken}
 use Rattle.lfs_model.specs.Counting.{segment_of}
 use Rattle.lfs_model.specs.Settled.{IsSettled, IsFreeFrom}
 use Rattle.lfs_model.specs.Running.{Dirty, Tables, IsCached, SpellsUsage, IsOpenAt, Running, IsLifted, IsTakenFrom, GoesOnIn, IsFresh}
-use Rattle.lfs_model.specs.Committing.{IsWritten, IsUnkept, Beginning, GoingOn, MapDropping, UsageLeaving, UsageFilling, Closing, Staying}
+use Rattle.lfs_model.specs.Committing.{IsWritten, IsUnkept, Beginning, BeginningTo, GoingOn, GoingOnTo, MapDropping, UsageLeaving}
+use Rattle.lfs_model.specs.Committing.{UsageFilling, Closing, ClosingTo, Staying, StayingTo}
 use Rattle.lfs_model.proofs.Entries.{same_entry}
 use Rattle.lfs_model.proofs.Counting.{unplaced_counts}
 use Rattle.lfs_model.proofs.Outgoing.{map_leaving, usage_lifting, filling}
@@ -120,8 +121,16 @@ module _ (d : DeviceState) (dirty : Dirty) (t t' : Tables) (k : CheckpointValue)
               (λ (away : i ≡ s → ⊥). ap₂ (λ (l u : ℕ). cond (l == 0) 0 u) (sym (go.live i)) (same i away))
               (cases_eq i s)
 
+  begun_at : (y : Entry) → begun.memory.at y ≡ w.memory.at y
+  unfolding begun opened_memory
+  begun_at y = refl
+
 pub beginning : Beginning
 beginning d dirty t t' k m0 m none s w inside go = begun d dirty t t' k m0 m none s w inside go
+
+pub beginning_to : BeginningTo
+beginning_to d dirty t t' k m0 m none s w inside go =
+    (begun d dirty t t' k m0 m none s w inside go, begun_at d dirty t t' k m0 m none s w inside go)
 
 -- ---- a chunk more begins in a segment with room
 module _ (d : DeviceState) (dirty : Dirty) (t t' : Tables) (k : CheckpointValue) (m0 m : LogMap) (none s : ℕ)
@@ -200,8 +209,16 @@ module _ (d : DeviceState) (dirty : Dirty) (t t' : Tables) (k : CheckpointValue)
           (λ i lt. (go.used.others (64 * j + i) (other i lt), go.live (64 * j + i), go.age (64 * j + i) (other i lt)))
           (w.fresh j (sym (go.stale.others j away) ∙ off) low)
 
+  gone_on_at : (y : Entry) → gone_on.memory.at y ≡ w.memory.at y
+  unfolding gone_on reopened_memory
+  gone_on_at y = refl
+
 pub going_on : GoingOn
 going_on d dirty t t' k m0 m none s w inside go = gone_on d dirty t t' k m0 m none s w inside go
+
+pub going_on_to : GoingOnTo
+going_on_to d dirty t t' k m0 m none s w inside go =
+    (gone_on d dirty t t' k m0 m none s w inside go, gone_on_at d dirty t t' k m0 m none s w inside go)
 
 -- ---- blocks of the tables leave their places
 module _ (d : DeviceState) {dirty : Dirty} {t : Tables} (t' : Tables) (k : CheckpointValue) {m0 : LogMap} (m : LogMap) {seg : ℕ}
@@ -448,6 +465,11 @@ closing d d' dirty t k m0 m seg start es bytes none w long ends spelt is past =
       opened = omega arith;
     }
 
+pub closing_to : ClosingTo
+unfolding closing
+closing_to d d' dirty t k m0 m seg start es bytes none w long ends spelt is past =
+    (closing d d' dirty t k m0 m seg start es bytes none w long ends spelt is past, λ y. refl)
+
 pub staying : Staying
 staying d d' dirty t k m0 m seg chunk w same unit = record {
   memory = w.memory;
@@ -462,3 +484,7 @@ staying d d' dirty t k m0 m seg chunk w same unit = record {
   kept = λ i low. subst (λ (c : Content). IsFreeFrom c k i (t.kept i)) (sym same.content) (w.kept i low);
   opened = subst (λ (c : Content). IsOpenAt c w.memory t seg chunk) (sym same.content) w.opened;
 }
+
+pub staying_to : StayingTo
+unfolding staying
+staying_to d d' dirty t k m0 m seg chunk w same unit = (staying d d' dirty t k m0 m seg chunk w same unit, λ y. refl)

@@ -13,7 +13,7 @@ use Rattle.lfs_model.specs.Memory.{Memory, is_shown, is_held}
 use Rattle.lfs_model.specs.Laid.{IsLaid}
 use Rattle.lfs_model.specs.Placing.{IsPadding, Padding}
 use Rattle.lfs_model.specs.Running.{Dirty, Tables, SpellsUsage, Running, IsPadded}
-use Rattle.lfs_model.specs.Committing.{PaddingChunk}
+use Rattle.lfs_model.specs.Committing.{PaddingChunk, PaddingTo}
 use Rattle.lfs_model.proofs.Running.{pick, pick_yes, pick_no, row_end, row_length, kept_same, usage_kept, whole_beside}
 use Rattle.lfs_model.proofs.Segments.{IsRowed, rowed, rowed_counts}
 
@@ -135,5 +135,13 @@ module _ (d : DeviceState) (dirty : Dirty) (t t' : Tables) (k : CheckpointValue)
           (λ i lt. (go.used.others (64 * j + i) (other i lt), go.live (64 * j + i), go.age (64 * j + i)))
           (w.fresh j (sym (go.stale.others j away) ∙ off) low)
 
+  padded_at : (y : Entry) → padded.memory.at y ≡ w.memory.at y
+  unfolding padded padded_memory
+  padded_at y = refl
+
 pub padding_chunk : PaddingChunk
 padding_chunk d dirty t t' k m0 m s es x w room go = padded d dirty t t' k m0 m s es x w room go
+
+pub padding_to : PaddingTo
+padding_to d dirty t t' k m0 m s es x w room go =
+    (padded d dirty t t' k m0 m s es x w room go, padded_at d dirty t t' k m0 m s es x w room go)

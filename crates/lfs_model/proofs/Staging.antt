@@ -1,5 +1,6 @@
 -- Blocks come into memory before they change.
-use Rattle.std.proofs.Common.{◌≡◌, ◌≤◌, ⊎_elim, ◌+◌, ◌*◌, ◌/◌, true, ℕ, List, map, Option, Some, refl, sym, ◌∙◌, ap, subst, arith}
+use Rattle.std.proofs.Common.{◌≡◌, ◌<◌, ◌≤◌, ⊎_elim, ◌+◌, ◌*◌, ◌/◌, true, ℕ, List, map, length, Option, Some, refl, sym, ◌∙◌, ap}
+use Rattle.std.proofs.Common.{subst, arith}
 use Rattle.std.specs.Prelude.{option_map}
 use Rattle.lfs_model.specs.Entry.{Entry, Inode, Map, Usage, word}
 use Rattle.lfs_model.specs.Checkpoint.{CheckpointValue}
@@ -7,12 +8,14 @@ use Rattle.lfs_model.specs.Content.{block}
 use Rattle.lfs_model.specs.Counting.{segment_of}
 use Rattle.lfs_model.specs.Device.{DeviceState}
 use Rattle.lfs_model.specs.Lifting.{IsTaken, IsLifting}
-use Rattle.lfs_model.specs.Memory.{Memory, parent, pointer, patched, IsOfFile, is_shown, is_held}
-use Rattle.lfs_model.specs.Running.{Dirty, Tables, IsCached, SpellsUsage, Running, IsLifted}
-use Rattle.lfs_model.specs.Staging.{IsAtAddress, Fetches, Fetching, MapFetching, MapAdding}
+use Rattle.lfs_model.specs.Memory.{Memory, parent, pointer, patched, IsOfFile, IsPointers, HasPointer, is_shown, is_held}
+use Rattle.lfs_model.specs.Running.{Dirty, IsTight, Tables, IsCached, SpellsUsage, Running, IsLifted}
+use Rattle.lfs_model.specs.Staging.{IsAtAddress, Fetches, Fetching, FetchingTo, FetchingTight, MapFetching, MapFetchingTo}
+use Rattle.lfs_model.specs.Staging.{MapAdding, MapAddingTo}
 use Rattle.lfs_model.specs.Stands.{LogMap}
 use Rattle.lfs_model.proofs.Counting.{unplaced_counts}
-use Rattle.lfs_model.proofs.Entries.{same_entry, file_of_parent}
+use Rattle.lfs_model.proofs.Entries.{same_entry, file_of_parent, pointer_low}
+use Rattle.lfs_model.proofs.Filled.{pointer_patched}
 use Rattle.lfs_model.proofs.Leaving.{left_memory, left_taken, left_cached, still_open}
 use Rattle.lfs_model.proofs.Lifting.{lifting}
 use Rattle.lfs_model.proofs.Outgoing.{map_lifting}
@@ -154,9 +157,47 @@ module _ (d : DeviceState) (dirty dirty' : Dirty) (t t' : Tables) (k : Checkpoin
       (λ (ne : y ≡ x → ⊥). sym (taken_now.others y ne))
       (same_entry y x)
 
+  fetched_at : (2 ≤ w.memory.at x) × (fetched.memory.at x ≡ 1) × ((y : Entry) → (y ≡ x → ⊥) → fetched.memory.at y ≡ w.memory.at y)
+  unfolding fetched
+  fetched_at = (placed, taken_now.at, taken_now.others)
+
+  -- x has a pointer if it is a block of pointers, and so has the one above it, which points to x
+  fetched_tight : IsTight dirty → IsTight dirty'
+  fetched_tight tight y b held is = ⊎_elim
+      (λ (here : y ≡ x).
+      let e : Some b ≡ Some bytes = sym held ∙ ap dirty' here ∙ fetch.own in
+      let same : b ≡ bytes = cc in
+      subst HasPointer (own_bytes ∙ sym same) (w.laid.some x (subst IsPointers here is) placed))
+      (λ (ne : y ≡ x → ⊥). ⊎_elim
+      (λ (up : y ≡ parent x). over (λ h. ne (up ∙ h)) b (ap dirty' (sym up) ∙ held))
+      (λ (np : y ≡ parent x → ⊥). tight y b (sym (fetch.kept y ne np) ∙ held) is)
+      (same_entry y (parent x)))
+      (same_entry y x)
+    where
+      over : (parent x ≡ x → ⊥) → (b : List ℕ) → dirty' (parent x) ≡ Some b → HasPointer b
+      over ne b held =
+          let p = at.pointed ne in
+          let c = w.cached.cached (parent x) p.0 p.1 in
+          let long : length p.0 ≡ 512 = ap length (sym c.2) ∙ w.laid.long (parent x) c.0 (let one = c.1 in omega arith) in
+          let small : pointer x < 128 =
+          pointer_low x (λ n i h. w.laid.low n i (let e = ap w.memory.at h in let a = placed in omega arith)) in
+          let e : Some b ≡ Some (patched (pointer x) 1 p.0) = sym held ∙ fetch.patched ne ∙ ap (option_map (patched (pointer x) 1)) p.1 in
+          let same : b ≡ patched (pointer x) 1 p.0 = cc in
+          subst HasPointer (sym same) (pointer_patched (pointer x) 1 p.0 long small (omega arith) (omega arith))
+
 pub fetching : Fetching
 fetching d dirty dirty' t t' k m0 m seg chunk x address bytes w file at above is map fetch go =
     fetched d dirty dirty' t t' k m0 m seg chunk x address bytes w file at above is map fetch go
+
+pub fetching_to : FetchingTo
+fetching_to d dirty dirty' t t' k m0 m seg chunk x address bytes w file at above is map fetch go = (
+  fetched d dirty dirty' t t' k m0 m seg chunk x address bytes w file at above is map fetch go,
+  fetched_at d dirty dirty' t t' k m0 m seg chunk x address bytes w file at above is map fetch go,
+)
+
+pub fetching_tight : FetchingTight
+fetching_tight d dirty dirty' t t' k m0 m seg chunk x address bytes w file at above is map fetch go =
+    fetched_tight d dirty dirty' t t' k m0 m seg chunk x address bytes w file at above is map fetch go
 
 -- A block that comes into memory leaves every other address as it was, and gives no new one.
 pub fetching_traces : (d : DeviceState) (dirty dirty' : Dirty) (t t' : Tables) (k : CheckpointValue) (m0 m : LogMap) (seg : ℕ)
@@ -223,3 +264,15 @@ map_adding d dirty t t' k m0 m seg chunk j w none go =
       kept = kept_same d.content k t t' go.kept w.kept;
       opened = still_open d t' k m w (Map j) (map_table j) 1 (omega arith) chunk w.opened go.kept;
     }
+
+pub map_fetching_to : MapFetchingTo
+unfolding map_fetching left_memory
+map_fetching_to d dirty t t' k m0 m seg chunk j w above go =
+    let p = left_taken d t' k m w (Map j) (map_table j) 1 (omega arith) in
+    (map_fetching d dirty t t' k m0 m seg chunk j w above go, (p.at, p.others))
+
+pub map_adding_to : MapAddingTo
+unfolding map_adding left_memory
+map_adding_to d dirty t t' k m0 m seg chunk j w none go =
+    let p = left_taken d t' k m w (Map j) (map_table j) 1 (omega arith) in
+    (map_adding d dirty t t' k m0 m seg chunk j w none go, (p.at, p.others))

@@ -15,7 +15,7 @@ use Rattle.lfs_model.specs.Laid.{IsLaid}
 use Rattle.lfs_model.specs.Placing.{IsMoved, next_place, IsPlacing, IsMapPlacing, IsSettling}
 use Rattle.lfs_model.specs.Settled.{IsSettled, IsFreeFrom}
 use Rattle.lfs_model.specs.Running.{Dirty, Tables, IsTables, IsCached, SpellsUsage, IsOpenAt, Running, IsLowest, Moves, IsNoted}
-use Rattle.lfs_model.specs.Committing.{place_of, IsWritten, Stepping, SteppingTight, SpellsMap, MapStepping, UsageSettling}
+use Rattle.lfs_model.specs.Committing.{place_of, IsWritten, Stepping, SteppingTo, SteppingTight, SpellsMap, MapStepping, UsageSettling}
 use Rattle.lfs_model.proofs.Entries.{same_entry, file_of_parent, pointer_low}
 use Rattle.lfs_model.proofs.Filled.{pointer_patched}
 use Rattle.lfs_model.proofs.Placing.{placing}
@@ -248,9 +248,22 @@ module _ (d d' : DeviceState) (dirty dirty' : Dirty) (t t' : Tables) (k : Checkp
             (sealed_now d dirty t t' k m0 m seg es x w room noted d' bytes is) next is_moved_now;
       }
 
+  -- only x leaves memory, for the place that it gets
+  stepped_at : (w.memory.at x ≡ 1) × (stepped.memory.at x ≡ place_of t seg)
+      × ((y : Entry) → (y ≡ x → ⊥) → stepped.memory.at y ≡ w.memory.at y)
+  unfolding stepped
+  stepped_at = (in_memory.1, is_moved_now.at ∙ same_place, at_other)
+
 pub stepping : Stepping
 stepping d d' dirty dirty' t t' k m0 m seg es x bytes w room low there full is moves noted =
     stepped d d' dirty dirty' t t' k m0 m seg es x bytes w room low there full is moves noted
+
+-- and where each block stands then
+pub stepping_to : SteppingTo
+stepping_to d d' dirty dirty' t t' k m0 m seg es x bytes w room low there full is moves noted = (
+  stepped d d' dirty dirty' t t' k m0 m seg es x bytes w room low there full is moves noted,
+  stepped_at d d' dirty dirty' t t' k m0 m seg es x bytes w room low there full is moves noted,
+)
 
 -- the block above x points to a place of the log, so it isn't empty
 pub stepping_tight : SteppingTight

@@ -41,12 +41,30 @@ abbrev pub GoingOn : Type 1
 GoingOn = (d : DeviceState) (dirty : Dirty) (t t' : Tables) (k : CheckpointValue) (m0 m : LogMap) (none s : ℕ)
     → Running d dirty t k m0 m none None → s < k.segments → GoesOnIn t t' s → Running d dirty t' k m0 m s (Some [])
 
+-- Either way each block stands where it stood.
+abbrev pub BeginningTo : Type 1
+BeginningTo = (d : DeviceState) (dirty : Dirty) (t t' : Tables) (k : CheckpointValue) (m0 m : LogMap) (none s : ℕ)
+    → (w : Running d dirty t k m0 m none None) → s < k.segments → IsTakenFrom t t' s
+    → (w' : Running d dirty t' k m0 m s (Some [])) × ((y : Entry) → w'.memory.at y ≡ w.memory.at y)
+
+abbrev pub GoingOnTo : Type 1
+GoingOnTo = (d : DeviceState) (dirty : Dirty) (t t' : Tables) (k : CheckpointValue) (m0 m : LogMap) (none s : ℕ)
+    → (w : Running d dirty t k m0 m none None) → s < k.segments → GoesOnIn t t' s
+    → (w' : Running d dirty t' k m0 m s (Some [])) × ((y : Entry) → w'.memory.at y ≡ w.memory.at y)
+
 -- The chunk names an entry more, whose block stands elsewhere or nowhere: a chunk that is to end on a unit.
 abbrev pub PaddingChunk : Type 1
 PaddingChunk = (d : DeviceState) (dirty : Dirty) (t t' : Tables) (k : CheckpointValue) (m0 m : LogMap)
     (seg : ℕ) (es : List Entry) (x : Entry)
     → Running d dirty t k m0 m seg (Some es) → t.used seg < SEGMENT_SECTORS → IsPadded t t' seg
     → Running d dirty t' k m0 m seg (Some (es ++ x ∷ []))
+
+-- Each block stands where it stood.
+abbrev pub PaddingTo : Type 1
+PaddingTo = (d : DeviceState) (dirty : Dirty) (t t' : Tables) (k : CheckpointValue) (m0 m : LogMap)
+    (seg : ℕ) (es : List Entry) (x : Entry)
+    → (w : Running d dirty t k m0 m seg (Some es)) → t.used seg < SEGMENT_SECTORS → IsPadded t t' seg
+    → (w' : Running d dirty t' k m0 m seg (Some (es ++ x ∷ []))) × ((y : Entry) → w'.memory.at y ≡ w.memory.at y)
 
 -- A block of a file goes out.
 abbrev pub Stepping : Type 1
@@ -56,6 +74,16 @@ Stepping = (d d' : DeviceState) (dirty dirty' : Dirty) (t t' : Tables) (k : Chec
     → (IsPointers x → HasPointer bytes)
     → IsWritten d d' (place_of t seg) bytes → Moves dirty dirty' x (place_of t seg) → IsNoted m t t' x (place_of t seg) seg
     → Running d' dirty' t' k m0 m seg (Some (es ++ x ∷ []))
+
+-- It was in memory, its address is the place that it gets, and every other one stands where it stood.
+abbrev pub SteppingTo : Type 1
+SteppingTo = (d d' : DeviceState) (dirty dirty' : Dirty) (t t' : Tables) (k : CheckpointValue) (m0 m : LogMap) (seg : ℕ) (es : List Entry)
+    (x : Entry) (bytes : List ℕ)
+    → (w : Running d dirty t k m0 m seg (Some es)) → t.used seg < SEGMENT_SECTORS → IsLowest dirty x → dirty x ≡ Some bytes
+    → (IsPointers x → HasPointer bytes)
+    → IsWritten d d' (place_of t seg) bytes → Moves dirty dirty' x (place_of t seg) → IsNoted m t t' x (place_of t seg) seg
+    → (w' : Running d' dirty' t' k m0 m seg (Some (es ++ x ∷ [])))
+    × ((w.memory.at x ≡ 1) × (w'.memory.at x ≡ place_of t seg) × ((y : Entry) → (y ≡ x → ⊥) → w'.memory.at y ≡ w.memory.at y))
 
 -- No block of pointers that is left becomes empty by that.
 abbrev pub SteppingTight : Type 1
@@ -120,6 +148,14 @@ Closing = (d d' : DeviceState) (dirty : Dirty) (t : Tables) (k : CheckpointValue
     → entries_in bytes ≡ Some es → IsWritten d d' (segment_start seg + start) bytes → k.segments ≤ none
     → Running d' dirty t k m0 m none None
 
+-- Each block stands where it stood.
+abbrev pub ClosingTo : Type 1
+ClosingTo = (d d' : DeviceState) (dirty : Dirty) (t : Tables) (k : CheckpointValue) (m0 m : LogMap) (seg start : ℕ) (es : List Entry)
+    (bytes : List ℕ) (none : ℕ)
+    → (w : Running d dirty t k m0 m seg (Some es)) → t.used seg ≡ start + suc (length es) → t.used seg % unit_sectors k ≡ 0
+    → entries_in bytes ≡ Some es → IsWritten d d' (segment_start seg + start) bytes → k.segments ≤ none
+    → (w' : Running d' dirty t k m0 m none None) × ((y : Entry) → w'.memory.at y ≡ w.memory.at y)
+
 -- All is out: nothing is left in memory, and the usage table is on the device.
 pub record IsOut (dirty : Dirty) (t : Tables) (segments : ℕ) : Type 0 where
   pub empty : (x : Entry) → dirty x ≡ None
@@ -170,6 +206,13 @@ Resting = (d d' : DeviceState) (dirty : Dirty) (t t' : Tables) (k next : Checkpo
 abbrev pub Staying : Type 1
 Staying = (d d' : DeviceState) (dirty : Dirty) (t : Tables) (k : CheckpointValue) (m0 m : LogMap) (seg : ℕ) (chunk : Option (List Entry))
     → Running d dirty t k m0 m seg chunk → IsUntouched d d' → d'.unit ≡ d.unit → Running d' dirty t k m0 m seg chunk
+
+-- Each block stands where it stood.
+abbrev pub StayingTo : Type 1
+StayingTo =
+    (d d' : DeviceState) (dirty : Dirty) (t : Tables) (k : CheckpointValue) (m0 m : LogMap) (seg : ℕ) (chunk : Option (List Entry))
+    → (w : Running d dirty t k m0 m seg chunk) → IsUntouched d d' → d'.unit ≡ d.unit
+    → (w' : Running d' dirty t k m0 m seg chunk) × ((y : Entry) → w'.memory.at y ≡ w.memory.at y)
 
 -- What a mount puts into the tables: what the usage table and the inode map of the content say. A usage
 -- block in which a segment where nothing lives has an age isn't as a commit would write it, so it is stale.

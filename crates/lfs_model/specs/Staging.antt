@@ -9,7 +9,7 @@ use Rattle.lfs_model.specs.Counting.{segment_of}
 use Rattle.lfs_model.specs.Device.{DeviceState}
 use Rattle.lfs_model.specs.Laid.{HoldsInode}
 use Rattle.lfs_model.specs.Memory.{parent, pointer, patched, IsOfFile, IsPointers, is_nameless, is_shown}
-use Rattle.lfs_model.specs.Running.{Dirty, Tables, Running, Moves, IsLifted, IsReaddressed}
+use Rattle.lfs_model.specs.Running.{Dirty, IsTight, Tables, Running, Moves, IsLifted, IsReaddressed}
 use Rattle.lfs_model.specs.Stands.{LogMap}
 use Rattle.lfs_model.specs.declared.limits.TheConstants.{SECTOR_LEN, BLOCK_POINTERS, LAST_LEAF}
 use Rattle.lfs_model.specs.Inode.{direct_word, pointer_words_end}
@@ -34,6 +34,24 @@ Fetching = (d : DeviceState) (dirty dirty' : Dirty) (t t' : Tables) (k : Checkpo
     → ((n : ℕ) → x ≡ Inode n → is_shown m x ≡ true → t.at (Map (n / BLOCK_POINTERS)) ≡ 1)
     → Fetches dirty dirty' x bytes → IsLifted m t t' x 1 (segment_of address) → Running d dirty' t' k m0 m seg chunk
 
+-- It stood on the device, it is in memory, and every other one stands where it stood.
+abbrev pub FetchingTo : Type 1
+FetchingTo = (d : DeviceState) (dirty dirty' : Dirty) (t t' : Tables) (k : CheckpointValue) (m0 m : LogMap) (seg : ℕ)
+    (chunk : Option (List Entry)) (x : Entry) (address : ℕ) (bytes : List ℕ)
+    → (w : Running d dirty t k m0 m seg chunk) → IsOfFile x → IsAtAddress dirty t x address → 2 ≤ address → block d.content address ≡ bytes
+    → ((n : ℕ) → x ≡ Inode n → is_shown m x ≡ true → t.at (Map (n / BLOCK_POINTERS)) ≡ 1)
+    → Fetches dirty dirty' x bytes → IsLifted m t t' x 1 (segment_of address)
+    → (w' : Running d dirty' t' k m0 m seg chunk)
+    × ((2 ≤ w.memory.at x) × (w'.memory.at x ≡ 1) × ((y : Entry) → (y ≡ x → ⊥) → w'.memory.at y ≡ w.memory.at y))
+
+-- No block of pointers in memory is empty after it, if none was.
+abbrev pub FetchingTight : Type 1
+FetchingTight = (d : DeviceState) (dirty dirty' : Dirty) (t t' : Tables) (k : CheckpointValue) (m0 m : LogMap) (seg : ℕ)
+    (chunk : Option (List Entry)) (x : Entry) (address : ℕ) (bytes : List ℕ)
+    → Running d dirty t k m0 m seg chunk → IsOfFile x → IsAtAddress dirty t x address → 2 ≤ address → block d.content address ≡ bytes
+    → ((n : ℕ) → x ≡ Inode n → is_shown m x ≡ true → t.at (Map (n / BLOCK_POINTERS)) ≡ 1)
+    → Fetches dirty dirty' x bytes → IsLifted m t t' x 1 (segment_of address) → IsTight dirty → IsTight dirty'
+
 -- An inode map block that is on the device will be written.
 abbrev pub MapFetching : Type 1
 MapFetching =
@@ -46,6 +64,21 @@ abbrev pub MapAdding : Type 1
 MapAdding =
     (d : DeviceState) (dirty : Dirty) (t t' : Tables) (k : CheckpointValue) (m0 m : LogMap) (seg : ℕ) (chunk : Option (List Entry)) (j : ℕ)
     → Running d dirty t k m0 m seg chunk → t.at (Map j) ≡ 0 → IsReaddressed t t' (Map j) 1 → Running d dirty t' k m0 m seg chunk
+
+-- Either way it is one that will be written, and every other block stands where it stood.
+abbrev pub MapFetchingTo : Type 1
+MapFetchingTo =
+    (d : DeviceState) (dirty : Dirty) (t t' : Tables) (k : CheckpointValue) (m0 m : LogMap) (seg : ℕ) (chunk : Option (List Entry)) (j : ℕ)
+    → (w : Running d dirty t k m0 m seg chunk) → 2 ≤ t.at (Map j) → IsLifted m t t' (Map j) 1 (segment_of (t.at (Map j)))
+    → (w' : Running d dirty t' k m0 m seg chunk)
+    × ((w'.memory.at (Map j) ≡ 1) × ((y : Entry) → (y ≡ Map j → ⊥) → w'.memory.at y ≡ w.memory.at y))
+
+abbrev pub MapAddingTo : Type 1
+MapAddingTo =
+    (d : DeviceState) (dirty : Dirty) (t t' : Tables) (k : CheckpointValue) (m0 m : LogMap) (seg : ℕ) (chunk : Option (List Entry)) (j : ℕ)
+    → (w : Running d dirty t k m0 m seg chunk) → t.at (Map j) ≡ 0 → IsReaddressed t t' (Map j) 1
+    → (w' : Running d dirty t' k m0 m seg chunk)
+    × ((w'.memory.at (Map j) ≡ 1) × ((y : Entry) → (y ≡ Map j → ⊥) → w'.memory.at y ≡ w.memory.at y))
 
 -- x changes to this, or leaves memory
 pub record ChangesTo (old new : Dirty) (x : Entry) (value : Option (List ℕ)) : Type 0 where

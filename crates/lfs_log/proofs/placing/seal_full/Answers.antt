@@ -2,7 +2,9 @@ use Rattle.std.proofs.Common.{◌≡◌, true, false, sym, ◌∙◌}
 use Rattle.lfs_log.proofs.placing.seal_full.Goals as goal
 use Rattle.lfs_log.proofs.EarlyBlocks.{begun_fresh, sealed_fresh}
 use Rattle.lfs_log.proofs.SavedBlocks.{saves_none, saving_done}
+use Rattle.lfs_memory.proofs.Moved.{holds_none}
 use Rattle.lfs_log.proofs.Sealed.{full_ends, not_full}
+use Rattle.lfs_memory.proofs.Spared.{spares_none}
 
 pub returns-else-is_full-clause-saves : goal.returns-else-is_full-clause-saves
 returns-else-is_full-clause-saves g c =
@@ -19,3 +21,9 @@ returns-in_ok-seal-clause-fresh g c is =
 
 pub returns-else-is_full-clause-fresh : goal.returns-else-is_full-clause-fresh
 returns-else-is_full-clause-fresh g c is = begun_fresh is
+
+pub returns-else-is_full-clause-spares : goal.returns-else-is_full-clause-spares
+returns-else-is_full-clause-spares g c = spares_none (g.D.SectorDevice.state c.args.device.now) c.args.memory.now
+
+pub returns-else-is_full-clause-stays : goal.returns-else-is_full-clause-stays
+returns-else-is_full-clause-stays g c = holds_none

@@ -1,3 +1,4 @@
+use Rattle.lfs_log.proofs.LeftMemory.{leaves_memory}
 use Rattle.std.proofs.Common.{rules, ◌≡◌, ◌∙◌, ◌+◌, ◌/◌, ◌%◌, ap, sym, arith, not, Some}
 use Rattle.lfs_model.specs.Memory.{file_of}
 use Rattle.lfs_memory.specs.segments.Table.{UsageTable}
@@ -9,7 +10,9 @@ use Rattle.lfs_memory.specs.inodes.Key.{entry_of}
 use Rattle.lfs_log.proofs.placing.write_block.Goals as goal
 use Rattle.lfs_log.proofs.SavedBlocks.{writing_done, writing_failed}
 use Rattle.lfs_memory.proofs.Rooms.{takes_place}
-use Rattle.lfs_memory.proofs.FileSteps.{place_stops, file_goes, file_by, goes_to}
+use Rattle.lfs_memory.proofs.Spared.{placed_spares}
+use Rattle.lfs_log.proofs.StaysCleanable.{placed_cleanable}
+use Rattle.lfs_memory.proofs.FileSteps.{place_stops, file_goes, file_moves, file_by, goes_to, moves_to}
 
 pub returns-in_err-write-clause-writes : goal.returns-in_err-write-clause-writes
 returns-in_err-write-clause-writes g c =
@@ -56,3 +59,34 @@ returns-clause-data_blocks g c kind =
     ap (λ (t : TableValue). data_count t + 1) c.point.ensures.dirty
     ∙ c.moved.ensures.data_blocks c.unwrap-bytes.result.now shown kind
     ∙ ap data_count c.next_place-address.ensures.placed.dirty
+
+pub returns-clause-cleanable : goal.returns-clause-cleanable
+returns-clause-cleanable g c =
+    placed_cleanable c.point.new.self c.requires.memory c.next_place-address.ensures.placed c.point.ensures.usage c.point.ensures.chunk
+
+pub returns-clause-spares : goal.returns-clause-spares
+returns-clause-spares g c =
+    placed_spares (g.D.SectorDevice.state c.args.device.now) (g.D.SectorDevice.state c.write.new.device) c.point.new.self
+    c.unwrap-bytes.result.now c.requires.memory c.next_place-address.ensures.placed c.point.ensures.usage c.point.ensures.chunk
+    c.in_ok-write.ensures.written
+
+pub returns-clause-moves : goal.returns-clause-moves
+returns-clause-moves g c =
+    let x = entry_of c.args.key in
+    let file : file_of x ≡ Some c.file.result = file_by (c.args.key.code / 134217728) (c.args.key.code / 32768 % 4096)
+    (c.args.key.code % 32768) ∙ ap Some (sym c.file.ensures.file) in
+    let shown : blocks_of c.next_place-address.new.self.dirty x ≡ Some c.unwrap-bytes.result.now = search rules in
+    let there = sym (ap (λ (t : TableValue). blocks_of t x) c.next_place-address.ensures.placed.dirty) ∙ shown in
+    let few = c.file.ensures.few in
+    moves_to c.point.new.self x c.point.ensures.usage c.point.ensures.dirty c.point.ensures.chunk (file_moves
+    c.requires.memory c.next_place-address.ensures.placed
+    x file (rw (← c.next_place-address.ensures.placed.map) c.point.ensures.points) c.unwrap-bytes.result.now c.moved.new.self
+    c.in_ok-write.ensures.crash c.in_ok-write.ensures.asks.carries c.in_ok-write.ensures.asks.time
+    (g.met.D.SectorDevice.lawful c.args.device.now)
+    c.in_ok-write.ensures.written c.name.ensures.entry c.requires.lowest there (rw (← c.next_place-address.ensures.placed.dirty)
+    c.moved.ensures.moves) (omega (arith, few)) (ap not c.is_hidden-lives.ensures))
+
+pub returns-clause-out : goal.returns-clause-out
+returns-clause-out g c =
+    leaves_memory (entry_of c.args.key) c.next_place-address.result c.next_place-address.ensures.placed.dirty c.point.ensures.dirty
+    c.moved.ensures.moves

@@ -57,3 +57,9 @@ pub returns-in-Err-clause-lacks : goal.returns-in-Err-clause-lacks
 returns-in-Err-clause-lacks g c is =
     let none : blocks_of c.args.memory.now.dirty (entry_of c.args.key) ≡ None = search rules in
     still_out c.args.memory.now c.lift_inode.new.memory (entry_of c.args.key) c.in-Err.ensures.kept none
+
+pub returns-in-Ok-true-clause-comes : goal.returns-in-Ok-true-clause-comes
+returns-in-Ok-true-clause-comes g c on =
+    let own : entry_of c.args.key ≡ Inode c.file.result =
+    top_inode (entry_of c.args.key) (file_is c.args.key.code c.file.ensures.file) c.requires.top in
+    rw own (c.in-Ok-true.ensures.comes (search rules))

@@ -5,6 +5,7 @@ use Rattle.lfs_memory.proofs.LiftedKeys.{file_is}
 use Rattle.lfs_memory.proofs.Lifted.{prepares_none, prepares_looks, bring_prepares, bring_lost, bring_unread, ends_failed}
 use Rattle.lfs_memory.proofs.Lent.{lent_looks, lent_read, lent_missing, past_missing}
 use Rattle.lfs_memory.proofs.Gathered.{bring_gathers, gathers_looks, gathers_none}
+use Rattle.lfs_memory.proofs.Moved.{bring_comes}
 use Rattle.lfs_memory.proofs.lifting.lift.Goals as goal
 
 pub returns-then-len-capacity-clause-prepares : goal.returns-then-len-capacity-clause-prepares
@@ -61,6 +62,14 @@ returns-in-Err-clause-gathers g c = gathers_looks (lent_looks c.read_ref.follows
 pub returns-in-Ok-clause-gathers : goal.returns-in-Ok-clause-gathers
 returns-in-Ok-clause-gathers g c =
     bring_gathers _ (lent_looks c.read_ref.follows.holds-at-none.reads)
+    (file_is c.args.key.code c.file.ensures.file) (omega arith) c.requires.at c.requires.above
+    (ap not c.is_hidden-lives.ensures) c.requires.mapped
+    (lent_read (blocks_of c.args.memory.now.dirty) (entry_of c.args.key) c.requires.above
+    (rw c.in-Ok.is at c.read_ref.follows.holds-at-none)) c.bring.ensures
+
+pub returns-in-Ok-clause-comes : goal.returns-in-Ok-clause-comes
+returns-in-Ok-clause-comes g c =
+    bring_comes _ (lent_looks c.read_ref.follows.holds-at-none.reads)
     (file_is c.args.key.code c.file.ensures.file) (omega arith) c.requires.at c.requires.above
     (ap not c.is_hidden-lives.ensures) c.requires.mapped
     (lent_read (blocks_of c.args.memory.now.dirty) (entry_of c.args.key) c.requires.above

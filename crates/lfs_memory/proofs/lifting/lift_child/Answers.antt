@@ -1,4 +1,4 @@
-use Rattle.std.proofs.Common.{rules, refl}
+use Rattle.std.proofs.Common.{rules, refl, inl}
 use Rattle.lfs_memory.proofs.Lifted.{prepares_none, not_inside, ends_failed, ends_other}
 use Rattle.lfs_memory.proofs.LiftedKeys.{file_is}
 use Rattle.lfs_memory.proofs.Gathered.{gathers_none}
@@ -29,3 +29,6 @@ returns-then-has_block-clause-gathers g c = gathers_none refl
 
 pub returns-then-address-eq-IN_MEMORY-clause-gathers : goal.returns-then-address-eq-IN_MEMORY-clause-gathers
 returns-then-address-eq-IN_MEMORY-clause-gathers g c = gathers_none refl
+
+pub returns-then-has_block-clause-comes : goal.returns-then-has_block-clause-comes
+returns-then-has_block-clause-comes g c _ = inl refl

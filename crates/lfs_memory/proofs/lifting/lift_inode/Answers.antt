@@ -1,8 +1,9 @@
-use Rattle.std.proofs.Common.{rules, ◌∙◌, sym, refl}
+use Rattle.std.proofs.Common.{rules, ◌∙◌, sym, refl, inl, inr}
 use Rattle.lfs_memory.proofs.Presents.{header_absent}
 use Rattle.lfs_memory.proofs.Lifted.{prepares_none, map_lost, inode_stands, not_inside, ends_failed, ends_other, named_prepares, named_ends}
 use Rattle.lfs_memory.proofs.LiftedKeys.{file_is}
 use Rattle.lfs_memory.proofs.Gathered.{gathers_none, gathers_then, map_of_gathers}
+use Rattle.lfs_memory.proofs.Moved.{comes_after_map}
 use Rattle.lfs_memory.proofs.lifting.lift_inode.Goals as goal
 
 pub returns-then-address-eq0-clause-prepares : goal.returns-then-address-eq0-clause-prepares
@@ -64,3 +65,11 @@ returns-in-Ok-lift-clause-gathers g c =
 pub returns-in-Err-lift-clause-gathers : goal.returns-in-Err-lift-clause-gathers
 returns-in-Err-lift-clause-gathers g c =
     gathers_then c.lift.ensures.prepares.looks.carries.kept_before (map_of_gathers _ c.in-Ok.ensures.done) c.lift.ensures.gathers
+
+pub returns-then-has_block-clause-comes : goal.returns-then-has_block-clause-comes
+returns-then-has_block-clause-comes g c _ = inl refl
+
+pub returns-in-Ok-lift-clause-comes : goal.returns-in-Ok-lift-clause-comes
+returns-in-Ok-lift-clause-comes g c _ =
+    inr (comes_after_map _ (_, refl) c.lift.ensures.prepares.looks.carries.kept_before c.in-Ok.ensures.done
+    (rw c.inode-key.ensures at c.in-Ok-lift.ensures.comes))

@@ -1,0 +1,56 @@
+use Rattle.std.proofs.Common.{rules, ◌≡◌, ◌≤◌, ◌∙◌, ℕ, refl, sym, ap, arith, length}
+use Rattle.lfs_memory.specs.inodes.Key.{entry_of}
+use Rattle.lfs_log.specs.Groups.{IsAbove}
+use Rattle.lfs_log.proofs.GroupOrder.{above_closed}
+use Rattle.lfs_log.proofs.Movings.{cleanable_after, ends_done, ends_halted, halts_behind, halts_saving, moved_join, moved_lifted, moved_none}
+use Rattle.lfs_log.proofs.Movings.{moved_out, moved_saved, moved_then, on_then, placed_outside, relocates_still, volume_after}
+use Rattle.lfs_log.proofs.moving.put_all.Goals as goal
+
+pub loop-key-init : goal.loop-key-init
+loop-key-init g c = record {
+  moved = moved_lifted (g.met.D.SectorDevice.lawful c.args.device.now) (relocates_still c.args.memory.now c.requires.memory)
+      c.are_in_order.ensures refl (omega arith) (λ k m0 m keeps is. is);
+  on = λ k m0 m keeps is. (is, moved_none c.args.left c.args.to (let next = c.requires.next in omega (arith, next)) is.running.memory);
+  no_failure = refl;
+  alone = c.requires.alone;
+}
+
+pub save_block-requires-clause-room : goal.save_block-requires-clause-room
+save_block-requires-clause-room g c =
+    let some = c.in-Some.ensures.first.within in
+    let room = c.loop-key.invariant.moved.room in
+    let spare = c.requires.spare in
+    omega (arith, some, room, spare)
+
+pub save_block-requires-clause-memory : goal.save_block-requires-clause-memory
+save_block-requires-clause-memory g c = c.loop-key.invariant.moved.memory
+
+pub save_block-requires-clause-size : goal.save_block-requires-clause-size
+save_block-requires-clause-size g c = volume_after c.loop-key.invariant.moved c.requires.size
+
+pub loop-key-preserved : goal.loop-key-preserved
+loop-key-preserved g c =
+    let x = entry_of c.in-Some.key in
+    let low = c.in-Some.ensures.lowest in
+    let above : IsAbove c.args.from x = c.loop-key.invariant.alone x (low.bytes, low.there) in
+    let closed = above_closed c.args.from x above in
+    let next = c.requires.next in
+    record {
+      moved = moved_then c.loop-key.invariant.moved (moved_saved c.args.left c.in-Ok.ensures.saves.done c.in-Ok.ensures.fewer
+          c.in-Ok.ensures.capacity c.are_in_order-in-Ok.ensures c.save_block.ensures.kept c.in-Ok.ensures.cleanable c.in-Ok.ensures.spares);
+      on = on_then c.in-Ok.ensures.saves.done.goes.carries.kept_before
+          (λ M M' M'' r out. moved_join r (moved_out c.args.left c.args.to (omega arith) (omega (arith, closed, next)) out.0
+          (placed_outside c.loop-key.memory c.save_block.new.memory c.args.victims.now (M''.at x)
+          (cleanable_after c.args.victims.now c.loop-key.invariant.moved c.requires.victims) c.in-Ok.ensures.cleanable out.1)))
+          c.loop-key.invariant.on c.in-Ok.ensures.moves;
+      no_failure = c.in-Ok.ensures.saves.done.goes.no_failure ∙ c.loop-key.invariant.no_failure;
+      alone = λ y is. c.loop-key.invariant.alone y (c.in-Ok.ensures.out.only y is);
+    }
+
+pub returns-in-Err-clause-ends : goal.returns-in-Err-clause-ends
+returns-in-Err-clause-ends g c =
+    ends_halted (halts_behind c.loop-key.invariant.moved
+    (halts_saving c.args.left (let some = c.in-Some.ensures.first.within in omega (arith, some)) c.in-Err.ensures.saves.stopped))
+
+pub returns-clause-ends : goal.returns-clause-ends
+returns-clause-ends g c = ends_done c.loop-key.invariant.moved c.loop-key.invariant.on c.loop-key.invariant.no_failure
