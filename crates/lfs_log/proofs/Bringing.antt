@@ -1,12 +1,11 @@
 -- Blocks that a pass brings into memory and puts elsewhere, one at a time.
-use Rattle.std.proofs.Common.{◌≡◌, ◌<◌, ◌≤◌, ◌⊎◌, ⊎_elim, ◌+◌, ◌*◌, ◌/◌, ℕ, suc, List, [], ◌∷◌, length, refl, sym, ◌∙◌, ap, arith, inl, inr}
-use Rattle.lfs_model.specs.Counting.{segment_of}
+use Rattle.std.proofs.Common.{◌≡◌, ◌<◌, ◌≤◌, ◌⊎◌, ⊎_elim, ◌+◌, ℕ, List, [], ◌∷◌, refl, sym, ◌∙◌, ap, arith, inl, inr}
 use Rattle.lfs_model.specs.Entry.{Entry, Data, Leaf, Double, Inode, Map, Usage}
-use Rattle.lfs_model.specs.Members.{IsIn, AreApart}
+use Rattle.lfs_model.specs.Members.{IsIn}
 use Rattle.lfs_model.specs.Memory.{Memory, IsOfFile}
 use Rattle.lfs_model.proofs.Entries.{same_entry}
 use Rattle.lfs_memory.specs.Moving.{ComesIn, GoesOut, StaysPut}
-use Rattle.lfs_log.specs.Brought.{HasBrought, IsOut, IsPast, OutNumber, Passes, StaysOut}
+use Rattle.lfs_log.specs.Brought.{HasBrought, IsPast, OutNumber, StaysOut}
 use Rattle.lfs_log.specs.Groups.{closes_at}
 use Rattle.lfs_log.specs.Relocating.{IsAmong, IsDataBlock, StandsWhere}
 

@@ -1,8 +1,8 @@
 -- Steps of a pass that moves blocks, one after the other, and how they end.
 use Rattle.std.proofs.Common.{◌≡◌, ◌<◌, ◌≤◌, ◌⊎◌, ⊎_elim, ◌+◌, ◌==◌, cond, nat_lt, ℕ, List, [], ◌∷◌, length, get_or, Option, Some, None, refl, sym, ◌∙◌, ap}
-use Rattle.std.proofs.Common.{subst, arith, inl, inr, Bool}
+use Rattle.std.proofs.Common.{subst, arith, inl, Bool}
 use Rattle.std.proofs.lemmas.Bool.{cases_eq}
-use Rattle.std.specs.Prelude.{Result, Ok, Err, IsErr, IsErrAnd, IsErrOf, OnOk}
+use Rattle.std.specs.Prelude.{Result, Ok, Err, IsErr, IsErrAnd}
 use Rattle.lfs_model.specs.Checkpoint.{CheckpointValue, shape_of}
 use Rattle.lfs_model.specs.Content.{Content}
 use Rattle.lfs_model.specs.Crash.{StandsOn}
@@ -18,7 +18,7 @@ use Rattle.lfs_model.proofs.Settled.{settled_stands}
 use Rattle.lfs_memory.specs.files.declared.fault.LogFault.{LogFault}
 use Rattle.lfs_memory.specs.files.declared.fault.LogFault.TheVariants as fault
 use Rattle.lfs_memory.specs.declared.memory.LogMemory.{LogMemory}
-use Rattle.lfs_memory.specs.Memory.{HoldsVolume, IsLog, IsLoose, IsMemory, Quiet, Stops, room_of}
+use Rattle.lfs_memory.specs.Memory.{HoldsVolume, IsLog, IsLoose, IsMemory, Quiet, room_of}
 use Rattle.lfs_memory.specs.Present.{AnswersAddress, Looks}
 use Rattle.lfs_memory.specs.inodes.Blocks.{Blocks, TableValue, blocks_in, blocks_of}
 use Rattle.lfs_memory.specs.segments.Chunk.{Chunk, due_in, room_behind, room_in}

@@ -4,7 +4,7 @@ use Rattle.std.proofs.lemmas.Bool.{and_parts}
 use Rattle.std.proofs.Common.{◌≡◌, ◌<◌, ◌≤◌, ◌+◌, ◌*◌, ◌&&◌, ◌||◌, cond, ℕ, Bool}
 use Rattle.std.proofs.Common.{true, false, length, refl, sym, ◌∙◌, ap, subst}
 use Rattle.std.proofs.Common.{arith}
-use Rattle.lfs_model.specs.Checkpoint.{CheckpointValue, MayHave, Shape, is_last, layout_version, most_unit_power, shape_of}
+use Rattle.lfs_model.specs.Checkpoint.{CheckpointValue, MayHave, Shape, most_unit_power, shape_of}
 use Rattle.lfs_model.specs.declared.limits.TheConstants.{FILE_NUMBERS}
 use Rattle.lfs_model.specs.Crash.{StandsOn}
 use Rattle.lfs_model.specs.Device.{AllLeft, DeviceState, IsLawful}

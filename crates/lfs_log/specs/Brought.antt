@@ -1,14 +1,8 @@
 -- What a pass of the cleaner has brought into memory so far, and where it went from there.
 use Rattle.std.specs.Prelude.{◌≡◌, ◌≤◌, ◌⊎◌, ◌+◌, ℕ, List, length}
-use Rattle.lfs_model.specs.Checkpoint.{CheckpointValue}
-use Rattle.lfs_model.specs.Counting.{segment_of}
-use Rattle.lfs_model.specs.Device.{DeviceState}
 use Rattle.lfs_model.specs.Entry.{Entry}
 use Rattle.lfs_model.specs.Members.{IsIn, AreApart}
 use Rattle.lfs_model.specs.Memory.{Memory, IsOfFile}
-use Rattle.lfs_model.specs.Stands.{LogMap}
-use Rattle.lfs_memory.specs.declared.memory.LogMemory.{LogMemory}
-use Rattle.lfs_memory.specs.Memory.{IsLog}
 use Rattle.lfs_log.specs.Groups.{closes_at}
 use Rattle.lfs_log.specs.Relocating.{IsAmong, StandsWhere}
 

@@ -1,7 +1,7 @@
 -- What the steps of a pass of the cleaner do: blocks come into memory and go to other segments, one at a time.
 use Rattle.std.specs.Prelude.{◌≡◌, ◌<◌, ◌≤◌, ◌+◌, ℕ, zero, suc, List, length, cond, nat_lt, Result, OnOk, IsErrOf, slice_index_or}
 use Rattle.lfs_model.specs.Checkpoint.{CheckpointValue}
-use Rattle.lfs_model.specs.declared.limits.TheConstants.{BLOCK_POINTERS, DIRECT_BLOCKS}
+use Rattle.lfs_model.specs.declared.limits.TheConstants.{DIRECT_BLOCKS}
 use Rattle.lfs_model.specs.Device.{DeviceState, Carries}
 use Rattle.lfs_model.specs.Entry.{Entry, Data, Leaf, Double, Inode, Map, Usage}
 use Rattle.lfs_model.specs.Memory.{Memory}

@@ -1,15 +1,12 @@
-use Rattle.std.proofs.Common.{rules, ◌≡◌, ◌≤◌, ◌⊎◌, ⊎_elim, ◌∙◌, ℕ, Some, None, refl, sym, ap, arith, length, inl, inr}
-use Rattle.lfs_model.specs.Entry.{Entry}
-use Rattle.lfs_model.specs.Memory.{parent}
+use Rattle.std.proofs.Common.{rules, ◌≡◌, ◌≤◌, ⊎_elim, ◌∙◌, Some, None, refl, sym, ap, arith, inl, inr}
 use Rattle.lfs_memory.specs.Lifting.{IsInMemory}
 use Rattle.lfs_memory.specs.inodes.Blocks.{Capacity, blocks_of}
 use Rattle.lfs_memory.specs.inodes.Key.{entry_of}
 use Rattle.lfs_memory.proofs.of_inodes.Codes.{of_file}
-use Rattle.lfs_log.specs.Groups.{IsAbove}
 use Rattle.lfs_log.specs.Moving.{BringsAbove, depth}
 use Rattle.lfs_log.proofs.Movings.{above_in, above_join, ends_as, ends_done, ends_on, ends_then, lacks_behind, lacks_one, moved_lifted}
 use Rattle.lfs_log.proofs.Movings.{moved_none, relocates_still}
-use Rattle.lfs_log.proofs.GroupOrder.{above_file, above_open, above_parent, depth_above, depth_some, not_top}
+use Rattle.lfs_log.proofs.GroupOrder.{above_open, above_parent, depth_above, depth_some, not_top}
 use Rattle.lfs_log.proofs.moving.+bring.Goals as goal
 
 pub returns-then-has_block-clause-ends : goal.returns-then-has_block-clause-ends

@@ -1,4 +1,4 @@
-use Rattle.std.proofs.Common.{rules, ◌≡◌, length, sym, ap, subst, arith}
+use Rattle.std.proofs.Common.{rules, length, sym, ap, subst, arith}
 use Rattle.lfs_memory.specs.declared.memory.LogMemory.{LogMemory}
 use Rattle.lfs_memory.specs.inodes.Blocks.{TableValue}
 use Rattle.lfs_memory.specs.inodes.Key.{entry_of}
@@ -7,7 +7,6 @@ use Rattle.lfs_log.specs.Moving.{IsStored}
 use Rattle.lfs_log.specs.Relocating.{IsInOrder}
 use Rattle.lfs_log.proofs.Movings.{comes_new, ends_done, ends_failed, ends_full, lift_failed, log_kept, moved_lifted, none_stored}
 use Rattle.lfs_log.proofs.Movings.{relocates_still, stands_outside}
-use Rattle.lfs_log.proofs.GroupOrder.{few_above}
 use Rattle.lfs_log.proofs.moving.bring_one.Goals as goal
 
 pub returns-then-left-eq0-clause-ends : goal.returns-then-left-eq0-clause-ends

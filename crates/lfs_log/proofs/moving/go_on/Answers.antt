@@ -1,7 +1,5 @@
-use Rattle.std.proofs.Common.{rules, ◌≡◌, ◌≤◌, ◌<◌, ℕ, refl, sym, ap, arith}
-use Rattle.lfs_log.proofs.GroupOrder.{nothing_above}
+use Rattle.std.proofs.Common.{refl, arith}
 use Rattle.lfs_log.proofs.Movings.{ends_done, moved_lifted, moved_none, relocates_still}
-use Rattle.lfs_memory.proofs.Going.{ok_then}
 use Rattle.lfs_log.proofs.moving.go_on.Goals as goal
 
 pub returns-then-from-to-clause-ends : goal.returns-then-from-to-clause-ends

@@ -1,4 +1,4 @@
-use Rattle.std.proofs.Common.{rules, ◌≡◌, ◌<◌, ◌≤◌, ◌∙◌, ℕ, refl, sym, ap, subst, arith, get_or, length}
+use Rattle.std.proofs.Common.{◌≡◌, ◌∙◌, ℕ, sym, subst, arith}
 use Rattle.lfs_model.specs.Members.{IsIn}
 use Rattle.lfs_log.proofs.CameIn.{in_list}
 use Rattle.lfs_log.proofs.Cleaned.{at_one}

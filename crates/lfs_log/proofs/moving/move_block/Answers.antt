@@ -1,7 +1,7 @@
-use Rattle.std.proofs.Common.{rules, ◌≡◌, ◌≤◌, ◌∙◌, ℕ, true, false, refl, sym, ap, arith, length}
+use Rattle.std.proofs.Common.{◌≡◌, ◌∙◌, true, false, refl, sym, arith}
 use Rattle.lfs_memory.specs.inodes.Data.{is_data_code}
 use Rattle.lfs_memory.specs.inodes.Key.{entry_of}
-use Rattle.lfs_log.specs.Groups.{IsAbove, group_of}
+use Rattle.lfs_log.specs.Groups.{group_of}
 use Rattle.lfs_log.proofs.GroupOrder.{depth_most, few_above, own_above}
 use Rattle.lfs_log.proofs.Movings.{ends_done, ends_failed, ends_then, lacks_behind, leaves_looked, loose_of, moved_join, moved_looked}
 use Rattle.lfs_log.proofs.Movings.{moved_still, on_more, stands_looked}

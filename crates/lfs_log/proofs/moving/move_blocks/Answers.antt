@@ -1,4 +1,4 @@
-use Rattle.std.proofs.Common.{rules, ◌≡◌, ◌≤◌, ◌<◌, ◌∙◌, ⊎_elim, ℕ, refl, sym, ap, subst, arith, length}
+use Rattle.std.proofs.Common.{◌≡◌, ◌≤◌, ◌<◌, ◌∙◌, ⊎_elim, ℕ, refl, sym, ap, subst, arith}
 use Rattle.std.specs.Prelude.{slice_index_or}
 use Rattle.std.proofs.lemmas.Bool.{cases_lt}
 use Rattle.lfs_memory.specs.inodes.Key.{entry_of}
@@ -6,7 +6,7 @@ use Rattle.lfs_memory.specs.inodes.declared.key.BlockKey.{BlockKey}
 use Rattle.lfs_memory.specs.Moving.{HoldsOn}
 use Rattle.lfs_log.specs.Brought.{IsOut}
 use Rattle.lfs_log.specs.Moving.{Moved, MovesFirst}
-use Rattle.lfs_log.specs.Groups.{HasAboveAlone, group_at, group_of}
+use Rattle.lfs_log.specs.Groups.{HasAboveAlone, group_at}
 use Rattle.lfs_log.proofs.GroupOrder.{nothing_above}
 use Rattle.lfs_log.proofs.Movings.{ends_less, ends_then, fails_then, lacks_all, moved_as, moved_join, moved_lifted, moved_none, moved_then}
 use Rattle.lfs_log.proofs.Movings.{on_more, on_then, relocates_still}

@@ -1,17 +1,16 @@
-use Rattle.std.proofs.Common.{rules, ◌≡◌, ◌≤◌, ◌⊎◌, ⊎_elim, ◌∙◌, ℕ, Some, None, refl, sym, ap, arith, length, inl, inr}
-use Rattle.lfs_model.specs.Entry.{Entry}
-use Rattle.lfs_model.specs.Memory.{Memory, parent}
+use Rattle.std.proofs.Common.{◌≡◌, ⊎_elim, ◌∙◌, ap, arith, inr}
+use Rattle.lfs_model.specs.Memory.{Memory}
 use Rattle.lfs_memory.specs.Lifting.{IsInMemory}
 use Rattle.lfs_memory.specs.Moving.{HoldsOn}
 use Rattle.lfs_memory.specs.inodes.Key.{entry_of}
 use Rattle.lfs_memory.specs.inodes.Blocks.{Capacity}
 use Rattle.lfs_memory.proofs.of_inodes.Codes.{of_file}
-use Rattle.lfs_log.specs.Groups.{IsAbove, group_of}
-use Rattle.lfs_log.specs.Moving.{Moved, StandsAmong, depth}
+use Rattle.lfs_log.specs.Groups.{group_of}
+use Rattle.lfs_log.specs.Moving.{Moved, StandsAmong}
 use Rattle.lfs_log.proofs.Movings.{cleanable_after, data_lowest, done_then, ends_as, ends_halted, ends_on, ends_then, inside_some, lacks_behind}
 use Rattle.lfs_log.proofs.Movings.{halts_behind, halts_saving, lacks_one, moved_in, moved_join, moved_out, moved_saved, moved_then, on_then}
 use Rattle.lfs_log.proofs.Movings.{placed_outside, room_after, volume_after}
-use Rattle.lfs_log.proofs.GroupOrder.{above_no_data, data_above, data_closes, data_key, depth_most, few_above}
+use Rattle.lfs_log.proofs.GroupOrder.{above_no_data, data_closes, data_key, depth_most, few_above}
 use Rattle.lfs_log.proofs.moving.move_data.Goals as goal
 
 pub bring-requires-clause-room : goal.bring-requires-clause-room

@@ -1,4 +1,4 @@
-use Rattle.std.proofs.Common.{rules, ◌≡◌, ◌≤◌, ◌∙◌, ℕ, refl, sym, ap, arith, length}
+use Rattle.std.proofs.Common.{◌∙◌, refl, arith}
 use Rattle.lfs_memory.specs.inodes.Key.{entry_of}
 use Rattle.lfs_log.specs.Groups.{IsAbove}
 use Rattle.lfs_log.proofs.GroupOrder.{above_closed}

@@ -1,8 +1,7 @@
-use Rattle.std.proofs.Common.{rules, ◌≡◌, ◌≤◌, ◌∙◌, ⊎_elim, ℕ, refl, sym, ap, arith, length}
-use Rattle.lfs_model.specs.Entry.{Leaf}
+use Rattle.std.proofs.Common.{◌∙◌, refl, arith}
 use Rattle.lfs_memory.specs.inodes.Key.{entry_of}
 use Rattle.lfs_log.specs.Groups.{IsAbove}
-use Rattle.lfs_log.proofs.GroupOrder.{empty_above, leaf_closes, no_leaf, one_leaf, same_file}
+use Rattle.lfs_log.proofs.GroupOrder.{leaf_closes, no_leaf, one_leaf, same_file}
 use Rattle.lfs_log.proofs.Movings.{ends_done, ends_halted, halts_saving, moved_lifted, moved_none, moved_out, moved_saved, on_more}
 use Rattle.lfs_log.proofs.Movings.{placed_outside, relocates_still}
 use Rattle.lfs_log.proofs.moving.put_leaf.Goals as goal
