@@ -116,7 +116,7 @@ came_none d d' v v' P same k m0 m keeps is x there = inl (rw (← same) there)
 
 -- ---- one call after the other
 -- what stands somewhere stood there before
-stood_before : (P : ℕ → Type 0) (M M' : Memory) (x : Entry) → ((y : Entry) → 2 ≤ M'.at y → M.at y ≡ M'.at y) → StandsWhere P M' x
+pub stood_before : (P : ℕ → Type 0) (M M' : Memory) (x : Entry) → ((y : Entry) → 2 ≤ M'.at y → M.at y ≡ M'.at y) → StandsWhere P M' x
     → StandsWhere P M x
 stood_before P M M' x traces stands = let same = traces x stands.0 in
     (let above = stands.0 in omega (arith, same, above), λ is. rw same (stands.1 is))

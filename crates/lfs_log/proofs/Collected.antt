@@ -176,7 +176,9 @@ lifts_last zero v v' same = ap (λ (w : LogMemory). w.usage.last) same
 lifts_last (suc n) v v' steps = one_last steps.2 ∙ lifts_last n v steps.0 steps.1
 
 pub table_lost : (d : DeviceState) {v : LogMemory} → IsTableLost v → FailsFromDevice d d v
-table_lost d {v} lost = ⊎_elim (λ (mapped : IsMapLost v lost.0). map_lost d mapped) (λ (usage : IsUsageLost v lost.0). usage_lost d usage) lost.1
+table_lost d {v} lost = ⊎_elim
+    (λ (mapped : IsMapLost v lost.0). map_lost d mapped)
+    (λ (usage : IsUsageLost v lost.0). usage_lost d usage) lost.1
 
 -- ---- the blocks of a chunk
 pub names_none : (keys : List BlockKey) (v : LogMemory) (names : List BlockNameValue) (first : ℕ) → NamesFound keys v names first 0
@@ -188,7 +190,8 @@ pub names_more : {l l' : ListedKeys} {n : ℕ} {v v' : LogMemory} (names : List 
     → NamesFound l'.keys v' names first (place + 1)
 names_more {l} {l'} {v = v} {v' = v'} names first place high adds lifts now was i lt = ⊎_elim
     (λ (before : i < place).
-    found_stays lifts l'.keys (entry.entry_of (get_or names i no_block)) (first + i) (omega (arith, high)) (found_more adds v (was i before)))
+    found_stays lifts l'.keys (entry.entry_of (get_or names i no_block)) (first + i) (omega (arith, high))
+    (found_more adds v (was i before)))
     (λ (last : place ≤ i). let same : i ≡ place = omega (arith, lt, last) in rw same now) (cases_lt i place)
 
 -- ---- calls that list, one after the other
@@ -218,8 +221,8 @@ module _ {a b c : DeviceState} {v v' : LogMemory} {l l' : ListedKeys} {n : ℕ} 
     adds = adds_then one.adds two.adds most few;
   }
 
-pub collects_lifts : (n : ℕ) (d : DeviceState) (v v' : LogMemory) {l l' : ListedKeys} {most : ℕ} → IsLawful d → IsMemory v → LiftsTables n v v'
-    → AddsKeys l l' most → Collects d d v v' l l' most
+pub collects_lifts : (n : ℕ) (d : DeviceState) (v v' : LogMemory) {l l' : ListedKeys} {most : ℕ} → IsLawful d → IsMemory v
+    → LiftsTables n v v' → AddsKeys l l' most → Collects d d v v' l l' most
 collects_lifts n d v v' lawful memory lifts adds = record {
   relocates = lifts_relocates n d v v' lawful memory lifts;
   dirty = lifts_dirty n v v' lifts;
@@ -231,7 +234,8 @@ collects_lifts n d v v' lawful memory lifts adds = record {
 -- Up to a place of it all blocks are listed, and there are whole chunks behind.
 abbrev pub ListsTo : DeviceState → DeviceState → LogMemory → LogMemory → ℕ → ℕ → ℕ → List BlockKey → Type 0
 ListsTo d d' v v' segment used at keys = (k : CheckpointValue) (m0 m : LogMap) → d'.keeps_model → (is : IsLoose d v k m0 m)
-    → Traced d' v' k m0 m is.running.memory (AreListed keys (2 + 64 * segment) (2 + 64 * segment + at)) × IsRowFrom d.content used segment at
+    → Traced d' v' k m0 m is.running.memory (AreListed keys (2 + 64 * segment) (2 + 64 * segment + at))
+    × IsRowFrom d.content used segment at
 
 pub lists_start : (d : DeviceState) (v : LogMemory) (segment : ℕ) (keys : List BlockKey) → v.chunk.names ≡ []
     → segment < length v.usage.segments → ListsTo d d v v segment (used_of v.usage segment) 0 keys

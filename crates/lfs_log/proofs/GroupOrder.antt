@@ -1,5 +1,6 @@
 -- The order of groups: which blocks lead to one, and that few are in memory at a time.
-use Rattle.std.proofs.Common.{◌≡◌, ◌<◌, ◌≤◌, ◌⊎◌, ⊎_elim, ◌+◌, ◌*◌, ◌-◌, ◌/◌, ◌%◌, cond, nat_lt, true, false, Bool, ℕ, zero, suc, List, [], ◌∷◌}
+use Rattle.std.proofs.Common.{◌≡◌, ◌<◌, ◌≤◌, ◌⊎◌, ⊎_elim, ◌+◌, ◌*◌, ◌-◌, ◌/◌, ◌%◌}
+use Rattle.std.proofs.Common.{cond, nat_lt, true, false, Bool, ℕ, zero, suc, List, [], ◌∷◌}
 use Rattle.std.proofs.Common.{length, Some, None, refl, sym, ◌∙◌, ap, ap₂, subst, arith, inl, inr}
 use Rattle.lfs_model.specs.Entry.{Entry, Data, Leaf, Double, Inode, Map, Usage, entry_by}
 use Rattle.lfs_model.specs.Members.{IsIn, AreApart}

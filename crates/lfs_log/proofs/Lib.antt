@@ -36,5 +36,6 @@ pub mod LeftMemory
 pub mod GroupOrder
 pub mod Bringing
 pub mod Movings
+pub mod WayOut
 pub mod LogReads
 pub mod Pressing

@@ -1,5 +1,6 @@
 -- Steps of a pass that moves blocks, one after the other, and how they end.
-use Rattle.std.proofs.Common.{◌≡◌, ◌<◌, ◌≤◌, ◌⊎◌, ⊎_elim, ◌+◌, ◌==◌, cond, nat_lt, ℕ, List, [], ◌∷◌, length, get_or, Option, Some, None, refl, sym, ◌∙◌, ap}
+use Rattle.std.proofs.Common.{◌≡◌, ◌<◌, ◌≤◌, ◌⊎◌, ⊎_elim, ◌+◌, ◌==◌, cond, nat_lt, ℕ, List}
+use Rattle.std.proofs.Common.{[], ◌∷◌, length, get_or, Option, Some, None, refl, sym, ◌∙◌, ap}
 use Rattle.std.proofs.Common.{subst, arith, inl, Bool}
 use Rattle.std.proofs.lemmas.Bool.{cases_eq}
 use Rattle.std.specs.Prelude.{Result, Ok, Err, IsErr, IsErrAnd}
@@ -41,7 +42,8 @@ use Rattle.lfs_log.specs.Relocating.{IsAmong, IsDataBlock, IsInOrder, IsNoBlock,
 use Rattle.lfs_log.proofs.CameIn.{no_data_above}
 use Rattle.lfs_log.proofs.Cleaned.{at_one}
 use Rattle.lfs_log.proofs.Relocated.{relocates_looks}
-use Rattle.lfs_log.proofs.Bringing.{MayBring, brought_in, brought_later, brought_none, brought_out, brought_still, out_in, out_number, out_out, out_still}
+use Rattle.lfs_log.proofs.Bringing.{MayBring, brought_in, brought_later, brought_none, brought_out}
+use Rattle.lfs_log.proofs.Bringing.{brought_still, out_in, out_number, out_out, out_still}
 use Rattle.lfs_log.proofs.GroupOrder.{above_file, above_no_data, above_open, data_file, file_or_table}
 
 pub on_then : {a b c : DeviceState} {v v' v'' : LogMemory} {P Q R : Memory → Memory → Type 0} → (c.keeps_model → b.keeps_model)
@@ -267,7 +269,8 @@ moved_out {victims} left group' {M} {M'} {x} le closed goes outside = record {
       (same_entry y x);
 }
 
-pub moved_join : {victims : List ℕ} {l l1 l2 g g1 g2 : ℕ} {M M1 M2 : Memory} → Moved victims l l1 g g1 M M1 → Moved victims l1 l2 g1 g2 M1 M2
+pub moved_join : {victims : List ℕ} {l l1 l2 g g1 g2 : ℕ} {M M1 M2 : Memory} → Moved victims l l1 g g1 M M1
+    → Moved victims l1 l2 g1 g2 M1 M2
     → Moved victims l l2 g g2 M M2
 moved_join one two = record {
   passes = λ total M0 so_far. two.passes total M0 (one.passes total M0 so_far);
@@ -378,7 +381,8 @@ halts_saving left some one = record { stops = one.stops; tells = let told = one.
 pub placed_outside : (v v' : LogMemory) (victims : List ℕ) (at : ℕ) → AreCleanable v.usage victims → StayCleanable v v'
     → segment_of at ≡ v'.chunk.segment → IsAmong victims at → ⊥
 placed_outside v v' victims at are stay place among =
-    at_one (λ (s : ℕ). v'.chunk.segment ≡ s → ⊥) victims (segment_of at) (λ i lt. (stay (get_or victims i 0) (are i lt)).1) among (sym place)
+    at_one (λ (s : ℕ). v'.chunk.segment ≡ s → ⊥) victims (segment_of at) (λ i lt. (stay (get_or victims i 0) (are i lt)).1) among
+    (sym place)
 
 -- ---- a block that may come in
 pub stands_outside : {d : DeviceState} (v : LogMemory) {k : CheckpointValue} {m0 m : LogMap} (is : IsLog d v k m0 m) (x : Entry)
@@ -452,7 +456,7 @@ pub cleanable_after : {d d' : DeviceState} {v v' : LogMemory} {left left' : ℕ}
 cleanable_after victims moved are i lt = moved.cleanable (get_or victims i 0) (are i lt)
 
 -- ---- a block that was looked for
-pub loose_of : {d : DeviceState} {v : LogMemory} {k : CheckpointValue} {m0 m : LogMap} → IsLog d v k m0 m → IsLoose d v k m0 m
+unfoldable pub loose_of : {d : DeviceState} {v : LogMemory} {k : CheckpointValue} {m0 m : LogMap} → IsLog d v k m0 m → IsLoose d v k m0 m
 loose_of is = record { running = is.running; hidden = is.hidden; segments = is.segments; unit = is.unit }
 
 module _ (d d' : DeviceState) (v : LogMemory) (x : Entry) (address : ℕ) (victims : List ℕ) (looks : Looks d d')
@@ -484,7 +488,8 @@ module _ (d d' : DeviceState) (v : LogMemory) (x : Entry) (address : ℕ) (victi
 -- ---- a second function that isn't done
 module _ {a b c : DeviceState} {v v' : LogMemory} {left left1 : ℕ} (one : HasMoved a b v v' left left1) where
   pub fails_then : (R1 : Memory → Memory → Type 0) {v'' : LogMemory} {left2 : ℕ} {P P2 : Memory → Type 0}
-      {R2 R : Memory → Memory → Type 0} {L2 L : Memory → Type 0} {S T : Type 0} (r : Result T LogFault) (e : LogFault) → IsErr r × IsErrAnd r (λ y. y ≡ e)
+      {R2 R : Memory → Memory → Type 0} {L2 L : Memory → Type 0} {S T : Type 0} (r : Result T LogFault) (e : LogFault) → IsErr r ×
+      IsErrAnd r (λ y. y ≡ e)
       → HoldsOn a b v v' R1 → b.failures ≡ a.failures
       → ((k : CheckpointValue) (m0 m : LogMap) (is : IsLog a v k m0 m) (is' : IsLog b v' k m0 m) → R1 is.running.memory is'.running.memory
       → P is.running.memory → P2 is'.running.memory)

@@ -45,3 +45,7 @@ IsOut victims M x = 2 ≤ M.at x → IsAmong victims (M.at x) → ⊥
 -- what had left them has
 abbrev pub StaysOut : List ℕ → Memory → Memory → Type 0
 StaysOut victims M M' = (x : Entry) → IsOut victims M x → IsOut victims M' x
+
+-- no block stands in these segments any more
+abbrev pub AreAllOut : List ℕ → Memory → Memory → Type 0
+AreAllOut victims M M' = (x : Entry) → IsOut victims M' x

@@ -65,7 +65,7 @@ fn is_emptied(usage: &Usage, segment: u32) -> bool
 }
 
 /// Whether that is so of each of these segments.
-fn are_emptied(usage: &Usage, victims: &[u16]) -> bool
+pub(crate) fn are_emptied(usage: &Usage, victims: &[u16]) -> bool
     requires { (i : ℕ) → i < length victims.now
         → get_or victims.now i 0 < length usage.now.segments }
     ensures yes { IsTrue result → AreEmptied usage.now victims.now }

@@ -16,6 +16,7 @@ pub mod publishing;
 pub mod relocating;
 pub mod settling;
 pub mod thresholds;
+pub mod vacating;
 
 pub use layout_version::LayoutVersion;
 pub use lfs_memory as memory;

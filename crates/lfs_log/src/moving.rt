@@ -202,7 +202,7 @@ fn move_data<D: SectorDevice>(
     ensures ends { EndsMoving (D.state device.old) (D.state device.new) memory.old memory.new
         left.old left.new (StandsAmong victims.now (entry_of key))
         (λ M M'. StandsAmong victims.now (entry_of key) M
-            → MovesOut victims.now left.old left.new (entry_of key) M M')
+        → MovesOut victims.now left.old left.new (entry_of key) M M')
         (Lacks victims.now left.old (group_of (entry_of key))) result }
     ensures alone { OnOk result (HasAboveAlone memory.new (group_of (entry_of key))) }
 {

@@ -20,9 +20,11 @@ returns-in_err-collect_segment-clause-relocates g c =
 
 pub returns-in_err-collect_segment-clause-failed : goal.returns-in_err-collect_segment-clause-failed
 returns-in_err-collect_segment-clause-failed g c =
+    let old = g.D.SectorDevice.state c.args.device.now in
+    let now = g.D.SectorDevice.state c.loop-victim.device in
+    let next = g.D.SectorDevice.state c.collect_segment.new.device in
     let one = c.loop-victim.invariant.collects.relocates in
-    on_err c.from_residual.result _ (relocated_excused (g.D.SectorDevice.state c.args.device.now) (g.D.SectorDevice.state c.loop-victim.device)
-    (g.D.SectorDevice.state c.collect_segment.new.device) c.args.memory.now one c.collect_segment.ensures.collects.relocates.looks
+    on_err c.from_residual.result _ (relocated_excused old now next c.args.memory.now one c.collect_segment.ensures.collects.relocates.looks
     c.in_err-collect_segment.ensures.failed)
 
 pub loop-victim-preserved : goal.loop-victim-preserved

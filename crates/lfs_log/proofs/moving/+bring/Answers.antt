@@ -123,7 +123,8 @@ returns-clause-ends g t c victims group above =
     ends_then (one.moves (λ is. absurd (cc))) one.done one.no_failure
     (λ k m0 m is is' r p. r.0.moved.stored x p)
     (λ M M' M'' r came. (above_join r.0 (above_in above came.1 came.0), came.0.now))
-    (λ k m0 m is M' r p lacks. lacks_behind r.0.moved (lacks_one x (of_file c.args.key.code) (inl (above_open group x above)) lacks.0 lacks.1))
+    (λ k m0 m is M' r p lacks. lacks_behind r.0.moved (lacks_one x (of_file c.args.key.code) (inl (above_open group x above))
+    lacks.0 lacks.1))
     c.bring_one-2.ensures.ends
 
 pub returns-clause-alone : goal.returns-clause-alone

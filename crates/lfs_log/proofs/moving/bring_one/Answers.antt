@@ -29,7 +29,8 @@ returns-in-Ok-true-clause-ends g c =
     ends_done (moved_lifted (g.met.D.SectorDevice.lawful c.args.device.now) c.lift_block.ensures.brings.relocates
     c.are_in_order-in-Ok-true.ensures c.lift_block.ensures.last (omega (arith, more, some))
     (λ k m0 m keeps is. (moves k m0 m keeps is).0))
-    (λ k m0 m keeps is. (let now = moves k m0 m keeps is in (now.0, (now.1, omega (arith, some))))) c.in-Ok-true.ensures.brings.ends.no_failure
+    (λ k m0 m keeps is. (let now = moves k m0 m keeps is in (now.0, (now.1, omega (arith, some)))))
+    c.in-Ok-true.ensures.brings.ends.no_failure
 
 pub returns-in-Ok-false-clause-ends : goal.returns-in-Ok-false-clause-ends
 returns-in-Ok-false-clause-ends g c =

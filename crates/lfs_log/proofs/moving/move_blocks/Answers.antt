@@ -16,10 +16,13 @@ pub loop-at-init : goal.loop-at-init
 loop-at-init g c = record {
   moved = moved_lifted (g.met.D.SectorDevice.lawful c.args.device.now) (relocates_still c.args.memory.now c.requires.memory)
       c.are_in_order.ensures refl (omega arith) (λ k m0 m keeps is. is);
-  on = λ k m0 m keeps is. (is, record {
-    moved = moved_none c.args.most 0 (omega arith) is.running.memory;
-    each = λ i d lt. absurd (omega (arith, lt));
-  });
+  on = λ k m0 m keeps is. (
+    is,
+    record {
+      moved = moved_none c.args.most 0 (omega arith) is.running.memory;
+      each = λ i d lt. absurd (omega (arith, lt));
+    },
+  );
   no_failure = refl;
   low = omega arith;
   alone = nothing_above c.args.memory.now 0 c.requires.nothing;
@@ -29,7 +32,8 @@ loop-at-init g c = record {
 pub returns-in_err-go_on-clause-ends : goal.returns-in_err-go_on-clause-ends
 returns-in_err-go_on-clause-ends g c =
     ends_less 0 (omega arith) (fails_then c.loop-at.invariant.moved
-    (Moved c.args.victims.now c.args.most c.loop-at.left 0 c.loop-at.at_group) c.from_residual.result c.in_err-go_on.field-0.0 c.from_residual.ensures
+    (Moved c.args.victims.now c.args.most c.loop-at.left 0 c.loop-at.at_group) c.from_residual.result c.in_err-go_on.field-0.0
+    c.from_residual.ensures
     (on_more (λ M M' r. r.moved) c.loop-at.invariant.on) c.loop-at.invariant.no_failure (λ k m0 m is is' r p. tt)
     (λ k m0 m is M' r p never. absurd never) c.in_err-go_on.ensures.ends)
 
@@ -38,7 +42,8 @@ returns-in_err-move_block-clause-ends g c =
     let one = c.in_ok-go_on.ensures.ends in
     let same = c.group-next.ensures.value in
     ends_less 0 (omega arith) (fails_then (moved_then c.loop-at.invariant.moved (one.moves (λ is. absurd (cc))))
-    (Moved c.args.victims.now c.args.most c.loop-at.left 0 c.group-next.result) c.from_residual-in_err-move_block.result c.in_err-move_block.field-0.0 c.from_residual-in_err-move_block.ensures
+    (Moved c.args.victims.now c.args.most c.loop-at.left 0 c.group-next.result) c.from_residual-in_err-move_block.result
+    c.in_err-move_block.field-0.0 c.from_residual-in_err-move_block.ensures
     (on_then one.carries.kept_before (λ M M' M'' r go. moved_join r.moved go) c.loop-at.invariant.on one.done)
     (one.no_failure ∙ c.loop-at.invariant.no_failure) (λ k m0 m is is' r p. tt)
     (λ k m0 m is M' r p lacks. lacks_all is c.requires.nothing (rw same at r) lacks) c.in_err-move_block.ensures.ends)

@@ -7,7 +7,8 @@ use Rattle.lfs_memory.specs.inodes.Blocks.{Capacity}
 use Rattle.lfs_memory.proofs.of_inodes.Codes.{of_file}
 use Rattle.lfs_log.specs.Groups.{group_of}
 use Rattle.lfs_log.specs.Moving.{Moved, StandsAmong}
-use Rattle.lfs_log.proofs.Movings.{cleanable_after, data_lowest, done_then, ends_as, ends_halted, ends_on, ends_then, inside_some, lacks_behind}
+use Rattle.lfs_log.proofs.Movings.{cleanable_after, data_lowest, done_then, ends_as}
+use Rattle.lfs_log.proofs.Movings.{ends_halted, ends_on, ends_then, inside_some, lacks_behind}
 use Rattle.lfs_log.proofs.Movings.{halts_behind, halts_saving, lacks_one, moved_in, moved_join, moved_out, moved_saved, moved_then, on_then}
 use Rattle.lfs_log.proofs.Movings.{placed_outside, room_after, volume_after}
 use Rattle.lfs_log.proofs.GroupOrder.{above_no_data, data_closes, data_key, depth_most, few_above}
@@ -97,8 +98,8 @@ returns-in-Ok-clause-ends g c =
     done_then both first (two.no_failure ∙ one.no_failure)
     (λ M M' M'' r out stands. (
       moved_join (r stands) (moved_out left group (omega arith) (let low = data_closes x own in omega (arith, low)) out.0
-      (placed_outside c.bring_one.new.memory c.save_block.new.memory victims (M''.at x)
-      (cleanable_after victims both c.requires.victims) c.in-Ok.ensures.cleanable out.1)),
+          (placed_outside c.bring_one.new.memory c.save_block.new.memory victims (M''.at x)
+          (cleanable_after victims both c.requires.victims) c.in-Ok.ensures.cleanable out.1)),
       λ up among. placed_outside c.bring_one.new.memory c.save_block.new.memory victims (M''.at x)
           (cleanable_after victims both c.requires.victims) c.in-Ok.ensures.cleanable out.1 among,
     ))
@@ -120,5 +121,6 @@ returns-in-Err-clause-ends g c =
     let x = entry_of c.args.key in
     let one = c.in_ok-bring.ensures.ends c.args.victims.now (group_of x) c.above_data-above.ensures.above in
     let both = moved_then (one.moves (λ is. absurd (cc))) (c.in_ok-bring_one.ensures.ends.moves (λ is. absurd (cc))) in
-    ends_halted (halts_behind both (halts_saving c.bring_one.new.left (inside_some c.bring_one.new.memory x c.in_ok-bring_one.ensures.inside)
+    ends_halted (halts_behind both (halts_saving c.bring_one.new.left (inside_some c.bring_one.new.memory x
+    c.in_ok-bring_one.ensures.inside)
     c.in-Err.ensures.saves.stopped))

@@ -2,7 +2,8 @@ use Rattle.std.proofs.Common.{◌∙◌, refl, arith}
 use Rattle.lfs_memory.specs.inodes.Key.{entry_of}
 use Rattle.lfs_log.specs.Groups.{IsAbove}
 use Rattle.lfs_log.proofs.GroupOrder.{above_closed}
-use Rattle.lfs_log.proofs.Movings.{cleanable_after, ends_done, ends_halted, halts_behind, halts_saving, moved_join, moved_lifted, moved_none}
+use Rattle.lfs_log.proofs.Movings.{cleanable_after, ends_done, ends_halted, halts_behind}
+use Rattle.lfs_log.proofs.Movings.{halts_saving, moved_join, moved_lifted, moved_none}
 use Rattle.lfs_log.proofs.Movings.{moved_out, moved_saved, moved_then, on_then, placed_outside, relocates_still, volume_after}
 use Rattle.lfs_log.proofs.moving.put_all.Goals as goal
 

@@ -36,7 +36,8 @@ returns-in-Ok-clause-ends g c =
     ends_done (moved_saved c.args.left c.in-Ok.ensures.saves.done c.in-Ok.ensures.fewer c.in-Ok.ensures.capacity
     c.are_in_order-in-Ok.ensures c.save_block.ensures.kept c.in-Ok.ensures.cleanable c.in-Ok.ensures.spares)
     (on_more (λ M M' out. moved_out c.args.left c.args.to (omega (arith, next)) (omega (arith, closed, next)) out.0
-    (placed_outside c.args.memory.now c.save_block.new.memory c.args.victims.now (M'.at x) c.requires.victims c.in-Ok.ensures.cleanable out.1))
+    (placed_outside c.args.memory.now c.save_block.new.memory c.args.victims.now (M'.at x) c.requires.victims
+    c.in-Ok.ensures.cleanable out.1))
     c.in-Ok.ensures.moves) c.in-Ok.ensures.saves.done.goes.no_failure
 
 pub returns-in-Ok-clause-alone : goal.returns-in-Ok-clause-alone
