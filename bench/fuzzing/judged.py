@@ -3,6 +3,9 @@
 bench/format_checker.py says what `check` prints of the image before a run and of the one that the run and a stop left. Where the first is
 a volume, bench/model.py says what each line of the script answers, and behind which lines a mount may find the tree: each state from that of
 the last `sync` or `fsync` that was Ok on. A call that failed or was refused memory may answer so, once for each, and only where that was so.
+
+Where a new volume was made, an Ok leaves it, and a stop or a failed call that one, no checkpoint, or what was there but for the sectors at
+which slots may stand.
 """
 import functools
 import struct
@@ -12,11 +15,11 @@ from typing import BinaryIO, NamedTuple
 import format_checker
 import model
 from fuzzing import lines as spelling
-from fuzzing.volumes import Difference, Patched, Volumes, checked, expect, state_of
+from fuzzing.volumes import SEGMENTS, Difference, Patched, Volumes, checked, expect, state_of
 from served import SECTOR
 
 # As `struct told` of the harness.
-HEAD = struct.Struct("=17I")
+HEAD = struct.Struct("=19I")
 PLACE = struct.Struct("=I")
 # Replies from this length on may be cut.
 MOST_SAID = 1 << 22
@@ -27,6 +30,8 @@ CHANGING = set("create mkdir link symlink unlink rmdir rename pwrite fill trunca
 NEVER_DEVICE = {"fsync", "sync", "version"}
 NEVER_NO_MEMORY = {"close", "fsync", "sync", "space", "version"}
 SAVING = ("sync", "fsync")
+# The sectors at which slots may stand, and how many units a new volume may have.
+SLOTS, UNITS = {0, 1, format_checker.SECOND_SLOT}, 1 + format_checker.MOST_UNIT_POWER
 Changes = tuple[tuple[int, bytes], ...]
 
 
@@ -40,9 +45,12 @@ class Faults(NamedTuple):
 
 
 class Told(NamedTuple):
-    """A run: its input, what `check` answered before it, its script and replies, what `check` answers then, and both images by their changes."""
+    """A run: its input, what `check` answered before it, its script and replies, what `check` answers then, and both images by their changes.
+    The version is that of the new volume, 0 where none was made."""
 
     base: int
+    size: int
+    version: int
     unit: int
     how: int
     faults: Faults
@@ -58,6 +66,7 @@ class Told(NamedTuple):
     def spelt(self) -> str:
         changes = ", ".join(f"{at}" for at, _ in self.patched)
         rows = [f"input: {self.input!r}", f"the image {self.base} with other sectors {changes or '-'}, device units of {self.unit}"]
+        rows += [f"a new volume of version {self.version}"] * (self.version > 0)
         return "\n  ".join([*rows, f"{self.faults}, kind of stop {self.how}", *self.script.decode(errors="backslashreplace").splitlines()])
 
 
@@ -66,14 +75,15 @@ def read_told(file: BinaryIO) -> Told | None:
     head = file.read(HEAD.size)
     if len(head) < HEAD.size:
         return None
-    base, unit, how, was, status, left, *rest = HEAD.unpack(head)
+    base, size, version, unit, how, was, status, left, *rest = HEAD.unpack(head)
     faults, lengths, counts = Faults(*rest[:4]), rest[4:9], rest[9:]
     texts = [file.read(length) for length in lengths]
     patched, changes = (tuple(read_sectors(file, count)) for count in counts)
     if len(texts[-1]) < lengths[-1] or len(changes) < counts[-1]:
         return None
-    line, script, said, after = texts[1], texts[2], texts[3], texts[4]
-    return Told(base, unit, how, faults, texts[0], answer(was, line), script, status, said.decode("latin-1"), answer(left, after), patched, changes)
+    given, line, script, said, after = texts
+    answers = answer(was, line), script, status, said.decode("latin-1"), answer(left, after)
+    return Told(base, size, version, unit, how, faults, given, *answers, patched, changes)
 
 
 def read_sectors(file: BinaryIO, count: int) -> Iterator[tuple[int, bytes]]:
@@ -98,27 +108,47 @@ class Judge:
     def __init__(self, volumes: Volumes):
         self.volumes = volumes
         self.found = functools.lru_cache(maxsize=64)(self.found)
-        self.count = self.well = self.stopped = 0
+        self.count = self.well = self.stopped = self.made = 0
 
-    def found(self, base: int, changes: Changes) -> tuple[str, format_checker.Volume | None, model.State | None]:
-        """What `check` has to print of an image, its volume, and the model's state of that."""
-        line, volume = checked(Patched(self.volumes.base(base).image, dict(changes).get))
+    def found(self, base: int, size: int, changes: Changes) -> tuple[str, format_checker.Volume | None, model.State | None]:
+        """What `check` has to print of an image of so many sectors, its volume, and the model's state of that."""
+        line, volume = checked(Patched(self.volumes.base(base).image.ljust(SECTOR * size, b"\0"), dict(changes).get))
         return line, volume, state_of(volume) if volume else None
 
     def look(self, run: Told) -> None:
         self.count += 1
-        line, volume, state = self.found(run.base, run.patched)
+        line, volume, state = self.found(run.base, run.size, run.patched)
         expect("check", wanted_of(line), run.before)
+        if run.version:
+            self.look_at_new(run)
+            return
         if volume is None or state is None:
             look_at_refused(run, line)
             return
         self.well += 1
         states = Followed(run, state, volume.checkpoint.number).states
-        line, _, left = self.found(run.base, run.left)
+        line, _, left = self.found(run.base, run.size, run.left)
         expect("check behind a stop", wanted_of(line), run.after)
         if left not in map(model.dropped, states):
             raise Difference(f"what a stop left has the tree of no line behind the last sync, of {len(states)} states\nfound:  {line}")
         self.stopped += "err Halted" in run.said
+
+    def look_at_new(self, run: Told) -> None:
+        """A new volume is there, or else what was there but for the slots, or no checkpoint."""
+        self.made += 1
+        line, volume, state = self.found(run.base, run.size, run.left)
+        expect("check behind a stop", wanted_of(line), run.after)
+        unit = 1 << run.script[0] % UNITS if run.version == format_checker.SUMMED_VERSION and run.script else 1
+        is_new = volume is not None and volume.checkpoint.unit == unit and state == model.new(SEGMENTS, run.version)
+        failed = run.faults.reads + run.faults.writes + run.faults.syncs
+        if run.said == "ok\n":
+            is_well = run.status == 0 and is_new and not failed
+        else:
+            told = ["err Device\n"] * (failed > 0) + ["err NoMemory\n", ""] * (run.faults.refused > 0)
+            others = {at for at, _ in set(run.left) ^ set(run.patched)}
+            is_well = run.status == 1 and run.said in told and (is_new or line == "err NoCheckpoint\n" or others <= SLOTS)
+        if not is_well:
+            raise Difference(f"a new volume of version {run.version}: {run.status} {run.said}\nfound:  {line}")
 
 
 def look_at_refused(run: Told, line: str) -> None:

@@ -2,9 +2,10 @@
    which is refused memory. bench/fuzzing/library.py builds it with the program's module, whose calls of the system come here.
 
    An input tells, byte by byte: the image it begins with; the allocation, the read, the write and the sync that fail, and within which
-   write the device stops, 0 for none, in two bytes each; what a stop leaves, and how often the volume's unit is halved to give the
-   device's; how many bytes of the image are others, and for each which of its live sectors it is in, where, and what it is; and then a
-   script. An image that `check` finds well is one after each stop too, which may spoil units of the device.
+   write the device stops, 0 for none, in two bytes each; what a stop leaves, how often the volume's unit is halved to give the device's,
+   and whether a new volume is made, of which version; how many bytes of the image are others, and for each which of its live sectors it is
+   in, where, and what it is; and then a script. An image that `check` finds well is one after each stop too, which may spoil units of the
+   device. A new volume is made on a block device of the length that any version takes, by the unit that the script's first byte tells.
 
    Where the descriptor ASKED has a byte, the run is written to the descriptor TOLD: what was changed, replied and left, for a judge. */
 #include <errno.h>
@@ -14,7 +15,7 @@
 #include <string.h>
 #include <unistd.h>
 
-enum { SECTOR = 512, MOST_SECTORS = 256 + 64 * 64, MOST_BASES = 32, FILE_OF_IMAGE = 100, MOST_SAID = 1 << 22, MOST_LINE = 128, SUMMED = 508 };
+enum { SECTOR = 512, MOST_SECTORS = 256 + 64 * 64, MOST_BASES = 32, FILE_OF_IMAGE = 100, MOST_SAID = 1 << 22, MOST_LINE = 128, SUMMED = 508, MOST_WORDS = 12 };
 enum { OLD, NEW, SPOILT, EACH_ITS_OWN };
 
 extern int lfs_main(void);
@@ -29,8 +30,9 @@ static char said[MOST_SAID];
 static size_t said_length;
 static const uint8_t *script;
 static size_t script_length;
-static const char *words[3];
-static int errno_now, is_stopped;
+static const char *words[MOST_WORDS];
+static size_t count_of_words;
+static int errno_now, is_stopped, is_blocks;
 static int told = -1, asked = -1;
 /* How many calls of each kind were made, which one fails, and how many did. */
 static unsigned allocations, reads, writes, syncs, no_allocation, no_read, no_write, no_sync, stop_at;
@@ -63,10 +65,10 @@ struct memory fuzz_realloc(void *old, size_t was, size_t size, size_t align) {
   return (struct memory){at != NULL, at ? at : image};
 }
 void fuzz_dealloc(void *at) { free(at); }
-size_t fuzz_arg_count(void) { return 3; }
+size_t fuzz_arg_count(void) { return count_of_words; }
 int64_t fuzz_arg(size_t at, char *to, size_t room) {
-  size_t length = at < 3 ? strlen(words[at]) : 0;
-  if (at >= 3 || length > room) return at >= 3 ? -1 : -2;
+  size_t length = at < count_of_words ? strlen(words[at]) : 0;
+  if (at >= count_of_words || length > room) return at >= count_of_words ? -1 : -2;
   memcpy(to, words[at], length);
   return (int64_t)length;
 }
@@ -78,8 +80,10 @@ static int64_t failed(unsigned *count) {
   return -1;
 }
 int fuzz_open(const char *path, int flags) {
-  (void)path, (void)flags;
-  return FILE_OF_IMAGE;
+  (void)flags;
+  if (strcmp(path, "/image") == 0) return FILE_OF_IMAGE;
+  errno_now = 2;
+  return -1;
 }
 /* A second descriptor of the image is the first. */
 int fuzz_fcntl(int file, int how) { return (void)how, file == FILE_OF_IMAGE ? file : 0; }
@@ -140,12 +144,12 @@ int fuzz_fsync(int file) {
 
 int fuzz_fdatasync(int file) { return fuzz_fsync(file); }
 
-/* A regular file of mode 644, as the kernel lays out a `statx`. */
+/* A regular file or a block device of mode 644, as the kernel lays out a `statx`. */
 int fuzz_statx(int folder, const char *path, int flags, unsigned mask, uint8_t *to) {
   (void)folder, (void)path, (void)flags, (void)mask;
   memset(to, 0, 256);
   uint32_t all = 0x7ff, links = 1;
-  uint16_t mode = 0100644;
+  uint16_t mode = is_blocks ? 0060644 : 0100644;
   uint64_t size = image_size;
   memcpy(to, &all, 4), memcpy(to + 16, &links, 4), memcpy(to + 28, &mode, 2), memcpy(to + 40, &size, 8);
   return 0;
@@ -153,11 +157,13 @@ int fuzz_statx(int folder, const char *path, int flags, unsigned mask, uint8_t *
 
 /* The runs. */
 
+static void say(const char *word) { words[count_of_words++] = word; }
 static int run(const char *command, const uint8_t *text, size_t length) {
   words[0] = "lfs", words[1] = command, words[2] = "/image";
+  if (count_of_words < 3) count_of_words = 3;
   script = text, script_length = length, said_length = 0, errno_now = 0;
   int status = lfs_main();
-  said[said_length] = 0;
+  said[said_length] = 0, count_of_words = 0;
   if (status < 0 || status > 3) abort();
   return status;
 }
@@ -196,7 +202,7 @@ static unsigned number(const uint8_t **from, size_t *left, size_t bytes) {
 
 static void begin(unsigned base) {
   image_size = bases[base].size;
-  memcpy(image, bases[base].bytes, image_size);
+  memcpy(image, bases[base].bytes, sizeof image);
   memset(is_dirty, 0, sizeof is_dirty);
   allocations = reads = writes = syncs = no_allocation = no_read = no_write = no_sync = stop_at = 0, is_stopped = 0;
 }
@@ -214,7 +220,7 @@ static void patch(unsigned base, const uint8_t **from, size_t *left) {
 
 /* What a judge is told of a run. The numbers stand as bench/fuzzing/judged.py reads them. */
 struct told {
-  uint32_t base, unit, how, was_status, status, left_status, refused, failed_reads, failed_writes, failed_syncs;
+  uint32_t base, size, version, unit, how, was_status, status, left_status, refused, failed_reads, failed_writes, failed_syncs;
   uint32_t input, was_said, script, said, left_said, patched, left;
 };
 static uint8_t patched[MOST_SECTORS * SECTOR];
@@ -260,15 +266,34 @@ static void tell(struct told run, const uint8_t *input, const uint8_t *text) {
   put(said, said_length), put_others(run.base, patched), put_others(run.base, image);
 }
 
+/* The words of a new volume. */
+static void say_new(unsigned version, const uint8_t *text, size_t length) {
+  const char *versions[] = {"1", "2", "3"}, *units[] = {"512", "1024", "2048", "4096", "8192", "16384", "32768"};
+  count_of_words = 3;
+  say("--force"), say("--segments"), say("64"), say("--format"), say(versions[version - 1]);
+  if (version == 3) say("--unit"), say(units[length ? text[0] % 7 : 0]);
+}
+
 /* The run itself, behind `check`: what failed in it. */
-static void run_script(struct told *found, const unsigned *fails, const uint8_t *text, size_t length) {
+static void run_told(struct told *found, const unsigned *fails, const uint8_t *text, size_t length) {
   allocations = reads = writes = syncs = refused = failed_reads = failed_writes = failed_syncs = 0;
   no_allocation = fails[0], no_read = fails[1], no_write = fails[2], no_sync = fails[3], stop_at = fails[4];
-  found->status = (uint32_t)run("run", text, length);
+  if (found->version) say_new(found->version, text, length);
+  is_blocks = found->version != 0;
+  found->status = (uint32_t)run(found->version ? "mkfs" : "run", text, length);
+  is_blocks = 0;
   found->script = (uint32_t)length, found->said = (uint32_t)said_length;
   found->refused = refused, found->failed_reads = failed_reads;
   found->failed_writes = failed_writes, found->failed_syncs = failed_syncs;
   no_allocation = no_read = no_write = no_sync = stop_at = 0;
+}
+
+/* How a run is: what a stop leaves, in two bits; how often the unit is halved, in three; and the version of a new volume, 4 more. */
+static void take_how(struct told *found, unsigned how) {
+  found->how = how % 4, found->unit = how / 4 % 8;
+  found->version = how / 32 > 4 ? how / 32 - 4 : 0;
+  if (found->version) image_size = sizeof image;
+  found->size = image_size / SECTOR;
 }
 
 int LLVMFuzzerTestOneInput(const uint8_t *from, size_t left) {
@@ -278,7 +303,7 @@ int LLVMFuzzerTestOneInput(const uint8_t *from, size_t left) {
   begin(found.base);
   unsigned fails[5];
   for (int at = 0; at < 5; ++at) fails[at] = number(&from, &left, 2);
-  unsigned how = number(&from, &left, 1);
+  take_how(&found, number(&from, &left, 1));
   patch(found.base, &from, &left);
   memcpy(synced, image, image_size);
   int is_told = is_asked();
@@ -286,14 +311,14 @@ int LLVMFuzzerTestOneInput(const uint8_t *from, size_t left) {
   found.was_status = (uint32_t)run("check", NULL, 0);
   found.was_said = said_length < MOST_LINE ? (uint32_t)said_length : MOST_LINE;
   memcpy(was_said, said, found.was_said);
-  size_t unit = unit_of_image() >> how / 4 % 8;
-  found.how = how % 4, found.unit = unit ? (uint32_t)unit : 1;
-  run_script(&found, fails, from, left);
+  size_t unit = found.version ? 1 : unit_of_image() >> found.unit;
+  found.unit = unit ? (uint32_t)unit : 1;
+  run_told(&found, fails, from, left);
   if (is_told) memcpy(run_said, said, said_length);
   crash(found.how, found.unit);
   found.left_status = (uint32_t)run("check", NULL, 0);
   if (is_told) tell(found, input, from);
-  if (found.left_status != 0 && found.was_status == 0) abort();
+  if (found.left_status != 0 && found.was_status == 0 && !found.version) abort();
   return 0;
 }
 

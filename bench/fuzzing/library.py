@@ -104,12 +104,16 @@ class Library:
         self.seed()
 
     def seed(self):
-        """For each image three scripts, each with a stop, on devices of two units, and with each kind of call that fails once."""
+        """For each image three scripts, each with stops on devices of several units, and with each kind of call that fails once. On some of them
+        a volume of each version is made, with a stop within each write."""
         for at, kind in enumerate(KINDS):
             texts = [b"tree\n", kind.script.encode()[-1_500:].partition(b"\n")[2], CHANGES]
             for (number, text), (name, (fails, halvings)) in itertools.product(enumerate(texts), FAILS.items()):
                 with open(f"{self.corpus}/{at}.{number}.{name}", "wb") as file:
                     file.write(bytes([at]) + struct.pack("<5H", *fails) + bytes([number + 4 * halvings]) + b"\0" + text)
+        for at, version, stop in itertools.product(range(0, len(KINDS), 5), (1, 2, 3), (0, 1, 2, 4, 5, 6)):
+            with open(f"{self.corpus}/{at}.new of {version}.stop {stop}", "wb") as file:
+                file.write(bytes([at]) + struct.pack("<5H", 0, 0, 0, 0, stop) + bytes([stop % 3 + 32 * (4 + version)]) + b"\0" + bytes([at]))
 
     def run(self, *words, is_each):
         """Runs the harness, and judges what it tells: each run, or those that it makes while the judge is free. Gives what libFuzzer said."""

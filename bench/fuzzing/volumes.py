@@ -64,7 +64,7 @@ FULL = "create /f\n" + "".join(f"fill 0 {65_536 * at} 65536 {at + 1}\n" for at i
 # The need is the limit: 2,154 blocks, an inode, a single leaf, a double root and 15 leaves, and one block and an inode of the root.
 LIMIT = "create /f\n" + "".join(f"fill 0 {65_536 * at} 65536 {at + 1}\n" for at in range(16)) + "fill 0 1048576 54272 17\nsync\n"
 # Every kind of object, and more blocks than there are segments.
-ALL = SMALL + "create /h1\nfill 3 0 9000 1\nfill 3 57344 3000 2\nfill 3 122880 512 3\nfill 3 188416 512 4\nfill 3 8511000 488 5\n"
+ALL = SMALL + "create /h1\nfill 3 0 9000 1\nfill 3 57344 3000 2\nfill 3 122880 512 3\nfill 3 188416 512 4\nfill 3 1000000 488 5\n"
 ALL += "".join(f"mkdir /d/e/{at}\ncreate /d/e/{at}/f\nfill {4 + at} 0 {600 * at + 1} {at + 1}\n" for at in range(8)) + "sync\n"
 WIDE = "mkdir /d\ncreate /f\ncreate /g\n" + "".join(f"link /f /d/f{at}\n" for at in range(997))
 WIDE += "".join(f"link /g /d/g{at}\n" for at in range(25)) + "sync\n"
@@ -105,9 +105,9 @@ KINDS = [
     Kind("at its limit, uneven", 2, LIMIT, 1, False, layout=UNEVEN),
     Kind("at its limit, of version 3", 3, LIMIT, 1, False, unit=8, layout=UNEVEN),
     Kind("dead blocks everywhere", 1, ALL, 2, layout=LEVEL),
-    Kind("dead blocks everywhere, of version 2", 2, ALL, 1, layout=UNEVEN),
+    Kind("dead blocks everywhere, of version 2", 2, ALL, 1, False, layout=UNEVEN),
     Kind("dead blocks everywhere, of version 3", 3, ALL, 2, layout=LEVEL),
-    Kind("dead blocks everywhere, of units of 64", 3, ALL, 1, unit=64, layout=LEVEL),
+    Kind("dead blocks everywhere, of units of 64", 3, ALL, 1, False, unit=64, layout=LEVEL),
 ]
 
 
