@@ -19,6 +19,7 @@ import subprocess
 import tempfile
 
 import command_line
+import random_scripts
 from fuzzing import lines as spelling
 from fuzzing.judged import Judge, read_told
 from fuzzing.volumes import KINDS, Difference, Volumes
@@ -28,7 +29,8 @@ FOLDER = os.path.dirname(os.path.realpath(__file__))
 ASKED = "arg arg_count alloc realloc dealloc errno set_errno".split()
 CALLED = "open fcntl close read write lseek pread pwrite fsync fdatasync flock ftruncate statx".split()
 OUTSIDE = re.compile(rf"@(?:rattle_({'|'.join(ASKED)})|({'|'.join(CALLED)}))\(")
-MOST_LENGTH, AT_ONCE, SECONDS_OF_RUN = 2_048, 256, 30
+FUNCTION = re.compile(r"^(COVERED|UNCOVERED)_FUNC: hits: \d+ edges: \S+ ([\w:]+?)(?:::<#\w+>)? ", re.MULTILINE)
+MOST_LENGTH, MOST_SCRIPT, AT_ONCE, SECONDS_OF_RUN = 2_048, 1_800, 256, 30
 CHANGES = b"create /A\nfill 0 0 9000 7\nsync\nunlink /A\nclose 0\nsync\nclean\ntree\nspace\n"
 # Of the inputs that it begins with: which allocation, read, write and sync fails, within which write the device stops, and how often the
 # volume's unit is halved to give the device's.
@@ -104,10 +106,10 @@ class Library:
         self.seed()
 
     def seed(self):
-        """For each image three scripts, each with stops on devices of several units, and with each kind of call that fails once. On some of them
+        """For each image four scripts, each with stops on devices of several units, and with each kind of call that fails once. On some of them
         a volume of each version is made, with a stop within each write."""
         for at, kind in enumerate(KINDS):
-            texts = [b"tree\n", kind.script.encode()[-1_500:].partition(b"\n")[2], CHANGES]
+            texts = [b"tree\n", kind.script.encode()[-1_500:].partition(b"\n")[2], CHANGES, all_calls(at)]
             for (number, text), (name, (fails, halvings)) in itertools.product(enumerate(texts), FAILS.items()):
                 with open(f"{self.corpus}/{at}.{number}.{name}", "wb") as file:
                     file.write(bytes([at]) + struct.pack("<5H", *fails) + bytes([number + 4 * halvings]) + b"\0" + text)
@@ -169,9 +171,33 @@ class Library:
         return said
 
     def functions(self):
-        """How many functions the inputs reach, and how many there are."""
+        """How many functions of the crates of a volume the inputs reach, and how many the program has of these: instances of one count once."""
         said = self.run(self.corpus, "-runs=0", "-print_coverage=1", is_each=False)
-        return len(re.findall(r"^COVERED_FUNC", said, re.MULTILINE)), len(re.findall(r"^(?:UN)?COVERED_FUNC", said, re.MULTILINE))
+        crates, reached, every = below("lfs_fs"), set(), set()
+        for kind, name in FUNCTION.findall(said):
+            if name.partition("::")[0] in crates:
+                every.add(name)
+                reached |= {name} if kind == "COVERED" else set()
+        return len(reached), len(every), sorted(every - reached)
+
+
+def all_calls(seed):
+    """A script of any calls, and each file's bytes."""
+    lines = random_scripts.lines(random_scripts.dice_of(seed), random_scripts.ALL_CALLS)
+    text = "".join(f"{line}\n" for line in lines)[:MOST_SCRIPT].rpartition("\n")[0]
+    return f"{text}\ntree\npread 0 0 900\npread 1 0 900\nspace\n".encode()
+
+
+def below(crate):
+    """A crate, and those that it stands on."""
+    with open(f"{command_line.ROOT}/crates.txt", encoding="utf-8") as file:
+        rows = dict(line.split("#")[0].split(":") for line in file if ":" in line.split("#")[0])
+    found, left = set(), [crate]
+    while left:
+        name = left.pop()
+        found.add(name)
+        left += [it for it in rows.get(name, rows.get(f"{name} staticlib", "")).split() if it not in found]
+    return found
 
 
 def bytes_of(path):
