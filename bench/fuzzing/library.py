@@ -129,7 +129,7 @@ class Library:
                 os.close(asks)
                 try:
                     self.listen(told, ask)
-                except Difference:
+                except BaseException:
                     ran.kill()
                     raise
             log.seek(0)
@@ -171,14 +171,14 @@ class Library:
         return said
 
     def functions(self):
-        """How many functions of the crates of a volume the inputs reach, and how many the program has of these: instances of one count once."""
+        """The functions of the crates of a volume that the inputs reach, and all that the program has of these: instances of one count once."""
         said = self.run(self.corpus, "-runs=0", "-print_coverage=1", is_each=False)
         crates, reached, every = below("lfs_fs"), set(), set()
         for kind, name in FUNCTION.findall(said):
             if name.partition("::")[0] in crates:
                 every.add(name)
                 reached |= {name} if kind == "COVERED" else set()
-        return len(reached), len(every), sorted(every - reached)
+        return reached, every
 
 
 def all_calls(seed):
