@@ -31,7 +31,7 @@ CALLED = "open fcntl close read write lseek pread pwrite fsync fdatasync flock f
 OUTSIDE = re.compile(rf"@(?:rattle_({'|'.join(ASKED)})|({'|'.join(CALLED)}))\(")
 FUNCTION = re.compile(r"^(COVERED|UNCOVERED)_FUNC: hits: \d+ edges: \S+ ([\w:]+?)(?:::<#\w+>)? ", re.MULTILINE)
 MOST_LENGTH, MOST_SCRIPT, AT_ONCE, SECONDS_OF_RUN = 2_048, 1_800, 256, 30
-CHANGES = b"create /A\nfill 0 0 9000 7\nsync\nunlink /A\nclose 0\nsync\nclean\ntree\nspace\n"
+CHANGES = b"create /A\nfill 0 0 9000 7\nsync\nunlink /A\nclose 0\nsync\nclean\ncreate /B\nfill 0 9 700 8\nfsync 0\ntree\nspace\n"
 # Of the inputs that it begins with: which allocation, read, write and sync fails, within which write the device stops, and how often the
 # volume's unit is halved to give the device's.
 FAILS = {"none": ((0, 0, 0, 0, 0), 0), "stop": ((0, 0, 0, 0, 5), 0), "stop of half a unit": ((0, 0, 0, 0, 5), 1)}
