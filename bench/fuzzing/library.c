@@ -2,15 +2,20 @@
    which is refused memory. bench/fuzzing/library.py builds it with the program's module, whose calls of the system come here.
 
    An input tells, byte by byte: the image it begins with; the allocation, the read, the write and the sync that fail, and within which
-   write the device stops, 0 for none, in two bytes each; what a stop leaves; how many bytes of the image are others, and for each which of
-   its live sectors it is in, where, and what it is; and then a script. An image that `check` finds well is one after each stop too, which
-   may spoil units of as many sectors as its volume's have. */
+   write the device stops, 0 for none, in two bytes each; what a stop leaves, how often the volume's unit is halved to give the device's,
+   and whether a new volume is made, of which version; how many bytes of the image are others, and for each which of its live sectors it is
+   in, where, and what it is; and then a script. An image that `check` finds well is one after each stop too, which may spoil units of the
+   device. A new volume is made on a block device of the length that any version takes, by the unit that the script's first byte tells.
+
+   Where the descriptor ASKED has a byte, the run is written to the descriptor TOLD: what was changed, replied and left, for a judge. */
+#include <errno.h>
 #include <stdint.h>
 #include <stdio.h>
 #include <stdlib.h>
 #include <string.h>
+#include <unistd.h>
 
-enum { SECTOR = 512, MOST_SECTORS = 256 + 64 * 64, MOST_BASES = 16, FILE_OF_IMAGE = 100, MOST_SAID = 1 << 22, SUMMED = 508 };
+enum { SECTOR = 512, MOST_SECTORS = 256 + 64 * 64, MOST_BASES = 32, FILE_OF_IMAGE = 100, MOST_SAID = 1 << 22, MOST_LINE = 128, SUMMED = 508, MOST_WORDS = 12 };
 enum { OLD, NEW, SPOILT, EACH_ITS_OWN };
 
 extern int lfs_main(void);
@@ -25,10 +30,13 @@ static char said[MOST_SAID];
 static size_t said_length;
 static const uint8_t *script;
 static size_t script_length;
-static const char *words[3];
-static int errno_now, is_stopped;
-/* How many calls of each kind were made, and which one fails. */
+static const char *words[MOST_WORDS];
+static size_t count_of_words;
+static int errno_now, is_stopped, is_blocks;
+static int told = -1, asked = -1;
+/* How many calls of each kind were made, which one fails, and how many did. */
 static unsigned allocations, reads, writes, syncs, no_allocation, no_read, no_write, no_sync, stop_at;
+static unsigned refused, failed_reads, failed_writes, failed_syncs;
 
 static uint32_t crc32c(const uint8_t *bytes, size_t length) {
   uint32_t sum = UINT32_MAX;
@@ -42,7 +50,11 @@ static uint32_t crc32c(const uint8_t *bytes, size_t length) {
 /* What the module calls in the place of the system. */
 
 struct memory { int64_t is_there; void *at; };
-static int refuses(void) { return ++allocations == no_allocation; }
+static int refuses(void) {
+  int is_last = ++allocations == no_allocation;
+  refused += (unsigned)is_last;
+  return is_last;
+}
 struct memory fuzz_alloc(size_t size, size_t align) {
   void *at = refuses() ? NULL : malloc(size ? size : align);
   return (struct memory){at != NULL, at ? at : image};
@@ -53,23 +65,25 @@ struct memory fuzz_realloc(void *old, size_t was, size_t size, size_t align) {
   return (struct memory){at != NULL, at ? at : image};
 }
 void fuzz_dealloc(void *at) { free(at); }
-size_t fuzz_arg_count(void) { return 3; }
+size_t fuzz_arg_count(void) { return count_of_words; }
 int64_t fuzz_arg(size_t at, char *to, size_t room) {
-  size_t length = at < 3 ? strlen(words[at]) : 0;
-  if (at >= 3 || length > room) return at >= 3 ? -1 : -2;
+  size_t length = at < count_of_words ? strlen(words[at]) : 0;
+  if (at >= count_of_words || length > room) return at >= count_of_words ? -1 : -2;
   memcpy(to, words[at], length);
   return (int64_t)length;
 }
 int fuzz_errno(void) { return errno_now; }
 void fuzz_set_errno(int number) { errno_now = number; }
 
-static int64_t failed(void) {
-  errno_now = 5;
+static int64_t failed(unsigned *count) {
+  errno_now = 5, ++*count;
   return -1;
 }
 int fuzz_open(const char *path, int flags) {
-  (void)path, (void)flags;
-  return FILE_OF_IMAGE;
+  (void)flags;
+  if (strcmp(path, "/image") == 0) return FILE_OF_IMAGE;
+  errno_now = 2;
+  return -1;
 }
 /* A second descriptor of the image is the first. */
 int fuzz_fcntl(int file, int how) { return (void)how, file == FILE_OF_IMAGE ? file : 0; }
@@ -83,7 +97,7 @@ int64_t fuzz_lseek(int file, int64_t at, int from) {
 }
 
 int64_t fuzz_read(int file, uint8_t *to, size_t length) {
-  if (file != 0) return failed();
+  if (file != 0) return failed(&failed_reads);
   if (length > script_length) length = script_length;
   memcpy(to, script, length);
   script += length, script_length -= length;
@@ -97,7 +111,7 @@ int64_t fuzz_write(int file, const char *from, size_t length) {
 
 int64_t fuzz_pread(int file, uint8_t *to, size_t length, int64_t from) {
   (void)file;
-  if (is_stopped || ++reads == no_read || from < 0) return failed();
+  if (is_stopped || ++reads == no_read || from < 0) return failed(&failed_reads);
   if (from >= image_size) return 0;
   if (length > image_size - (uint64_t)from) length = image_size - (size_t)from;
   memcpy(to, image + from, length);
@@ -109,18 +123,18 @@ int64_t fuzz_pwrite(int file, const uint8_t *bytes, size_t length, int64_t from)
   if (from < 0 || (uint64_t)from + length > image_size || from % SECTOR || length % SECTOR) abort();
   for (size_t at = 0; at < length; at += SECTOR) {
     size_t sector = ((size_t)from + at) / SECTOR;
-    if (is_stopped || ++writes == no_write) return at ? (int64_t)at : failed();
+    if (is_stopped || ++writes == no_write) return at ? (int64_t)at : failed(&failed_writes);
     is_stopped = writes == stop_at;
     memcpy(image + sector * SECTOR, bytes + at, SECTOR);
     is_dirty[sector] = 1;
-    if (is_stopped) return at ? (int64_t)at : failed();
+    if (is_stopped) return at ? (int64_t)at : failed(&failed_writes);
   }
   return (int64_t)length;
 }
 
 int fuzz_fsync(int file) {
   (void)file;
-  if (is_stopped || ++syncs == no_sync) return (int)failed();
+  if (is_stopped || ++syncs == no_sync) return (int)failed(&failed_syncs);
   for (size_t at = 0; at < MOST_SECTORS; ++at) {
     if (is_dirty[at]) memcpy(synced + at * SECTOR, image + at * SECTOR, SECTOR);
     is_dirty[at] = 0;
@@ -130,12 +144,12 @@ int fuzz_fsync(int file) {
 
 int fuzz_fdatasync(int file) { return fuzz_fsync(file); }
 
-/* A regular file of mode 644, as the kernel lays out a `statx`. */
+/* A regular file or a block device of mode 644, as the kernel lays out a `statx`. */
 int fuzz_statx(int folder, const char *path, int flags, unsigned mask, uint8_t *to) {
   (void)folder, (void)path, (void)flags, (void)mask;
   memset(to, 0, 256);
   uint32_t all = 0x7ff, links = 1;
-  uint16_t mode = 0100644;
+  uint16_t mode = is_blocks ? 0060644 : 0100644;
   uint64_t size = image_size;
   memcpy(to, &all, 4), memcpy(to + 16, &links, 4), memcpy(to + 28, &mode, 2), memcpy(to + 40, &size, 8);
   return 0;
@@ -143,11 +157,13 @@ int fuzz_statx(int folder, const char *path, int flags, unsigned mask, uint8_t *
 
 /* The runs. */
 
+static void say(const char *word) { words[count_of_words++] = word; }
 static int run(const char *command, const uint8_t *text, size_t length) {
   words[0] = "lfs", words[1] = command, words[2] = "/image";
+  if (count_of_words < 3) count_of_words = 3;
   script = text, script_length = length, said_length = 0, errno_now = 0;
   int status = lfs_main();
-  said[said_length] = 0;
+  said[said_length] = 0, count_of_words = 0;
   if (status < 0 || status > 3) abort();
   return status;
 }
@@ -164,7 +180,7 @@ static size_t unit_of_image(void) {
   return unit;
 }
 
-/* Stops the device. Of each unit the sectors that aren't synced are old or new, or all of it has other bytes. */
+/* Stops the device. Of each of its units the sectors that aren't synced are old or new, or all of it has other bytes. */
 static void crash(unsigned how, size_t unit) {
   for (size_t first = 0; first < MOST_SECTORS; first += unit) {
     unsigned left = how == EACH_ITS_OWN ? first / unit % EACH_ITS_OWN : how, is_spoilt = 0;
@@ -186,7 +202,7 @@ static unsigned number(const uint8_t **from, size_t *left, size_t bytes) {
 
 static void begin(unsigned base) {
   image_size = bases[base].size;
-  memcpy(image, bases[base].bytes, image_size);
+  memcpy(image, bases[base].bytes, sizeof image);
   memset(is_dirty, 0, sizeof is_dirty);
   allocations = reads = writes = syncs = no_allocation = no_read = no_write = no_sync = stop_at = 0, is_stopped = 0;
 }
@@ -195,41 +211,120 @@ static void begin(unsigned base) {
 static void patch(unsigned base, const uint8_t **from, size_t *left) {
   unsigned count = number(from, left, 1);
   for (unsigned at = 0; at < count / 2 % 8; ++at) {
-    uint8_t *sector = image + SECTOR * bases[base].live[number(from, left, 1) % bases[base].lives];
+    uint8_t *sector = image + SECTOR * bases[base].live[number(from, left, 2) % bases[base].lives];
     sector[number(from, left, 2) % SECTOR] = (uint8_t)number(from, left, 1);
     uint32_t sum = crc32c(sector, SUMMED);
     if (count % 2 && memcmp(sector, "SLFSCKP1", 8) == 0 && sector[20] == 3) memcpy(sector + SUMMED, &sum, 4);
   }
 }
 
-static void keep_image(const char *path, int status) {
-  FILE *file = fopen(path, "ab");
-  if (!file || fwrite(&status, sizeof status, 1, file) != 1 || fwrite(&image_size, 4, 1, file) != 1) abort();
-  if (fwrite(image, 1, image_size, file) != image_size || fprintf(file, "%.80s\n", said) < 0 || fclose(file)) abort();
+/* What a judge is told of a run. The numbers stand as bench/fuzzing/judged.py reads them. */
+struct told {
+  uint32_t base, size, version, unit, how, was_status, status, left_status, refused, failed_reads, failed_writes, failed_syncs;
+  uint32_t input, was_said, script, said, left_said, patched, left;
+};
+static uint8_t patched[MOST_SECTORS * SECTOR];
+static char was_said[MOST_LINE], run_said[MOST_SAID];
+
+/* A signal of libFuzzer's clock ends a call early. */
+static void put(const void *bytes, size_t length) {
+  for (const uint8_t *from = bytes; length;) {
+    ssize_t sent = write(told, from, length);
+    if (sent < 0 && errno != EINTR) abort();
+    if (sent > 0) from += sent, length -= (size_t)sent;
+  }
+}
+
+static int is_asked(void) {
+  char byte;
+  ssize_t found = -1;
+  while (asked >= 0 && (found = read(asked, &byte, 1)) < 0 && errno == EINTR) continue;
+  return found == 1;
+}
+
+static int is_other(unsigned base, const uint8_t *bytes, uint32_t at) {
+  return memcmp(bytes + at * SECTOR, bases[base].bytes + at * SECTOR, SECTOR) != 0;
+}
+static uint32_t count_others(unsigned base, const uint8_t *bytes) {
+  uint32_t found = 0;
+  for (uint32_t at = 0; at < image_size / SECTOR; ++at) found += (uint32_t)is_other(base, bytes, at);
+  return found;
+}
+static void put_others(unsigned base, const uint8_t *bytes) {
+  struct { uint32_t at; uint8_t bytes[SECTOR]; } row;
+  for (row.at = 0; row.at < image_size / SECTOR; ++row.at) {
+    if (!is_other(base, bytes, row.at)) continue;
+    memcpy(row.bytes, bytes + row.at * SECTOR, SECTOR);
+    put(&row, sizeof row);
+  }
+}
+
+static void tell(struct told run, const uint8_t *input, const uint8_t *text) {
+  run.patched = count_others(run.base, patched), run.left = count_others(run.base, image);
+  run.left_said = (uint32_t)said_length;
+  put(&run, sizeof run), put(input, run.input), put(was_said, run.was_said), put(text, run.script), put(run_said, run.said);
+  put(said, said_length), put_others(run.base, patched), put_others(run.base, image);
+}
+
+/* The words of a new volume. */
+static void say_new(unsigned version, const uint8_t *text, size_t length) {
+  const char *versions[] = {"1", "2", "3"}, *units[] = {"512", "1024", "2048", "4096", "8192", "16384", "32768"};
+  count_of_words = 3;
+  say("--force"), say("--segments"), say("64"), say("--format"), say(versions[version - 1]);
+  if (version == 3) say("--unit"), say(units[length ? text[0] % 7 : 0]);
+}
+
+/* The run itself, behind `check`: what failed in it. */
+static void run_told(struct told *found, const unsigned *fails, const uint8_t *text, size_t length) {
+  allocations = reads = writes = syncs = refused = failed_reads = failed_writes = failed_syncs = 0;
+  no_allocation = fails[0], no_read = fails[1], no_write = fails[2], no_sync = fails[3], stop_at = fails[4];
+  if (found->version) say_new(found->version, text, length);
+  is_blocks = found->version != 0;
+  found->status = (uint32_t)run(found->version ? "mkfs" : "run", text, length);
+  is_blocks = 0;
+  found->script = (uint32_t)length, found->said = (uint32_t)said_length;
+  found->refused = refused, found->failed_reads = failed_reads;
+  found->failed_writes = failed_writes, found->failed_syncs = failed_syncs;
+  no_allocation = no_read = no_write = no_sync = stop_at = 0;
+}
+
+/* How a run is: what a stop leaves, in two bits; how often the unit is halved, in three; and the version of a new volume, 4 more. */
+static void take_how(struct told *found, unsigned how) {
+  found->how = how % 4, found->unit = how / 4 % 8;
+  found->version = how / 32 > 4 ? how / 32 - 4 : 0;
+  if (found->version) image_size = sizeof image;
+  found->size = image_size / SECTOR;
 }
 
 int LLVMFuzzerTestOneInput(const uint8_t *from, size_t left) {
-  unsigned base = number(&from, &left, 1) % count_of_bases;
-  begin(base);
+  struct told found = {.input = (uint32_t)left};
+  const uint8_t *input = from;
+  found.base = number(&from, &left, 1) % count_of_bases;
+  begin(found.base);
   unsigned fails[5];
   for (int at = 0; at < 5; ++at) fails[at] = number(&from, &left, 2);
-  unsigned how = number(&from, &left, 1) % 4;
-  patch(base, &from, &left);
+  take_how(&found, number(&from, &left, 1));
+  patch(found.base, &from, &left);
   memcpy(synced, image, image_size);
-  int is_well = run("check", NULL, 0) == 0;
-  size_t unit = unit_of_image();
-  if (getenv("CHECKED")) keep_image(getenv("CHECKED"), is_well);
-  allocations = reads = writes = syncs = 0;
-  no_allocation = fails[0], no_read = fails[1], no_write = fails[2], no_sync = fails[3], stop_at = fails[4];
-  run("run", from, left);
-  crash(how, unit);
-  no_allocation = no_read = no_write = no_sync = stop_at = 0;
-  if (run("check", NULL, 0) != 0 && is_well) abort();
+  int is_told = is_asked();
+  if (is_told) memcpy(patched, image, image_size);
+  found.was_status = (uint32_t)run("check", NULL, 0);
+  found.was_said = said_length < MOST_LINE ? (uint32_t)said_length : MOST_LINE;
+  memcpy(was_said, said, found.was_said);
+  size_t unit = found.version ? 1 : unit_of_image() >> found.unit;
+  found.unit = unit ? (uint32_t)unit : 1;
+  run_told(&found, fails, from, left);
+  if (is_told) memcpy(run_said, said, said_length);
+  crash(found.how, found.unit);
+  found.left_status = (uint32_t)run("check", NULL, 0);
+  if (is_told) tell(found, input, from);
+  if (found.left_status != 0 && found.was_status == 0 && !found.version) abort();
   return 0;
 }
 
 int LLVMFuzzerInitialize(int *count, char ***given) {
   (void)count, (void)given;
+  if (getenv("TOLD")) told = atoi(getenv("TOLD")), asked = atoi(getenv("ASKED"));
   FILE *file = fopen(getenv("BASES"), "rb");
   uint32_t size;
   while (file && count_of_bases < MOST_BASES && fread(&size, 4, 1, file) == 1) {

@@ -8,6 +8,7 @@ from typing import NamedTuple
 import format_checker
 import model
 import new_volume
+from fuzzing import forged as forging
 from fuzzing.lines import replies
 from served import SECTOR, Served, Stop
 
@@ -60,6 +61,11 @@ sync
 GONE = "".join(f"create /{at}\npwrite 0 0 {at:02}\nclose 0\nsync\n" for at in range(60))
 GONE += "".join(f"unlink /{at}\n" for at in range(0, 60, 2)) + "sync\n"
 FULL = "create /f\n" + "".join(f"fill 0 {65_536 * at} 65536 {at + 1}\n" for at in range(16)) + "fill 0 1048576 48000 17\nsync\n"
+# The need is the limit: 2,154 blocks, an inode, a single leaf, a double root and 15 leaves, and one block and an inode of the root.
+LIMIT = "create /f\n" + "".join(f"fill 0 {65_536 * at} 65536 {at + 1}\n" for at in range(16)) + "fill 0 1048576 54272 17\nsync\n"
+# Every kind of object, and more blocks than there are segments.
+ALL = SMALL + "create /h1\nfill 3 0 9000 1\nfill 3 57344 3000 2\nfill 3 122880 512 3\nfill 3 188416 512 4\nfill 3 1000000 488 5\n"
+ALL += "".join(f"mkdir /d/e/{at}\ncreate /d/e/{at}/f\nfill {4 + at} 0 {600 * at + 1} {at + 1}\n" for at in range(8)) + "sync\n"
 WIDE = "mkdir /d\ncreate /f\ncreate /g\n" + "".join(f"link /f /d/f{at}\n" for at in range(997))
 WIDE += "".join(f"link /g /d/g{at}\n" for at in range(25)) + "sync\n"
 
@@ -75,8 +81,11 @@ class Kind(NamedTuple):
     of_images: bool = True
     # How many sectors a unit of it has.
     unit: int = 1
+    # How its image is forged, where the program doesn't make it.
+    layout: forging.Layout | None = None
 
 
+LEVEL, UNEVEN = forging.Layout(True), forging.Layout(False)
 KINDS = [
     Kind("small", 1, SMALL, 12),
     Kind("mixed", 1, MIXED, 8),
@@ -92,6 +101,13 @@ KINDS = [
     Kind("small of version 3", 3, SMALL, 4, unit=8),
     Kind("leaves of version 3", 3, LEAVES, 2, unit=8),
     Kind("gone of version 3", 3, GONE, 1, unit=64),
+    Kind("at its limit, level", 1, LIMIT, 1, False, layout=LEVEL),
+    Kind("at its limit, uneven", 2, LIMIT, 1, False, layout=UNEVEN),
+    Kind("at its limit, of version 3", 3, LIMIT, 1, False, unit=8, layout=UNEVEN),
+    Kind("dead blocks everywhere", 1, ALL, 2, layout=LEVEL),
+    Kind("dead blocks everywhere, of version 2", 2, ALL, 1, False, layout=UNEVEN),
+    Kind("dead blocks everywhere, of version 3", 3, ALL, 2, layout=LEVEL),
+    Kind("dead blocks everywhere, of units of 64", 3, ALL, 1, False, unit=64, layout=LEVEL),
 ]
 
 
@@ -130,6 +146,8 @@ def expect(what: str, wanted: str, found: str) -> None:
 
 
 def make_base(program: str, folder: str, kind: Kind) -> Base:
+    if kind.layout:
+        return forged_base(kind)
     image, state = f"{folder}/base", model.new(SEGMENTS, kind.version)
     with open(image, "wb") as file:
         file.write(new_volume.image_of(SEGMENTS, kind.version, kind.unit))
@@ -140,6 +158,21 @@ def make_base(program: str, folder: str, kind: Kind) -> Base:
     expect(f"the script of {kind.name}", wanted, ran.stdout.decode())
     with open(image, "rb") as file:
         return Base(file.read(), model.dropped(state))
+
+
+def forged_base(kind: Kind) -> Base:
+    """A volume that no program leaves: the plain checker finds the tree of the script there, and says that it is sound."""
+    state = model.new(SEGMENTS, kind.version)
+    for line in kind.script.splitlines():
+        reply, state = model.step(state, line)
+        expect(f"{line} of {kind.name}", "ok", reply[0][:2])
+    state = model.dropped(state)
+    image = forging.forged(state, kind.unit, kind.layout)
+    walk = format_checker.Walk(image)
+    volume, clean = walk.run(), sum(used == 0 for used, _, _ in walk.usage)
+    if state_of(volume) != state or clean != SEGMENTS // forging.CLEAN_OF:
+        raise Difference(f"the forged image of {kind.name} has another tree, or {clean} clean segments")
+    return Base(image, state)
 
 
 class Patched:
