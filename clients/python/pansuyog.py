@@ -17,6 +17,17 @@ Whole files and folders go in and out by the methods of `Files`:
         volume.write_tree("a folder")
         volume.export("a new folder")
 
+and `file` opens one as Python's own files are, so that what takes such a file takes it:
+
+        with io.TextIOWrapper(volume.file("/days.csv", "a"), encoding="utf-8", newline="") as file:
+            csv.writer(file).writerow(["2026-12-01", 42])
+        volume.sync()
+
+An archive of tar goes in by `import_tar` and comes out by `export_tar`, and so it does on a command line:
+
+    python3 -m pansuyog import disk.img folder.tar
+    python3 -m pansuyog export disk.img folder.tar
+
 Each other method is one call of the volume (docs/CALLS.md). There are two classes, with the same methods:
 
 - `Volume` is the library `libpansuyog_file.so` (docs/LIBRARY.md), in this process. `Volume.over(device)` stands on a device of the caller's
@@ -34,9 +45,11 @@ import contextlib
 import errno
 import fcntl
 import functools
+import io
 import os
 import stat
 import subprocess
+import sys
 import tempfile
 import threading
 import time
@@ -45,7 +58,7 @@ import warnings
 import weakref
 from typing import List, NamedTuple
 
-__all__ = ["Calls", "Files", "Volume", "ProcessVolume", "Refused", "ReadOnly", "ChildDied", "BadLine", "Omitted"]
+__all__ = ["Calls", "File", "Files", "Volume", "ProcessVolume", "Refused", "ReadOnly", "ChildDied", "BadLine", "Omitted"]
 __all__ += ["Entry", "Shape", "Space", "Stat", "TreeRow", "Written", "make", "make_over", "sectors_of"]
 
 # What people are told of a call that is refused, as in crates/lfs_host/src/reason.rt: the reply to a line has the name alone.
@@ -155,7 +168,8 @@ class TreeRow(NamedTuple):
 
 
 class Written(NamedTuple):
-    """What `write_tree` put: how many files, and their bytes. The paths of the host are those that it left out."""
+    """What `write_tree` or `import_tar` put: how many files, and their bytes; and what it left out, by its path on the host or its name in
+    the archive."""
 
     files: int
     size: int
@@ -496,6 +510,43 @@ def _check_put(it, longest):
         raise _refusal("NameTooLong", f"{shown}: a path has at most {_LONGEST_PATH} bytes, and this one needs {needed}")
 
 
+_NO_SUCH_THING = "it is neither a file, a folder nor a link"
+
+
+def _below_folder(name):
+    """What a name in an archive is below the folder that the archive is put into, or nothing where it may lead out of that."""
+    parts = [part for part in name.encode(errors="surrogateescape").split(b"/") if part not in (b"", b".")]
+    return None if b".." in parts else b"/".join(parts)
+
+
+def _put_of_member(member, path):
+    """What is to be put of a member of an archive into a directory, or why it is left out. A further name of a file has another path of the
+    volume as its source."""
+    name, source = _below_folder(member.name), member.linkname.encode(errors="surrogateescape")
+    if member.islnk():
+        source = _below_folder(member.linkname)
+    if name is None or source is None:
+        return "a name of it has a piece `..`"
+    kinds = {"dir": member.isdir(), "link": member.issym(), "name": member.islnk(), "file": member.isreg()}
+    kind = next((kind for kind in kinds if kinds[kind]), None)
+    if kind is None:
+        return _NO_SUCH_THING
+    return _Put(kind, _below(path, source) if kind == "name" else source, _below(path, name))
+
+
+class _Saving:
+    """Counts what is put into a volume, and syncs behind each so many bytes."""
+
+    def __init__(self, volume, sync_each):
+        self._volume, self._sync_each, self._saved, self.files, self.size = volume, sync_each, 0, 0, 0
+
+    def count(self, size):
+        self.files, self.size = self.files + 1, self.size + size
+        if self.size - self._saved >= self._sync_each:
+            self._volume.sync()
+            self._saved = self.size
+
+
 def _together(method):
     """A method whose calls belong together: where threads share a volume, no call of another one comes between them."""
 
@@ -507,20 +558,201 @@ def _together(method):
     return made
 
 
+# The ways to open a file, and whether they read and write.
+_MODES = {"r": (True, False), "w": (False, True), "x": (False, True), "a": (False, True)}
+
+
+def _mode(mode):
+    """The letter of a mode, and whether it both reads and writes."""
+    letter = mode.replace("b", "", 1).replace("+", "", 1)
+    if "t" in mode:
+        raise ValueError(f"a file of a volume has bytes, and its mode is {mode!r}: io.TextIOWrapper(volume.file(..)) has text")
+    if letter not in _MODES:
+        raise ValueError(f"the mode {mode!r} is none of r, w, x and a, with or without b and +")
+    return letter, "+" in mode
+
+
+class File(io.RawIOBase):
+    """An open file of a volume, with a position, as Python's own are that `open` gives with `buffering=0`. `Files.file` opens it.
+
+    `read` and `write` take any number of bytes, and do all of it, so nothing has to be done again by who calls. A `write` of more than 65,536
+    bytes is several calls: where a later one is refused, what was written before stands, and the position is behind it. Nothing is saved
+    before `save`, or `sync` of the volume."""
+
+    def __init__(self, volume, handle, name, letter, both):
+        super().__init__()
+        self._volume, self._handle, self._position, self._is_appended = volume, handle, 0, letter == "a"
+        # The size as it was last, which is looked at first where it is wanted.
+        self._last_size = 0
+        self._reads, self._writes = (True, True) if both else _MODES[letter]
+        self.name, self.mode = name, letter + "b" + "+" * both
+        if self._is_appended:
+            self._position = self._size()
+
+    def __repr__(self):
+        return f"<pansuyog.File name={self.name!r} mode={self.mode!r}{' closed' * self.closed}>"
+
+    def readable(self):
+        return self._reads
+
+    def writable(self):
+        return self._writes
+
+    def seekable(self):
+        return True
+
+    def _check(self, is_taken=True, what=""):
+        if self.closed:
+            raise ValueError("the file is closed")
+        if not is_taken:
+            raise io.UnsupportedOperation(f"the file {self.name!r} isn't opened to {what}: its mode is {self.mode!r}")
+
+    def readinto(self, buffer):
+        data = self.read(memoryview(buffer).nbytes)
+        memoryview(buffer).cast("B")[: len(data)] = data
+        return len(data)
+
+    def read(self, size=-1):
+        """So many bytes from the position on, or all where none are told. They are fewer where the file ends."""
+        self._check(self._reads, "read")
+        most = _LONGEST_FILE if size is None or size < 0 else size
+        data = self._volume._read_from(self._handle, self._position, most)
+        self._position += len(data)
+        return data
+
+    def readall(self):
+        return self.read()
+
+    def write(self, data):
+        """Writes all bytes at the position, or behind the end where the mode is `a`: how many."""
+        self._check(self._writes, "write")
+        data = _octets(data)
+        with self._volume._alone():
+            if self._is_appended and data:
+                self._position = self._size()
+            for start in range(0, len(data), _LONGEST_TRANSFER):
+                self._position += self._volume.pwrite(self._handle, self._position, data[start : start + _LONGEST_TRANSFER])
+                self._last_size = max(self._last_size, self._position)
+        return len(data)
+
+    def seek(self, offset, whence=os.SEEK_SET):
+        """Goes to a position: how many bytes are before it. One behind the end is taken, and a gap that a write leaves is zeros."""
+        self._check()
+        if whence not in (os.SEEK_SET, os.SEEK_CUR, os.SEEK_END):
+            raise ValueError(f"{whence} is none of 0, 1 and 2")
+        if whence != os.SEEK_SET:
+            offset += self._position if whence == os.SEEK_CUR else self._size()
+        if offset < 0:
+            raise ValueError("a position is before the file's beginning")
+        self._position = offset
+        return offset
+
+    def tell(self):
+        self._check()
+        return self._position
+
+    def truncate(self, size=None):
+        """Gives the file this size, or that of the position: it is cut, or zeros are added. The position stays."""
+        self._check(self._writes, "write")
+        size = self._position if size is None else size
+        self._volume.truncate(self._handle, size)
+        return size
+
+    def save(self):
+        """Saves all that was done on the volume, as `fsync`. What a buffer or a text above this file holds still isn't written: `flush` that
+        first."""
+        self._check()
+        self._volume.fsync(self._handle)
+
+    def close(self):
+        if self.closed:
+            return
+        super().close()
+        # A volume that is closed has no handles.
+        with contextlib.suppress(ValueError):
+            self._volume.close_handle(self._handle)
+
+    def __del__(self):
+        # This may come within a call of the volume, where no other one is made: the next file that is opened gives the handle back.
+        if not self.closed:
+            self._volume._forgotten.append(self._handle)
+            super().close()
+            warnings.warn(f"the file {self.name!r} was never closed", ResourceWarning)
+
+    def _size(self):
+        """The size. No call tells that of a handle, so it is found by bytes that are there and that aren't."""
+        if self._has(self._last_size - 1) and not self._has(self._last_size):
+            return self._last_size
+        low, high = 0, _LONGEST_FILE
+        while low < high:
+            middle = (low + high) // 2
+            low, high = (middle + 1, high) if self._has(middle) else (low, middle)
+        self._last_size = low
+        return low
+
+    def _has(self, offset):
+        return offset < 0 or len(self._volume.pread(self._handle, offset, 1)) == 1
+
+
 class Files(Calls):
-    """Whole files and folders, over the calls alone."""
+    """Whole files and folders, and files as Python's own, over the calls alone."""
+
+    def __init__(self):
+        # Handles of files that nobody closed, and nobody has any more.
+        self._forgotten = []
 
     def _alone(self):
         """Keeps other threads out, where threads may share the volume."""
         return contextlib.nullcontext()
 
     @_together
+    def file(self, path, mode="r"):
+        """Opens a file as Python's own files are: a `File`, which is an `io.RawIOBase`. The mode is `r`, `w`, `x` or `a`, as of `open`, with `+`
+        where the file is both read and written. It has bytes, with and without `b`: `io.TextIOWrapper` over it has text, and
+        `io.BufferedReader` and `io.BufferedWriter` make few calls of many small ones.
+
+        A file that is opened by `w` is empty at once, and then as `sync` saves it: `write_file` puts a whole file or nothing."""
+        letter, both = _mode(mode)
+        while self._forgotten:
+            with contextlib.suppress(_REFUSALS["BadHandle"]):
+                self.close_handle(self._forgotten.pop())
+        return File(self, self._opened(path, letter), path, letter, both)
+
+    def _opened(self, path, letter):
+        """The handle of a file that is opened in a mode of this letter."""
+        try:
+            return self.create(path) if letter == "x" else self._opened_there(path, letter)
+        except _REFUSALS["NoEntry"]:
+            if letter in "rx":
+                raise
+        return self.create(path)
+
+    def _opened_there(self, path, letter):
+        handle = self.open(path)
+        if letter == "w":
+            try:
+                self.truncate(handle, 0)
+            except BaseException:
+                with contextlib.suppress(Exception):
+                    self.close_handle(handle)
+                raise
+        return handle
+
+    @_together
     def read(self, path):
         """All bytes of a file."""
         with self._handle(self.open(path)) as handle:
-            pieces = [self.pread(handle, 0, _LONGEST_TRANSFER)]
-            while len(pieces[-1]) == _LONGEST_TRANSFER:
-                pieces.append(self.pread(handle, len(pieces) * _LONGEST_TRANSFER, _LONGEST_TRANSFER))
+            return self._read_from(handle, 0, _LONGEST_FILE)
+
+    @_together
+    def _read_from(self, handle, offset, most):
+        """So many bytes of an open file from an offset on, or fewer where it ends."""
+        pieces, end = [], offset + most
+        while offset < end:
+            pieces.append(self.pread(handle, offset, min(end - offset, _LONGEST_TRANSFER)))
+            offset += len(pieces[-1])
+            if len(pieces[-1]) < _LONGEST_TRANSFER:
+                break
         return b"".join(pieces)
 
     @_together
@@ -574,23 +806,90 @@ class Files(Calls):
         self.readdir(path)
         plan = list(self._planned(os.fsencode(folder), path, self._longest_name(path), omitted))
         for shown in omitted:
-            _leave_out(shown, "it is neither a file, a folder nor a link")
-        files, size, saved = 0, 0, 0
-        try:
+            _leave_out(shown, _NO_SUCH_THING)
+        saving = _Saving(self, sync_each)
+        with self._synced():
             for it in plan:
                 if it.kind == "file":
-                    files, size = files + 1, size + self._put_file(it)
+                    with open(it.source, "rb") as file:
+                        saving.count(self._put_bytes(it.path, file))
                 else:
                     self._put_other(it)
-                if size - saved >= sync_each:
-                    self.sync()
-                    saved = size
-        except BaseException:
-            with contextlib.suppress(Exception):
-                self.sync()
-            raise
-        self.sync()
-        return Written(files, size, omitted)
+        return Written(saving.files, saving.size, omitted)
+
+    def import_tar(self, file, path="/", *, sync_each=_SYNC_EACH):
+        """Puts what is in an archive of tar into a directory, as `write_tree` does: files, links, directories, and further names of a file. The
+        archive is a file that is open for reading, packed as `tarfile` takes it or not. It is read once, from its beginning to its end.
+
+        What is none of these is left out, and so is a name with `..` in it: a warning, `Omitted`, names it, and so does the answer. What is
+        refused later leaves what was put before, synced."""
+        import tarfile
+
+        path, omitted = _bytes(path).rstrip(b"/") + b"/", []
+        # It has to be a directory.
+        self.readdir(path)
+        saving = _Saving(self, sync_each)
+        with self._synced(), tarfile.open(fileobj=file, mode="r|*", encoding="utf-8") as archive:
+            for member in archive:
+                it = _put_of_member(member, path)
+                if isinstance(it, str):
+                    omitted.append(member.name)
+                    _leave_out(member.name, it)
+                elif it.path != path:
+                    self._make_directories(it.path.rpartition(b"/")[0])
+                    self._put_member(it, archive, member, saving)
+        return Written(saving.files, saving.size, omitted)
+
+    def _put_member(self, it, archive, member, saving):
+        if it.kind == "file":
+            with archive.extractfile(member) as file:
+                saving.count(self._put_bytes(it.path, file))
+        elif it.kind == "name":
+            self._put_name(it.source, it.path)
+        else:
+            self._put_other(it)
+
+    def export_tar(self, file, path="/"):
+        """Writes an archive of tar with all that is below a directory to a file that is open for writing: how many files, and how many bytes.
+        Several names of one file stay so. What has a path of more than 1,023 bytes is left out with a warning, `Omitted`. The time of each
+        member is that of the export, since a volume has no times."""
+        import tarfile
+
+        above, first, files, size, now = _bytes(path).rstrip(b"/") + b"/", {}, 0, 0, int(time.time())
+        with tarfile.open(fileobj=file, mode="w|", format=tarfile.GNU_FORMAT, encoding="utf-8") as archive:
+            for below in self._all_below(above):
+                member, data = self._member(below, tarfile.TarInfo(below[len(above) :].decode(errors="surrogateescape")), first)
+                member.mtime = now
+                archive.addfile(member, None if data is None else io.BytesIO(data))
+                files, size = files + (data is not None), size + member.size
+        return files, size
+
+    def _all_below(self, path):
+        """Each path below a directory, a directory's before those below it."""
+        for entry in self.readdir(path):
+            below = _below(path, entry.name)
+            if _is_reached(below):
+                yield below
+                if entry.kind == "dir":
+                    yield from self._all_below(below)
+
+    @_together
+    def _member(self, path, member, first):
+        """A member of an archive, by what stands at a path, with the bytes of a file. The first name of a file with several is kept."""
+        import tarfile
+
+        told, data = self.lstat(path), None
+        member.mode = {"file": 0o644, "dir": 0o755, "link": 0o777}[told.kind]
+        if told.kind == "dir":
+            member.type = tarfile.DIRTYPE
+        elif told.kind == "link":
+            member.type, member.linkname = tarfile.SYMTYPE, self.readlink(path).decode(errors="surrogateescape")
+        elif told.links > 1 and first.setdefault(told.number, member.name) != member.name:
+            member.type, member.linkname = tarfile.LNKTYPE, first[told.number]
+        else:
+            data = self.read(path)
+            member.size = len(data)
+        return member, data
 
     def export(self, folder, path="/"):
         """Makes a new folder of the host, with all that is below a directory, links as links: how many files, and how many bytes. What has a
@@ -624,6 +923,17 @@ class Files(Calls):
                 self.close_handle(handle)
             raise
         self.close_handle(handle)
+
+    @contextlib.contextmanager
+    def _synced(self):
+        """Syncs in the end, also what was done before a failure, as far as the volume lets it."""
+        try:
+            yield
+        except BaseException:
+            with contextlib.suppress(Exception):
+                self.sync()
+            raise
+        self.sync()
 
     def _refuse_directory(self, path):
         try:
@@ -699,17 +1009,26 @@ class Files(Calls):
         return _Put("file", entry.path, path) if entry.is_file() else None
 
     @_together
-    def _put_file(self, it):
-        """Puts a file of the host, and doesn't sync: how many bytes. A stop leaves no later call without those before it."""
-        with open(it.source, "rb") as file:
-            # One byte too many is refused as any number of them.
-            data = file.read(_LONGEST_FILE + 1)
-        unfinished = _beside(it.path)
-        self._refuse_directory(it.path)
+    def _put_bytes(self, path, file):
+        """Puts the bytes of a file of the host, and doesn't sync: how many. A stop leaves no later call without those before it."""
+        # One byte too many is refused as any number of them.
+        data = file.read(_LONGEST_FILE + 1)
+        unfinished = _beside(path)
+        self._refuse_directory(path)
         with self._finishing(unfinished):
             self._write_new(unfinished, data)
-            self.rename(unfinished, it.path)
+            self.rename(unfinished, path)
         return len(data)
+
+    @_together
+    def _put_name(self, path, name):
+        """Gives what stands at a path another name, in the place of a file or a link."""
+        self._refuse_directory(name)
+        with self._finishing(_beside(name)):
+            self.link(path, _beside(name))
+            self.rename(_beside(name), name)
+        # Where that name was one of the same file, nothing is renamed.
+        self._remove_left(_beside(name))
 
     @_together
     def _put_other(self, it):
@@ -729,6 +1048,18 @@ class Files(Calls):
             if self.lstat(path).kind != "dir":
                 raise
 
+    def _make_directories(self, path):
+        """Makes a directory, and those above it, where they aren't there. A link on the way to one is taken for it."""
+        if not path:
+            return
+        try:
+            self.mkdir(path)
+        except _REFUSALS["NoEntry"]:
+            self._make_directories(path.rpartition(b"/")[0])
+            self.mkdir(path)
+        except _REFUSALS["Exist"]:
+            pass
+
 
 class ProcessVolume(Files):
     """A mounted volume in a child process. `lfs` is the program's path; one process at a time may have an image. A volume that isn't mounted
@@ -738,6 +1069,7 @@ class ProcessVolume(Files):
     which stands without a name in the folder for temporary files."""
 
     def __init__(self, image, lfs="lfs", *, read_only=False):
+        super().__init__()
         self._is_read_only, self._halted_by, self._child = read_only, None, None
         # The image itself, whose lock keeps writers out as long as it is open.
         self._looked_at = _opened_to_look(image) if read_only else None
@@ -1571,6 +1903,7 @@ class Volume(Files):
 
     def _start(self, held, read_only):
         """Mounts the volume, or gives all back."""
+        super().__init__()
         self._held, self._is_read_only, self._types = held, read_only, _types()
         # The thread whose call is under way.
         self._lock, self._caller = threading.RLock(), None
@@ -1733,3 +2066,71 @@ class Volume(Files):
     }
     # Those that save, where the volume is only read.
     _SAVING = {"sync": _save_nothing, "fsync": _save_nothing}
+
+
+def _tar_into(volume, archive, path):
+    with contextlib.ExitStack() as opened:
+        file = sys.stdin.buffer if archive == "-" else opened.enter_context(open(archive, "rb"))
+        return volume.import_tar(file, path)[:2]
+
+
+def _tar_out_of(volume, archive, path):
+    if archive == "-":
+        return volume.export_tar(sys.stdout.buffer, path)
+    with open(archive, "xb") as file:
+        try:
+            return volume.export_tar(file, path)
+        except BaseException:
+            os.unlink(archive)
+            raise
+
+
+def _parser():
+    import argparse
+
+    parser = argparse.ArgumentParser("python3 -m pansuyog", description="Puts an archive of tar into a volume, or makes one of a volume.")
+    commands = parser.add_subparsers(dest="command", metavar="COMMAND", required=True)
+    helps = {
+        "import": "put what is in an archive into a directory; the volume is saved at the end, and behind each 64 MiB",
+        "export": "make a new archive of all that is in a directory",
+    }
+    for name, text in helps.items():
+        command = commands.add_parser(name, help=text, description=text)
+        command.add_argument("image", metavar="IMAGE", help="the image file or block device that holds the volume")
+        command.add_argument("archive", metavar="FILE.tar", help="the archive, or - for a standard stream")
+        command.add_argument("--path", default="/", metavar="PATH", help="the directory in the volume, or else the root")
+        how = command.add_mutually_exclusive_group()
+        how.add_argument("--library", metavar="FILE", help="the library libpansuyog_file.so, where it isn't installed")
+        how.add_argument("--lfs", metavar="PROGRAM", help="use the program `lfs` at this path in the place of the library")
+    return parser
+
+
+def _main():
+    """The command line: its exit status."""
+    import tarfile
+
+    given = _parser().parse_args()
+    is_import = given.command == "import"
+    warnings.showwarning = lambda message, *_: print(f"pansuyog: {message}", file=sys.stderr)
+    warnings.simplefilter("always", Omitted)
+    how = {"lfs": given.lfs} if given.lfs else {"library": given.library}
+    try:
+        with (ProcessVolume if given.lfs else Volume)(given.image, read_only=not is_import, **how) as volume:
+            files, size = (_tar_into if is_import else _tar_out_of)(volume, given.archive, os.fsencode(given.path))
+        if is_import or given.archive != "-":
+            print(f"ok {files} files {size} bytes", flush=True)
+    except BrokenPipeError:
+        # Nobody reads what is written: what is left of it goes nowhere.
+        os.dup2(os.open(os.devnull, os.O_WRONLY), sys.stdout.fileno())
+        return 1
+    except tarfile.TarError as error:
+        print(f"pansuyog: {given.archive}: it isn't an archive of tar, or isn't whole: {error}", file=sys.stderr)
+        return 1
+    except (Refused, ChildDied, BadLine, OSError) as error:
+        print(f"pansuyog: {error}", file=sys.stderr)
+        return 1
+    return 0
+
+
+if __name__ == "__main__":
+    sys.exit(_main())

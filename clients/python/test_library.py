@@ -25,7 +25,7 @@ import building
 import pansuyog
 import stopping
 import test_pansuyog
-from test_pansuyog import HERE, BesideTheProgram, Calls, Files, OnAVolume, OnlyRead, Page, Refusals, changes_of, put  # noqa: F401, whose tests run here too
+from test_pansuyog import HERE, Archives, BesideTheProgram, Calls, FileObjects, Files, OnAVolume, OnlyRead, Page, Refusals, changes_of, put  # noqa: F401, whose tests run here too
 
 CASES = f"{HERE}/../../crates/lfs_trials/data"
 RECORDS = int(os.environ.get("PANSUYOG_RECORDS", "3600"))
@@ -44,6 +44,9 @@ class Library:
 
     def mounted(self, image, **how):
         return pansuyog.Volume(image, library=self.path, **how)
+
+    def words(self):
+        return ["--library", self.path]
 
     def shown(self, code, image):
         return code.replace('"disk.img"', f"{image!r}, library={self.path!r}")
@@ -75,6 +78,10 @@ class CallsOnADevice(OnADevice, Calls):
 
 
 class FilesOnADevice(OnADevice, Files):
+    pass
+
+
+class FileObjectsOnADevice(OnADevice, FileObjects):
     pass
 
 
@@ -1023,10 +1030,14 @@ class Installed(OfTheLibrary):
 
     def test_the_page_of_the_library_shows_what_runs(self):
         shown = re.findall(r"^```python\n(.*?)^```", text_of(f"{HERE}/../../docs/LIBRARY.md"), re.M | re.S)
-        self.assertEqual(len(shown), 1)
+        wanted = [b"a record\n", b"[['2026-12-01', '4.2']]\n"]
+        self.assertEqual(len(shown), len(wanted))
         env = {**os.environ, "PYTHONPATH": HERE, "LD_LIBRARY_PATH": os.path.dirname(used().path)}
-        ran = subprocess.run([sys.executable, "-B", "-c", shown[0]], env=env, stdout=subprocess.PIPE, check=True)
-        self.assertEqual(ran.stdout, b"a record\n")
+        with tempfile.TemporaryDirectory() as folder:
+            used().make(f"{folder}/disk.img", 64)
+            for code, told in zip(shown, wanted):
+                ran = subprocess.run([sys.executable, "-B", "-c", code], cwd=folder, env=env, stdout=subprocess.PIPE, check=True)
+                self.assertEqual(ran.stdout, told)
 
     def test_a_wheel_has_the_libraries(self):
         with tempfile.TemporaryDirectory() as folder, mock.patch("building.LIBRARIES", self.libraries()):

@@ -1,5 +1,9 @@
 """Tests of the client over the program: python3 test_pansuyog.py LFS. Most of them `test_library.py` has over the library too."""
 import contextlib
+import csv
+import gc
+import io
+import json
 import os
 import random
 import re
@@ -8,9 +12,11 @@ import signal
 import socket
 import subprocess
 import sys
+import tarfile
 import tempfile
 import time
 import unittest
+import zipfile
 from unittest import mock
 
 import pansuyog
@@ -33,6 +39,10 @@ class Program:
 
     def mounted(self, image, **how):
         return pansuyog.ProcessVolume(image, self.path, **how)
+
+    def words(self):
+        """The words of the module's command line that name it."""
+        return ["--lfs", self.path]
 
     def shown(self, code, image):
         """What a page shows of `Volume`, as code over an image."""
@@ -399,6 +409,317 @@ class Files(OnAVolume):
     def test_nothing_is_written_over(self):
         with tempfile.TemporaryDirectory() as room:
             self.assertRaises(FileExistsError, self.mounted().export, room)
+
+
+class FileObjects(OnAVolume):
+    def test_a_file_behaves_as_one_of_the_host(self):
+        dice = random.Random(5)
+        volume = self.mounted()
+        for mode in ("w", "r+", "a+", "w+", "a", "r", "r+b"):
+            with volume.file("/f", mode) as file, open(f"{self.image}.host", mode.replace("b", "") + "b", buffering=0) as model:
+                self.assertEqual([getattr(file, it)() for it in ("readable", "writable", "seekable")], [getattr(model, it)() for it in ("readable", "writable", "seekable")])
+                for _ in range(60):
+                    self.assertEqual(self.done(file, *self.step(dice)), self.done(model, *self.last), (mode, self.last))
+            with open(f"{self.image}.host", "rb") as model:
+                self.assertEqual(volume.read("/f"), model.read())
+
+    def step(self, dice):
+        """A call of a file, with its arguments."""
+        name = dice.choice(["read", "readall", "write", "write", "seek", "tell", "truncate", "readinto"])
+        size = dice.choice([0, 1, 511, 512, 513, 66_000])
+        whence = dice.choice([os.SEEK_SET, os.SEEK_CUR, os.SEEK_END])
+        given = {"read": [dice.choice([size, -1])], "write": [random_bytes(size, size)], "seek": [size if whence == 0 else -size // 2, whence]}
+        self.last = name, given.get(name, dice.choice([[], [size]]) if name == "truncate" else [size] if name == "readinto" else [])
+        return self.last
+
+    @staticmethod
+    def done(file, name, given):
+        """What a call answers, with what it read, and where the file is then."""
+        buffer = bytearray(given[0]) if name == "readinto" else None
+        try:
+            answer = getattr(file, name)(*([buffer] if buffer is not None else given))
+        except (ValueError, OSError):
+            answer = "refused"
+        return answer, buffer, file.tell()
+
+    def test_rows_go_in_and_out_by_csv(self):
+        volume = self.mounted()
+        rows = [["2026-12-01", "Überdruck, außen", "4.2"], ["2026-12-02", 'a "word"', "two\nlines"]]
+        for row in rows:
+            with io.TextIOWrapper(volume.file("/days.csv", "a"), encoding="utf-8", newline="") as file:
+                csv.writer(file).writerow(row)
+        with io.TextIOWrapper(volume.file("/days.csv"), encoding="utf-8", newline="") as file:
+            self.assertEqual(list(csv.reader(file)), rows)
+        self.assertEqual(volume.read("/days.csv").count(b"\r\n"), 2)
+
+    def test_json_goes_in_and_out(self):
+        volume, value = self.mounted(), {"name": "Überdruck", "values": [1, 2.5, None]}
+        with io.TextIOWrapper(volume.file("/v.json", "w"), encoding="utf-8") as file:
+            json.dump(value, file)
+        with volume.file("/v.json", "rb") as file:
+            self.assertEqual(json.load(file), value)
+        with volume.file("/v.json", "w") as file, self.assertRaisesRegex(TypeError, "^data has to be bytes, and this is str$"):
+            json.dump(value, file)
+
+    def test_archives_are_written_and_read(self):
+        volume, data = self.mounted(), random_bytes(150_000, 7)
+        for path, mode in (("/plain.tar", ""), ("/packed.tar", "gz")):
+            with volume.file(path, "x") as file, tarfile.open(fileobj=file, mode=f"w:{mode}") as archive:
+                member = tarfile.TarInfo("a/b")
+                member.size = len(data)
+                archive.addfile(member, io.BytesIO(data))
+            with volume.file(path) as file, tarfile.open(fileobj=file) as archive:
+                self.assertEqual(archive.extractfile("a/b").read(), data)
+        with volume.file("/a.zip", "w+") as file, zipfile.ZipFile(file, "w", zipfile.ZIP_DEFLATED) as archive:
+            archive.writestr("one", data)
+        with volume.file("/a.zip", "r+") as file, zipfile.ZipFile(file, "a") as archive:
+            archive.writestr("two", b"two")
+        with volume.file("/a.zip") as file, zipfile.ZipFile(file) as archive:
+            self.assertEqual((archive.testzip(), archive.read("one"), archive.read("two")), (None, data, b"two"))
+
+    def test_buffers_stand_over_a_file(self):
+        volume = self.mounted()
+        lines = [b"line %d\n" % number for number in range(3_000)]
+        with io.BufferedWriter(volume.file("/log", "a")) as file, mock.patch.object(volume, "pwrite", wraps=volume.pwrite) as pwrite:
+            file.writelines(lines)
+            file.flush()
+        self.assertLess(pwrite.call_count, 10)
+        with io.BufferedReader(volume.file("/log")) as file:
+            self.assertEqual(list(file), lines)
+        with open(f"{self.image}.copy", "wb") as copy, volume.file("/log") as file:
+            shutil.copyfileobj(file, copy)
+        with open(f"{self.image}.copy", "rb") as copy:
+            self.assertEqual(copy.read(), b"".join(lines))
+
+    def test_what_was_saved_stays(self):
+        volume = self.mounted()
+        with volume.file("/log", "x") as file:
+            file.write(b"kept")
+            file.save()
+            file.write(b" and lost")
+        volume.kill()
+        self.assertEqual(self.mounted().read("/log"), b"kept")
+
+    def test_refusals_are_those_of_the_calls(self):
+        volume = self.mounted()
+        volume.mkdir("/d")
+        volume.write_file("/f", b"kept")
+        for path, mode, name in (("/none", "r", "NoEntry"), ("/none/f", "w", "NoEntry"), ("/d", "r", "IsDir"), ("/d", "w", "IsDir"), ("/f", "x", "Exist"), ("/f/g", "a", "NotDir")):
+            self.assertRaises(getattr(pansuyog, name), volume.file, path, mode)
+        for mode, told in (("rt", "io.TextIOWrapper"), ("", "none of r, w, x and a"), ("rw", "none of"), ("r++", "none of"), ("b", "none of")):
+            with self.assertRaisesRegex(ValueError, told):
+                volume.file("/f", mode)
+        with volume.file("/f", "r+") as file:
+            for data in ("text", 5):
+                self.assertRaisesRegex(TypeError, "^data has to be bytes, and this is ", file.write, data)
+            file.seek(8_511_488)
+            self.assertRaises(pansuyog.FileTooBig, file.write, b"x")
+            file.seek(4)
+            self.assertRaises(pansuyog.NoSpace, file.write, b"x" * 1_300_000)
+            self.assertEqual(volume.read("/f"), b"kept" + b"x" * (file.tell() - 4))
+
+    def test_a_file_without_a_name_is_a_file_still(self):
+        volume = self.mounted()
+        with volume.file("/f", "w+") as file:
+            volume.unlink("/f")
+            file.write(b"here")
+            self.assertEqual((file.seek(0, os.SEEK_END), file.seek(0), file.read()), (4, 0, b"here"))
+        self.assertEqual(self.names(volume), [])
+
+    def test_a_closed_file_takes_no_call(self):
+        volume = self.mounted()
+        file = volume.file("/f", "w+")
+        file.close()
+        file.close()
+        for call in (file.read, file.tell, file.save, file.truncate, lambda: file.write(b""), lambda: file.seek(0)):
+            self.assertRaises(ValueError, call)
+        self.assertEqual(volume.create("/g"), 0)
+
+    def test_a_file_may_be_closed_behind_its_volume(self):
+        with self.mounted() as volume:
+            file = volume.file("/f", "w")
+        self.assertRaises(ValueError, file.write, b"late")
+        file.close()
+        self.assertTrue(file.closed)
+
+    def test_a_forgotten_file_gives_its_handle_back(self):
+        volume = self.mounted()
+        for _ in range(200):
+            with self.assertWarns(ResourceWarning):
+                file = volume.file("/f", "a")
+                file.again = file
+                del file
+                gc.collect()
+        self.assertLessEqual(volume.create("/g"), 1)
+
+    def test_what_is_only_read_is_not_written(self):
+        volume = self.mounted()
+        volume.write_file("/f", b"kept")
+        volume.close()
+        volume = self.mounted(read_only=True)
+        with volume.file("/f") as file:
+            self.assertEqual(file.read(), b"kept")
+            self.assertRaises(io.UnsupportedOperation, file.write, b"new")
+        self.assertRaises(pansuyog.ReadOnly, volume.file, "/f", "w")
+        self.assertRaises(pansuyog.ReadOnly, volume.file, "/g", "a")
+        with volume.file("/f", "r+") as file:
+            self.assertRaises(pansuyog.ReadOnly, file.write, b"new")
+        self.assertEqual(volume.read("/f"), b"kept")
+
+
+class Archives(OnAVolume):
+    def setUp(self):
+        super().setUp()
+        room = tempfile.TemporaryDirectory()
+        self.addCleanup(room.cleanup)
+        self.room = room.name
+
+    def folder(self):
+        """A folder of the host with all that an archive may have of one, with names and paths that are longer than an old archive takes."""
+        folder, deep = os.fsencode(f"{self.room}/in"), b"/".join([b"d" * 59] * 4)
+        for path in (b"empty", deep):
+            os.makedirs(os.path.join(folder, path))
+        for number, name in enumerate((b"a b", b"n" * 59, b"\xff\xfe", "Überdruck".encode(), deep + b"/f", b"-x", b"empty file")):
+            put(os.path.join(folder, name), random_bytes(30_011 * number, number))
+        put(os.path.join(folder, b"empty file"))
+        os.link(os.path.join(folder, b"a b"), os.path.join(folder, deep, b"second"))
+        os.link(os.path.join(folder, b"a b"), os.path.join(folder, b"third"))
+        os.symlink(b"../" * 60 + b"\xff", os.path.join(folder, b"link"))
+        os.symlink(b"empty", os.path.join(folder, b"to a folder"))
+        return folder
+
+    def assert_same(self, folder, other):
+        ran = subprocess.run(["diff", "-r", "--no-dereference", folder, other], capture_output=True, check=False)
+        self.assertEqual((ran.returncode, ran.stdout), (0, b""))
+
+    def packed(self, folder, name, *words):
+        """An archive of a folder, which the system's `tar` makes."""
+        subprocess.run(["tar", *words, "-cf", f"{self.room}/{name}", "-C", folder, "."], check=True)
+        return f"{self.room}/{name}"
+
+    def unpacked(self, archive, name):
+        out = f"{self.room}/{name}"
+        os.mkdir(out)
+        subprocess.run(["tar", "-xf", archive, "-C", out], check=True)
+        return out
+
+    def test_an_archive_comes_out_as_it_went_in(self):
+        folder, told = self.folder(), (7, 30_011 * 15)
+        for number, words in enumerate((["--format=gnu"], ["--format=pax"], ["-z"])):
+            used.make(self.image, 64, force=True)
+            volume = self.mounted()
+            with open(self.packed(folder, f"{number}.tar", *words), "rb") as file:
+                self.assertEqual(volume.import_tar(file), (*told, []))
+            volume.kill()
+            volume = self.mounted()
+            self.assertEqual((volume.stat("/a b").links, volume.stat("/third").number), (3, volume.stat("/a b").number))
+            with open(f"{self.room}/out {number}.tar", "wb") as file:
+                self.assertEqual(volume.export_tar(file), told)
+            out = self.unpacked(f"{self.room}/out {number}.tar", f"out {number}")
+            self.assert_same(folder, out)
+            self.assertTrue(os.path.samefile(f"{out}/third", f"{out}/a b"))
+            self.assertLess(abs(os.stat(f"{out}/third").st_mtime - time.time()), 600)
+            volume.close()
+
+    def test_an_archive_goes_into_a_directory_and_over_what_is_there(self):
+        folder, volume = self.folder(), self.mounted()
+        volume.mkdir("/d")
+        volume.write_file("/kept", b"kept")
+        packed = self.packed(folder, "a.tar")
+        for _ in range(2):
+            with open(packed, "rb") as file:
+                volume.import_tar(file, "/d/")
+        with open(f"{self.room}/out.tar", "wb") as file:
+            self.assertEqual(volume.export_tar(file, "/d"), (7, 30_011 * 15))
+        self.assert_same(folder, self.unpacked(f"{self.room}/out.tar", "out"))
+        self.assertEqual(self.names(volume), [b"d", b"kept"])
+        self.assertRaises(pansuyog.NotDir, volume.export_tar, io.BytesIO(), "/kept")
+        self.assertRaises(pansuyog.NoEntry, volume.import_tar, io.BytesIO(), "/none")
+
+    def archive_of(self, *members):
+        """An archive of these members: names with a kind, and a text of a link or the bytes of a file."""
+        file = io.BytesIO()
+        with tarfile.open(fileobj=file, mode="w") as archive:
+            for name, kind, what in members:
+                member = tarfile.TarInfo(name)
+                member.type = kind
+                if kind == tarfile.REGTYPE:
+                    member.size = len(what)
+                else:
+                    member.linkname = what
+                archive.addfile(member, io.BytesIO(what) if kind == tarfile.REGTYPE else None)
+        file.seek(0)
+        return file
+
+    def test_what_leads_out_of_the_folder_is_left_out(self):
+        volume = self.mounted()
+        volume.mkdir("/d")
+        file = self.archive_of(
+            ("../up", tarfile.REGTYPE, b"up"),
+            ("/a/../../b", tarfile.REGTYPE, b"up"),
+            ("pipe", tarfile.FIFOTYPE, ""),
+            ("name", tarfile.LNKTYPE, "../f"),
+            ("/one//./two/f", tarfile.REGTYPE, b"in"),
+        )
+        with self.assertWarns(pansuyog.Omitted) as caught:
+            self.assertEqual(volume.import_tar(file, "/d"), (1, 2, ["../up", "/a/../../b", "pipe", "name"]))
+        texts = [str(it.message) for it in caught.warnings]
+        self.assertEqual(texts[2:], ["pipe: it is neither a file, a folder nor a link, so it is left out", "name: a name of it has a piece `..`, so it is left out"])
+        self.assertEqual(list(volume._all_below(b"/")), [b"/d", b"/d/one", b"/d/one/two", b"/d/one/two/f"])
+
+    def test_what_is_refused_leaves_what_was_put(self):
+        volume = self.mounted()
+        file = self.archive_of(("one", tarfile.REGTYPE, b"one"), ("two", tarfile.REGTYPE, b"x" * 1_300_000), ("three", tarfile.REGTYPE, b""))
+        self.assertRaises(pansuyog.NoSpace, volume.import_tar, file)
+        file = self.archive_of(("four", tarfile.REGTYPE, b""), ("n" * 60, tarfile.REGTYPE, b""))
+        self.assertRaises(pansuyog.NameTooLong, volume.import_tar, file)
+        self.assertRaises(tarfile.ReadError, volume.import_tar, io.BytesIO(b"no archive" * 200))
+        self.assertRaises(pansuyog.Inval, volume.import_tar, self.archive_of(("d/.lfs-put", tarfile.REGTYPE, b"")))
+        volume.kill()
+        self.assertEqual(self.names(self.mounted()), [b"d", b"four", b"one"])
+
+    def test_an_archive_is_synced_at_its_end(self):
+        members = [(f"{number:02}", tarfile.REGTYPE, b"x" * 1_000) for number in range(30)]
+        for each, syncs in ((64 << 20, 1), (10_000, 4)):
+            volume = self.mounted()
+            with mock.patch.object(volume, "sync", wraps=volume.sync) as sync:
+                self.assertEqual(volume.import_tar(self.archive_of(*members), sync_each=each), (30, 30_000, []))
+            self.assertEqual(sync.call_count, syncs)
+            volume.close()
+
+    def command(self, *words, **how):
+        ran = subprocess.run([sys.executable, "-m", "pansuyog", *words], cwd=HERE, capture_output=True, check=False, **how)
+        return ran.returncode, ran.stdout, ran.stderr.decode()
+
+    def test_the_command_line_takes_and_gives_archives(self):
+        folder, words, told = self.folder(), used.words(), (0, b"ok 7 files 450165 bytes\n", "")
+        packed = self.packed(folder, "in.tar")
+        self.assertEqual(self.command("import", self.image, packed, *words), told)
+        self.assertEqual(self.command("export", *words, self.image, f"{self.room}/out.tar"), told)
+        self.assert_same(folder, self.unpacked(f"{self.room}/out.tar", "out"))
+        with open(packed, "rb") as file:
+            self.assertEqual(self.command("import", *words, self.image, "-", "--path", "/empty", stdin=file), told)
+        status, archive, said = self.command("export", *words, self.image, "-", "--path", "/empty")
+        self.assertEqual((status, said), (0, ""))
+        put(f"{self.room}/again.tar", archive)
+        self.assert_same(folder, self.unpacked(f"{self.room}/again.tar", "again"))
+
+    def test_the_command_line_tells_what_is_refused(self):
+        words, archive = used.words(), f"{self.room}/a.tar"
+        self.assertEqual(self.command("import", *words, self.image, archive)[::2], (1, f"pansuyog: [Errno 2] No such file or directory: '{archive}'\n"))
+        put(archive, b"no archive" * 200)
+        self.assertRegex(self.command("import", *words, self.image, archive)[2], f"^pansuyog: {archive}: it isn't an archive of tar, or isn't whole: ")
+        status, _, said = self.command("export", *words, self.image, archive)
+        self.assertEqual((status, said), (1, f"pansuyog: [Errno 17] File exists: '{archive}'\n"))
+        status, _, said = self.command("export", *words, self.image, f"{self.room}/b.tar", "--path", "/none")
+        self.assertEqual((status, said), (1, "pansuyog: readdir /none/: the volume has nothing of this name\n"))
+        self.assertFalse(os.path.exists(f"{self.room}/b.tar"))
+        self.assertEqual(self.command("import", *words, f"{self.image}.none", archive)[0], 1)
+        self.assertEqual(self.command("import", *words, self.image)[0], 2)
+        with open(archive, "wb") as file:
+            file.write(self.archive_of(("pipe", tarfile.FIFOTYPE, "")).read())
+        told = (0, b"ok 0 files 0 bytes\n", "pansuyog: pipe: it is neither a file, a folder nor a link, so it is left out\n")
+        self.assertEqual(self.command("import", *words, self.image, archive), told)
 
 
 class BesideTheProgram(OnAVolume):

@@ -39,6 +39,7 @@
 mod backend;
 mod device;
 mod error;
+mod file;
 mod image;
 #[allow(unsafe_code)]
 mod library;
@@ -50,6 +51,7 @@ mod volume;
 pub use backend::{Backend, Image};
 pub use device::{Device, SECTOR, Sector, sectors_of};
 pub use error::Error;
+pub use file::File;
 pub use making::{make, make_with};
 pub use shape::{Shape, Version};
 pub use volume::{Entry, Handle, Kind, Space, Stat, Volume};

@@ -2,6 +2,7 @@
 use crate::backend::{Backend, Image, Mounted};
 use crate::device::Device;
 use crate::error::Error;
+use crate::file::File;
 use crate::image::InImage;
 use crate::library::{Access, Library};
 use crate::ordered::OverDevice;
@@ -226,6 +227,12 @@ impl<D: Backend> Volume<D> {
         self.mounted
             .change(|library| library.pwrite(handle.0, offset, bytes))
             .map(|count| count as usize)
+    }
+
+    /// The open file of a handle with a position, for all that takes [`Read`](std::io::Read), [`Write`](std::io::Write) and
+    /// [`Seek`](std::io::Seek). That the handle isn't open shows at the first call.
+    pub fn file(&mut self, handle: Handle) -> File<'_, D> {
+        File::new(self, handle)
     }
 
     /// Gives a file this size in bytes: it is cut, or zeros are added.
