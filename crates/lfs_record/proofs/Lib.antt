@@ -8,6 +8,7 @@ pub mod Order
 pub mod Paths
 pub mod Refusing
 pub mod Running
+pub mod Saved
 pub mod Spelling
 pub mod Steps
 pub mod Stopping

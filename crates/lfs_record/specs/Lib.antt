@@ -3,3 +3,4 @@ pub mod Keeping
 pub mod Kept
 pub mod Moves
 pub mod Names
+pub mod Saving

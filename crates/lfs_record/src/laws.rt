@@ -1,9 +1,11 @@
 //! What a recorder's calls come to, as laws: each is the contract of a function that does nothing.
 ghost use Rattle.lfs_record.specs.Keeping.{LinesAreKept};
 ghost use Rattle.lfs_record.specs.Kept.{HoldsAllElse};
+ghost use Rattle.lfs_record.specs.Saving.{LinesAreSaved};
 ghost use Rattle.lfs_record.specs.Names.{NamesAreNumbered, NamesAreOrdered};
 
 use lfs_device::SectorDevice;
+use lfs_fs::laws::calls_are_kept;
 
 /// The name of a number and a day has both.
 pub fn names_are_numbered()
@@ -26,3 +28,11 @@ pub fn holds_all_else()
 pub fn lines_are_kept<D: SectorDevice>()
     ensures { LinesAreKept D.SectorDevice.state }
 {}
+
+/// So it is of a recorder's calls of a mounted volume over a device that keeps the device model, and
+/// may be tended to between them: a stop leaves all lines that were saved by its moment.
+pub fn lines_are_saved<D: SectorDevice>()
+    ensures { LinesAreSaved D.SectorDevice.state }
+{
+    calls_are_kept::<D>();
+}
