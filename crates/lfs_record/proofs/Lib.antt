@@ -1,0 +1,14 @@
+pub mod Along
+pub mod Changes
+pub mod Digits
+pub mod Holding
+pub mod Listed
+pub mod Oldest
+pub mod Order
+pub mod Paths
+pub mod Refusing
+pub mod Running
+pub mod Saved
+pub mod Spelling
+pub mod Steps
+pub mod Stopping

@@ -1,0 +1,6 @@
+pub mod Files
+pub mod Keeping
+pub mod Kept
+pub mod Moves
+pub mod Names
+pub mod Saving

@@ -1,0 +1,38 @@
+//! What a recorder's calls come to, as laws: each is the contract of a function that does nothing.
+ghost use Rattle.lfs_record.specs.Keeping.{LinesAreKept};
+ghost use Rattle.lfs_record.specs.Kept.{HoldsAllElse};
+ghost use Rattle.lfs_record.specs.Saving.{LinesAreSaved};
+ghost use Rattle.lfs_record.specs.Names.{NamesAreNumbered, NamesAreOrdered};
+
+use lfs_device::SectorDevice;
+use lfs_fs::laws::calls_are_kept;
+
+/// The name of a number and a day has both.
+pub fn names_are_numbered()
+    ensures { NamesAreNumbered }
+{}
+
+/// Names are ordered by their bytes as their numbers are.
+pub fn names_are_ordered()
+    ensures { NamesAreOrdered }
+{}
+
+/// What files hold behind texts: whole files went, and those that are left hold all else in order.
+pub fn holds_all_else()
+    ensures { HoldsAllElse }
+{}
+
+/// Behind each of a recorder's calls its files hold all lines so far, but for whole files that went.
+/// And so does what a stop leaves, with every line that was saved when a clock was read, where the
+/// stop comes at a moment since.
+pub fn lines_are_kept<D: SectorDevice>()
+    ensures { LinesAreKept D.SectorDevice.state }
+{}
+
+/// So it is of a recorder's calls of a mounted volume over a device that keeps the device model, and
+/// may be tended to between them: a stop leaves all lines that were saved by its moment.
+pub fn lines_are_saved<D: SectorDevice>()
+    ensures { LinesAreSaved D.SectorDevice.state }
+{
+    calls_are_kept::<D>();
+}
