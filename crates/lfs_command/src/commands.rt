@@ -29,7 +29,8 @@ use lfs_host::making::mkfs;
 use lfs_host::printing::{flush, print, put, put_count, refuse};
 use lfs_recover::{Recovery, explain, recover};
 use lfs_script::{
-    Glances, Recorded, ScriptEnd, StrictEnd, Witness, use_and_stop_noted, use_volume_noted,
+    CountedWriter, CountsReads, Glances, ReadCount, Recorded, ScriptEnd, StrictEnd, Witness,
+    use_and_stop_noted, use_volume_noted,
 };
 use lfs_show::looking::{Look, end_look, show};
 use lfs_show::viewing::look;
@@ -125,10 +126,11 @@ fn end_plain<W: Write>(end: StrictEnd, output: &mut W) -> Result<Ending, Fault>
 
 // Runs a script on the volume of a device. Where it can't be mounted its line is printed, and the
 // ending is `Refused`, which no script has.
-fn play<D: SectorDevice, I: Read, W: Write, S: Witness<D, W>>(
+fn play<D: SectorDevice, I: Read, W: Write, S: Witness<D, W>, C: CountsReads<I>>(
     alloc: Global,
     device: D,
     input: &mut I,
+    counter: &mut C,
     output: &mut W,
     witness: &mut S,
 ) -> (Played<Ending>, D)
@@ -136,7 +138,7 @@ fn play<D: SectorDevice, I: Read, W: Write, S: Witness<D, W>>(
     ensures plays { Plays result.0.end (I.remaining input.old) (I.remaining input.new)
         (W.contents output.old) (W.contents output.new) (D.state device)
         (D.state result.1) (S.glances witness.old) (S.glances witness.new) }
-    ensures reads { TellsInput result.0.end (S.failures witness.old) (S.failures witness.new)
+    ensures reads { TellsInput result.0.end (C.failures counter.old) (C.failures counter.new)
         (I.remaining input.old) (I.remaining input.new) }
     ensures saved { TellsSaved result.0.is_saved false (I.remaining input.old)
         (I.remaining input.new) (W.contents output.old) (D.state device)
@@ -145,13 +147,13 @@ fn play<D: SectorDevice, I: Read, W: Write, S: Witness<D, W>>(
         Plays result.0.end r r' (W.contents output.old) (W.contents output.new)
         (D.state device) (D.state result.1)
         (S.glances witness.old) (S.glances witness.new)
-        × TellsInput result.0.end (S.failures witness.old) (S.failures witness.new) r r'
+        × TellsInput result.0.end (C.failures counter.old) (C.failures counter.new) r r'
         × TellsSaved result.0.is_saved false r r' (W.contents output.old)
         (D.state device) (D.state result.1)
         (S.glances witness.old) (S.glances witness.new)) }
     ensures carries { Carries (D.state device) (D.state result.1) }
 {
-    match use_volume_noted(alloc, false, input, output, witness, device) {
+    match use_volume_noted(alloc, false, input, counter, output, witness, device) {
         (Ok(used), device) => {
             let end = end_plain(used.script, output);
             let is_saved = used.is_saved;
@@ -204,8 +206,9 @@ fn run<Here: World, R: Files<File = File> + Clock, I: Read, W: Write>(
     match image::open_to_write::<Here, R>(rt, alloc, image) {
         Ok(device) => match find_volume(device) {
             Ok(found) => {
+                let mut count = ReadCount::new();
                 let mut glances = Glances::new();
-                let (played, used) = play(alloc, found, input, output, &mut glances);
+                let (played, used) = play(alloc, found, input, &mut count, output, &mut glances);
                 let mut device = used.into_inner();
                 Played {
                     end: explain_ending(played.end, &mut device),
@@ -251,10 +254,11 @@ fn end_strict<W: Write>(end: StrictEnd, output: &mut W) -> Result<Outcome, Fault
 }
 
 // As `play`, by a strict run of the script.
-fn play_strict<D: SectorDevice, I: Read, W: Write, S: Witness<D, W>>(
+fn play_strict<D: SectorDevice, I: Read, W: Write, S: Witness<D, W>, C: CountsReads<I>>(
     alloc: Global,
     device: D,
     input: &mut I,
+    counter: &mut C,
     output: &mut W,
     witness: &mut S,
 ) -> (Played<Outcome>, D)
@@ -267,7 +271,7 @@ fn play_strict<D: SectorDevice, I: Read, W: Write, S: Witness<D, W>>(
         (W.contents output.new) (D.state device) (D.state result.1)
         (S.glances witness.old)
         (S.glances witness.new) }
-    ensures reads { TellsInput result.0.end (S.failures witness.old) (S.failures witness.new)
+    ensures reads { TellsInput result.0.end (C.failures counter.old) (C.failures counter.new)
         (I.remaining input.old) (I.remaining input.new) }
     ensures saved { TellsSaved result.0.is_saved true (I.remaining input.old)
         (I.remaining input.new) (W.contents output.old) (D.state device)
@@ -276,13 +280,13 @@ fn play_strict<D: SectorDevice, I: Read, W: Write, S: Witness<D, W>>(
         PlaysStrictly result.0.end r r' (W.contents output.old) (W.contents output.new)
         (D.state device) (D.state result.1)
         (S.glances witness.old) (S.glances witness.new)
-        × TellsInput result.0.end (S.failures witness.old) (S.failures witness.new) r r'
+        × TellsInput result.0.end (C.failures counter.old) (C.failures counter.new) r r'
         × TellsSaved result.0.is_saved true r r' (W.contents output.old)
         (D.state device) (D.state result.1)
         (S.glances witness.old) (S.glances witness.new)) }
     ensures carries { Carries (D.state device) (D.state result.1) }
 {
-    match use_volume_noted(alloc, true, input, output, witness, device) {
+    match use_volume_noted(alloc, true, input, counter, output, witness, device) {
         (Ok(used), device) => {
             let end = end_strict(used.script, output);
             let is_saved = used.is_saved;
@@ -306,8 +310,16 @@ fn run_strict<Here: World, R: Files<File = File> + Clock, I: Read, W: Write>(
     match image::open_to_write::<Here, R>(rt, alloc, image) {
         Ok(device) => match find_volume(device) {
             Ok(found) => {
+                let mut count = ReadCount::new();
                 let mut glances = Glances::new();
-                let (played, used) = play_strict(alloc, found, input, output, &mut glances);
+                let (played, used) = play_strict(
+                    alloc,
+                    found,
+                    input,
+                    &mut count,
+                    output,
+                    &mut glances,
+                );
                 let mut device = used.into_inner();
                 Played {
                     end: explain_outcome(played.end, &mut device),
@@ -330,11 +342,12 @@ fn run_strict<Here: World, R: Files<File = File> + Clock, I: Read, W: Write>(
 }
 
 // As `play` on a device in memory, which stops then.
-fn play_and_stop<I: Read, W: Write, S: Witness<InVolume<MemDevice>, W>>(
+fn play_and_stop<I: Read, W: Write, S: Witness<InVolume<MemDevice>, W>, C: CountsReads<I>>(
     alloc: Global,
     device: MemDevice,
     left: Left,
     input: &mut I,
+    counter: &mut C,
     output: &mut W,
     witness: &mut S,
 ) -> (Result<Ending, Fault>, MemDevice)
@@ -343,17 +356,17 @@ fn play_and_stop<I: Read, W: Write, S: Witness<InVolume<MemDevice>, W>>(
         (W.contents output.new)
         (in_volume device_state device device) (in_volume device_state device result.1)
         (S.glances witness.old) (S.glances witness.new) }
-    ensures reads { TellsInput result.0 (S.failures witness.old) (S.failures witness.new)
+    ensures reads { TellsInput result.0 (C.failures counter.old) (C.failures counter.new)
         (I.remaining input.old) (I.remaining input.new) }
     ensures heard { HearsTo (S.heard witness.old) (S.heard witness.new) (λ r r'.
         Plays result.0 r r' (W.contents output.old) (W.contents output.new)
         (in_volume device_state device device) (in_volume device_state device result.1)
         (S.glances witness.old) (S.glances witness.new)
-        × TellsInput result.0 (S.failures witness.old) (S.failures witness.new) r r') }
+        × TellsInput result.0 (C.failures counter.old) (C.failures counter.new) r r') }
     ensures carries { Carries (in_volume device_state device device)
         (in_volume device_state device result.1) }
 {
-    match use_and_stop_noted(alloc, false, input, output, witness, device, left) {
+    match use_and_stop_noted(alloc, false, input, counter, output, witness, device, left) {
         (Ok(end), device) => (end_plain(end, output), device),
         (Err(fault), device) => (refuse(output, Refusal::from(fault)), device),
     }
@@ -406,8 +419,17 @@ fn sim<I: Read, W: Write>(
         Ok(device) => device,
         Err(refusal) => return refuse(output, refusal),
     };
+    let mut count = ReadCount::new();
     let mut glances = Glances::new();
-    let (played, device) = play_and_stop(alloc, device, plan.left, input, output, &mut glances);
+    let (played, device) = play_and_stop(
+        alloc,
+        device,
+        plan.left,
+        input,
+        &mut count,
+        output,
+        &mut glances,
+    );
     match played? {
         Ending::Refused(refusal) => Ok(Ending::Refused(refusal)),
         played => finish_sim(alloc, played, device, output),
@@ -617,7 +639,7 @@ fn answer_and_flush<'a, R: Files<File = File> + Clock, I: Read, W: Write, E: Wri
 
 // Hands the command a buffer before the output. Each part of a command flushes what it wrote, and a
 // script its replies before each read. The output is recorded, so that the clauses below know all
-// bytes that it took.
+// bytes that it took. Each write and flush of it is one of the output, by its counts.
 fn answer_buffered<'a, R: Files<File = File> + Clock, I: Read, O: Write, E: Write>(
     rt: &R,
     alloc: Global,
@@ -630,7 +652,7 @@ fn answer_buffered<'a, R: Files<File = File> + Clock, I: Read, O: Write, E: Writ
     ensures strict { IfOk result.said (λ said. said.outcome ≡ Outcome.CallRefused
         → HasWord words.now (codes "--strict")) }
 {
-    match BufWriter::new(alloc, Recorded::new(output)) {
+    match BufWriter::new(alloc, Recorded::new(CountedWriter::new(output))) {
         Ok(mut buffered) => {
             answer_and_flush(rt, alloc, terminals, words, input, &mut buffered, errors)
         }

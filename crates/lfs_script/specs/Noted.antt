@@ -1,5 +1,5 @@
 -- What a witness saw of a run: it glances at device and writer before each reply. The language is an own choice.
-use Rattle.std.specs.Prelude.{◌≡◌, ℕ, suc, Some, Option, List, [], ◌∷◌, ◌++◌, length, map, take, slice_get, Result, Ok, Err}
+use Rattle.std.specs.Prelude.{◌≡◌, ℕ, Some, Option, List, [], ◌∷◌, ◌++◌, length, map, take, slice_get}
 use Rattle.std.specs.Io.KnownBytes.{Appends}
 use Rattle.lfs_model.specs.Call.{Answer}
 use Rattle.lfs_script.specs.Ending.{replies}
@@ -14,11 +14,6 @@ pub record Glance : Type 0 where
 -- they were glanced at once, at that moment
 abbrev pub GlancesAt : ℕ → Option (List ℕ) → List Glance → List Glance → Type 0
 GlancesAt t w old new = new ≡ old ++ (record { moment = t; written = w }) ∷ []
-
--- by the result of a read, how many failed before it and by then
-abbrev pub CountsFailure : {X E : Type 0} → ℕ → ℕ → Result X E → Type 0
-CountsFailure old new (Ok count) = new ≡ old
-CountsFailure old new (Err error) = new ≡ suc old
 
 -- Before each reply went out the device was glanced at, at these clocks: what the writer held then was the replies before it, and no more.
 pub record Glanced (w : Option (List ℕ)) (answers : List Answer) (clocks : List ℕ) (old new : List Glance) : Type 0 where

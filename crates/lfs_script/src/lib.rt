@@ -2,6 +2,8 @@
 #![tactic(auto)]
 
 mod answer;
+mod counted;
+mod counting;
 pub mod laws;
 mod line;
 mod noted;
@@ -10,9 +12,12 @@ mod script;
 mod session;
 mod source;
 mod strict;
+mod tally;
 mod transcript;
 mod witness;
 
+pub use counted::{CountedWrite, CountedWriter};
+pub use counting::{CountsReads, ReadCount};
 pub use lfs_fs as fs;
 pub use lfs_lines::{Call, Command, parse};
 pub use lfs_replies::{Answer, put_reply};

@@ -5,6 +5,7 @@ ghost use Rattle.lfs_script.specs.Bytes.{ahead};
 ghost use Rattle.lfs_script.specs.Heard.{HearsEnd, UsesHeard};
 ghost use Rattle.lfs_script.specs.LineEnd.{consumed_by_line, OnTooLong};
 
+use crate::counting::CountsReads;
 use crate::source::{ReadError, Source};
 use crate::witness::Witness;
 use lfs_device::SectorDevice;
@@ -23,9 +24,10 @@ pub enum LineEnd {
 
 /// Reads a line into the buffer, which has the room. The writer is flushed before each read of the
 /// reader.
-pub fn next_line<R: Read, W: Write, D: SectorDevice, S: Witness<D, W>>(
+pub fn next_line<R: Read, W: Write, D: SectorDevice, S: Witness<D, W>, C: CountsReads<R>>(
     source: &mut Source,
     reader: &mut R,
+    counter: &mut C,
     writer: &mut W,
     witness: &mut S,
     line: &mut Vec<u8>,
@@ -49,8 +51,8 @@ pub fn next_line<R: Read, W: Write, D: SectorDevice, S: Witness<D, W>>(
     ensures ahead { ahead source.old.start source.old.end source.old.budget
         ≤ length (line.new.items ++ consumed_by_line result)
         + ahead source.new.start source.new.end source.new.budget }
-    ensures counted { S.failures witness.old ≤ S.failures witness.new }
-    ensures cause { OnErr result ((S.failures witness.old < S.failures witness.new)
+    ensures counted { C.failures counter.old ≤ C.failures counter.new }
+    ensures cause { OnErr result ((C.failures counter.old < C.failures counter.new)
         ⊎ (ahead source.new.start source.new.end source.new.budget ≡ 0)) }
     ensures heard { UsesHeard (S.heard witness.old) (S.heard witness.new)
         (slice_range source.old.chunk.items source.old.start source.old.end)
@@ -62,7 +64,7 @@ pub fn next_line<R: Read, W: Write, D: SectorDevice, S: Witness<D, W>>(
 {
     line.clear();
     loop {
-        match source.next::<R, W, D, S>(reader, writer, witness)? {
+        match source.next::<R, W, D, S, C>(reader, counter, writer, witness)? {
             None => return Ok(LineEnd::Input),
             Some(b'\n') => return Ok(LineEnd::Newline),
             Some(byte) => {

@@ -13,6 +13,7 @@ ghost use Rattle.lfs_script.specs.Session.{SessionNoted};
 ghost use Rattle.lfs_script.specs.Strict.{ReadsTo};
 ghost use Rattle.lfs_script.specs.Unused.{IsUnused};
 
+use crate::counting::{CountsReads, ReadCount};
 use crate::script::{StrictEnd, run_noted};
 use crate::session::StoppedScript;
 use crate::witness::Witness;
@@ -32,10 +33,11 @@ pub struct UseEnd {
 /// As `use_volume` or `use_volume_strict`, before a witness: a stop at any moment since a reply
 /// went out leaves every call that was acknowledged by then. It tells whether all is saved at the
 /// end. What the witness heard is the script in hindsight, as in `run_noted`.
-pub fn use_volume_noted<R: Read, W: Write, D: SectorDevice, S: Witness<D, W>>(
+pub fn use_volume_noted<R: Read, W: Write, D: SectorDevice, S: Witness<D, W>, C: CountsReads<R>>(
     alloc: Global,
     strict: bool,
     reader: &mut R,
+    counter: &mut C,
     writer: &mut W,
     witness: &mut S,
     device: D,
@@ -49,13 +51,13 @@ pub fn use_volume_noted<R: Read, W: Write, D: SectorDevice, S: Witness<D, W>>(
         (W.contents writer.new) (D.state device) (D.state result.1)
         (S.glances witness.old)
         (S.glances witness.new)) }
-    ensures reads { IfOk result.0 (λ end. ReadsTo end.script (S.failures witness.old)
-        (S.failures witness.new) (R.remaining reader.old) (R.remaining reader.new)) }
+    ensures reads { IfOk result.0 (λ end. ReadsTo end.script (C.failures counter.old)
+        (C.failures counter.new) (R.remaining reader.old) (R.remaining reader.new)) }
     ensures heard { IfOk result.0 (λ end. HearsTo (S.heard witness.old) (S.heard witness.new)
         (λ r r'. SessionSaved end.is_saved strict end.script r r' (W.contents writer.old)
         (W.contents writer.new) (D.state device) (D.state result.1)
         (S.glances witness.old) (S.glances witness.new)
-        × ReadsTo end.script (S.failures witness.old) (S.failures witness.new) r r')) }
+        × ReadsTo end.script (C.failures counter.old) (C.failures counter.new) r r')) }
     ensures refused { IfErr result.0 (IsUnused reader.old reader.new writer.old writer.new
         (D.state device) (D.state result.1)) }
     ensures untouched { OnErr result.0 (IsUntouched (D.state device) (D.state result.1)) }
@@ -65,7 +67,7 @@ pub fn use_volume_noted<R: Read, W: Write, D: SectorDevice, S: Witness<D, W>>(
     match Fs::mount(alloc, device) {
         Ok(fs) => {
             let mut fs = fs;
-            let script = run_noted(alloc, strict, reader, writer, witness, &mut fs);
+            let script = run_noted(alloc, strict, reader, counter, writer, witness, &mut fs);
             let is_saved = fs.is_saved();
             (Ok(UseEnd { script, is_saved }), fs.into_device())
         }
@@ -75,10 +77,11 @@ pub fn use_volume_noted<R: Read, W: Write, D: SectorDevice, S: Witness<D, W>>(
 
 /// As `use_volume_noted` on a device in memory, as its volume sees it. It stops then: `left` is what
 /// it leaves of each sector that wasn't synced.
-pub fn use_and_stop_noted<R: Read, W: Write, S: Witness<InVolume<MemDevice>, W>>(
+pub fn use_and_stop_noted<R: Read, W: Write, S: Witness<InVolume<MemDevice>, W>, C: CountsReads<R>>(
     alloc: Global,
     strict: bool,
     reader: &mut R,
+    counter: &mut C,
     writer: &mut W,
     witness: &mut S,
     device: MemDevice,
@@ -88,13 +91,13 @@ pub fn use_and_stop_noted<R: Read, W: Write, S: Witness<InVolume<MemDevice>, W>>
         (R.remaining reader.new) (W.contents writer.old) (W.contents writer.new)
         (in_volume device_state device device) (in_volume device_state device result.1)
         (S.glances witness.old) (S.glances witness.new)) }
-    ensures reads { IfOk result.0 (λ end. ReadsTo end (S.failures witness.old)
-        (S.failures witness.new) (R.remaining reader.old) (R.remaining reader.new)) }
+    ensures reads { IfOk result.0 (λ end. ReadsTo end (C.failures counter.old)
+        (C.failures counter.new) (R.remaining reader.old) (R.remaining reader.new)) }
     ensures heard { IfOk result.0 (λ end. HearsTo (S.heard witness.old) (S.heard witness.new)
         (λ r r'. SessionNoted strict end r r' (W.contents writer.old) (W.contents writer.new)
         (in_volume device_state device device) (in_volume device_state device result.1)
         (S.glances witness.old) (S.glances witness.new)
-        × ReadsTo end (S.failures witness.old) (S.failures witness.new) r r')) }
+        × ReadsTo end (C.failures counter.old) (C.failures counter.new) r r')) }
     ensures refused { IfErr result.0 (IsUnused reader.old reader.new writer.old writer.new
         (in_volume device_state device device) (in_volume device_state device result.1)) }
     ensures unseen { OnErr result.0 (witness.new ≡ witness.old) }
@@ -105,7 +108,9 @@ pub fn use_and_stop_noted<R: Read, W: Write, S: Witness<InVolume<MemDevice>, W>>
 {
     match find_volume(device) {
         Ok(found) => {
-            let (end, used) = use_volume_noted(alloc, strict, reader, writer, witness, found);
+            let (end, used) = use_volume_noted(
+                alloc, strict, reader, counter, writer, witness, found,
+            );
             let mut stopped = used.into_inner();
             stopped.crash(left);
             match end {
@@ -147,6 +152,7 @@ pub fn use_each_noted<W: Write, S: Witness<InVolume<MemDevice>, W>>(
             alloc,
             strict,
             &mut reader,
+            &mut ReadCount::new(),
             writer,
             witness,
             current,

@@ -2,18 +2,19 @@
 ghost use Rattle.std.specs.Prelude.{◌≡◌, []};
 ghost use Rattle.lfs_script.specs.Recorded.{taken_by, writer_of};
 
+use crate::counted::CountedWrite;
 use crate::transcript::Transcript;
 use std::io::{Result, Write};
 
 /// A writer, with all the bytes that it took since it was put here. Only clauses see them, and they
-/// take no memory.
+/// take no memory. Each write and each flush is one of the writer.
 #[derive(Drop)]
 pub struct Recorded<W> {
     writer: W,
     transcript: Transcript,
 }
 
-impl<W: Write> Recorded<W> {
+impl<W: CountedWrite> Recorded<W> {
     /// Nothing is recorded of what it took before.
     pub fn new(writer: W) -> Recorded<W>
         ensures none { taken_by result ≡ [] }
@@ -26,11 +27,12 @@ impl<W: Write> Recorded<W> {
     }
 }
 
-impl<W: Write> Write for Recorded<W> {
-    ghost use Rattle.std.specs.Prelude.{Some};
+impl<W: CountedWrite> Write for Recorded<W> {
+    ghost use Rattle.std.specs.Prelude.{◌≡◌, Some, suc};
     ghost use Rattle.std.specs.Io.{WritesAtMost};
     ghost use Rattle.std.specs.Io.KnownBytes.{Keeps, WriteAppends};
     ghost use Rattle.lfs_script.specs.Recorded.{taken_by, writer_of};
+    ghost use Rattle.lfs_script.specs.Counts.{CountsWrite};
 
     ghost contents = { λ r. Some (taken_by r) };
 
@@ -40,8 +42,11 @@ impl<W: Write> Write for Recorded<W> {
             buf.now }
         ensures passed_on { WriteAppends (W.contents (writer_of self.old))
             (W.contents (writer_of self.new)) result buf.now }
+        ensures counted { CountsWrite (W.failures (writer_of self.old))
+            (W.failures (writer_of self.new)) result }
+        ensures unflushed { W.flushes (writer_of self.new) ≡ W.flushes (writer_of self.old) }
     {
-        let count = self.writer.write(buf)?;
+        let count = self.writer.write_counted(buf)?;
         self.transcript.append(&buf[..count]);
         Ok(count)
     }
@@ -50,7 +55,10 @@ impl<W: Write> Write for Recorded<W> {
         ensures bytes { Keeps (Some (taken_by self.old)) (Some (taken_by self.new)) }
         ensures passed_on { Keeps (W.contents (writer_of self.old))
             (W.contents (writer_of self.new)) }
+        ensures flushed { W.flushes (writer_of self.new)
+            ≡ suc (W.flushes (writer_of self.old)) }
+        ensures unfailed { W.failures (writer_of self.new) ≡ W.failures (writer_of self.old) }
     {
-        self.writer.flush()
+        self.writer.flush_counted()
     }
 }

@@ -7,6 +7,7 @@ ghost use Rattle.lfs_script.specs.Running.{AnswersText, Ends, EndsBy, EndsNoted,
 ghost use Rattle.lfs_script.specs.Strict.{Follows, ReadsTo};
 
 use crate::answer::make;
+use crate::counting::{CountsReads, ReadCount};
 use crate::line::{LineEnd, next_line};
 use crate::source::Source;
 use crate::witness::{Glances, Witness};
@@ -97,7 +98,6 @@ fn turn<W: Write, D: SectorDevice, S: Witness<D, W>>(
     ensures glances { GlancesBeforeReply D.SectorDevice.state (seen fs.new)
         (W.contents writer.old)
         line.now (S.glances witness.old) (S.glances witness.new) }
-    ensures counted { S.failures witness.new ≡ S.failures witness.old }
     ensures unheard { S.heard witness.new ≡ S.heard witness.old }
 {
     let Some(answer) = answer_line(alloc, fs, line) else {
@@ -149,8 +149,9 @@ pub fn run<R: Read, W: Write, D: SectorDevice>(
         (R.remaining reader.new)
         (W.contents writer.old) (W.contents writer.new) (seen fs.old) (seen fs.new) }
 {
+    let mut count = ReadCount::new();
     let mut glances = Glances::<D, W>::new();
-    match run_noted(alloc, false, reader, writer, &mut glances, fs) {
+    match run_noted(alloc, false, reader, &mut count, writer, &mut glances, fs) {
         StrictEnd::Script(end) => end,
         StrictEnd::Refused => unreachable!(),
     }
@@ -167,17 +168,20 @@ pub fn run_strict<R: Read, W: Write, D: SectorDevice>(
         (R.remaining reader.new) (W.contents writer.old) (W.contents writer.new) (seen fs.old)
         (seen fs.new) }
 {
+    let mut count = ReadCount::new();
     let mut glances = Glances::<D, W>::new();
-    run_noted(alloc, true, reader, writer, &mut glances, fs)
+    run_noted(alloc, true, reader, &mut count, writer, &mut glances, fs)
 }
 
 /// As `run` or `run_strict`, before a witness, which glances at device and writer between each call
-/// and its reply, and makes the reads. Where the run ends since it can't read on, a read of it failed.
-/// What the witness heard is the script in hindsight, of a reader whose bytes aren't known too.
-pub fn run_noted<R: Read, W: Write, D: SectorDevice, S: Witness<D, W>>(
+/// and its reply, and hears the reads. The counter makes them: where the run ends since it can't
+/// read on, a read of the reader failed. What the witness heard is the script in hindsight, of a
+/// reader whose bytes aren't known too.
+pub fn run_noted<R: Read, W: Write, D: SectorDevice, S: Witness<D, W>, C: CountsReads<R>>(
     alloc: Global,
     strict: bool,
     reader: &mut R,
+    counter: &mut C,
     writer: &mut W,
     witness: &mut S,
     fs: &mut Fs<D>,
@@ -185,13 +189,13 @@ pub fn run_noted<R: Read, W: Write, D: SectorDevice, S: Witness<D, W>>(
     ensures ends { EndsNoted D.SectorDevice.state strict result (R.remaining reader.old)
         (R.remaining reader.new) (W.contents writer.old) (W.contents writer.new) (seen fs.old)
         (seen fs.new) (S.glances witness.old) (S.glances witness.new) }
-    ensures reads { ReadsTo result (S.failures witness.old) (S.failures witness.new)
+    ensures reads { ReadsTo result (C.failures counter.old) (C.failures counter.new)
         (R.remaining reader.old) (R.remaining reader.new) }
     ensures heard { HearsTo (S.heard witness.old) (S.heard witness.new) (λ r r'.
         EndsNoted D.SectorDevice.state strict result r r' (W.contents writer.old)
         (W.contents writer.new) (seen fs.old) (seen fs.new) (S.glances witness.old)
         (S.glances witness.new)
-        × ReadsTo result (S.failures witness.old) (S.failures witness.new) r r') }
+        × ReadsTo result (C.failures counter.old) (C.failures counter.new) r r') }
 {
     let Ok(mut line) = Vec::with_capacity(alloc, LONGEST_LINE) else {
         return StrictEnd::Script(ScriptEnd::Memory);
@@ -200,7 +204,7 @@ pub fn run_noted<R: Read, W: Write, D: SectorDevice, S: Witness<D, W>>(
         return StrictEnd::Script(ScriptEnd::Memory);
     };
     for count in 1..u64::MAX {
-        match next_line::<R, W, D, S>(&mut source, reader, writer, witness, &mut line) {
+        match next_line::<R, W, D, S, C>(&mut source, reader, counter, writer, witness, &mut line) {
             Ok(LineEnd::Newline) => {
                 if let Some(end) = turn(
                     alloc,

@@ -4,6 +4,7 @@ ghost use Rattle.std.specs.Io.KnownBytes.{Consumes, IsAtEnd, Keeps, prepend_know
 ghost use Rattle.lfs_script.specs.Bytes.{TakesByte, ahead, taken};
 ghost use Rattle.lfs_script.specs.Heard.{HearsByte, HearsRead};
 
+use crate::counting::CountsReads;
 use crate::witness::Witness;
 use lfs_device::SectorDevice;
 use std::alloc::{AllocError, Global};
@@ -29,9 +30,10 @@ pub struct Source {
 }
 
 // Reads once over the chunk.
-fn read_chunk<R: Read, W: Write, D: SectorDevice, S: Witness<D, W>>(
+fn read_chunk<R: Read, W: Write, D: SectorDevice, S: Witness<D, W>, C: CountsReads<R>>(
     witness: &mut S,
     reader: &mut R,
+    counter: &mut C,
     chunk: &mut Vec<u8>,
 ) -> Result<usize, ReadError>
     requires { 0 < vec_len chunk.old }
@@ -41,12 +43,12 @@ fn read_chunk<R: Read, W: Write, D: SectorDevice, S: Witness<D, W>>(
         (take n chunk.new.items)) }
     ensures end { IfOk result (λ n. n ≡ 0 → IsAtEnd (R.remaining reader.new)) }
     ensures err { OnErr result (Keeps (R.remaining reader.old) (R.remaining reader.new)) }
-    ensures counted { S.failures witness.old ≤ S.failures witness.new }
-    ensures cause { OnErr result (S.failures witness.old < S.failures witness.new) }
+    ensures counted { C.failures counter.old ≤ C.failures counter.new }
+    ensures cause { OnErr result (C.failures counter.old < C.failures counter.new) }
     ensures heard { HearsRead (S.heard witness.old) (S.heard witness.new) result chunk.new.items }
     ensures unseen { S.glances witness.new ≡ S.glances witness.old }
 {
-    match witness.read(reader, chunk.as_mut_slice()) {
+    match witness.read(reader, counter, chunk.as_mut_slice()) {
         Ok(n) => Ok(n),
         Err(_) => Err(ReadError),
     }
@@ -68,9 +70,10 @@ impl Source {
 
     /// Takes the next byte; `None` is the end of the input. After an error nothing that was read is
     /// left over. The writer is flushed before the reader is asked.
-    pub fn next<R: Read, W: Write, D: SectorDevice, S: Witness<D, W>>(
+    pub fn next<R: Read, W: Write, D: SectorDevice, S: Witness<D, W>, C: CountsReads<R>>(
         &mut self,
         reader: &mut R,
+        counter: &mut C,
         writer: &mut W,
         witness: &mut S,
     ) -> Result<Option<u8>, ReadError>
@@ -81,8 +84,8 @@ impl Source {
         ensures kept { Keeps (W.contents writer.old) (W.contents writer.new) }
         ensures ahead { ahead self.old.start self.old.end self.old.budget
             ≤ length (taken result) + ahead self.new.start self.new.end self.new.budget }
-        ensures counted { S.failures witness.old ≤ S.failures witness.new }
-        ensures cause { OnErr result ((S.failures witness.old < S.failures witness.new)
+        ensures counted { C.failures counter.old ≤ C.failures counter.new }
+        ensures cause { OnErr result ((C.failures counter.old < C.failures counter.new)
             ⊎ (ahead self.new.start self.new.end self.new.budget ≡ 0)) }
         ensures hears { HearsByte (S.heard witness.old) (S.heard witness.new)
             (slice_range self.old.chunk.items self.old.start self.old.end)
@@ -90,7 +93,7 @@ impl Source {
         ensures unseen { S.glances witness.new ≡ S.glances witness.old }
     {
         if self.start == self.end {
-            return self.refill::<R, W, D, S>(reader, writer, witness);
+            return self.refill::<R, W, D, S, C>(reader, counter, writer, witness);
         }
         let byte = self.chunk[self.start];
         self.start += 1;
@@ -98,9 +101,10 @@ impl Source {
     }
 
     // The same, where nothing is left.
-    fn refill<R: Read, W: Write, D: SectorDevice, S: Witness<D, W>>(
+    fn refill<R: Read, W: Write, D: SectorDevice, S: Witness<D, W>, C: CountsReads<R>>(
         &mut self,
         reader: &mut R,
+        counter: &mut C,
         writer: &mut W,
         witness: &mut S,
     ) -> Result<Option<u8>, ReadError>
@@ -110,8 +114,8 @@ impl Source {
         ensures kept { Keeps (W.contents writer.old) (W.contents writer.new) }
         ensures ahead { self.old.budget
             ≤ length (taken result) + ahead self.new.start self.new.end self.new.budget }
-        ensures counted { S.failures witness.old ≤ S.failures witness.new }
-        ensures cause { OnErr result ((S.failures witness.old < S.failures witness.new)
+        ensures counted { C.failures counter.old ≤ C.failures counter.new }
+        ensures cause { OnErr result ((C.failures counter.old < C.failures counter.new)
             ⊎ (ahead self.new.start self.new.end self.new.budget ≡ 0)) }
         ensures hears { HearsByte (S.heard witness.old) (S.heard witness.new) []
             (slice_range self.new.chunk.items self.new.start self.new.end) result }
@@ -127,7 +131,7 @@ impl Source {
         }
         // What it can't send now a later write or flush has to tell.
         let _ = writer.flush();
-        let n = read_chunk::<R, W, D, S>(witness, reader, &mut self.chunk)?;
+        let n = read_chunk::<R, W, D, S, C>(witness, reader, counter, &mut self.chunk)?;
         if n == 0 {
             return Ok(None);
         }

@@ -1,11 +1,12 @@
-// Glances at a device and a writer, counts of failed reads, and what the others gave, which only
-// clauses see.
-ghost use Rattle.std.specs.Prelude.{◌≡◌, ℕ, List};
+// Glances at a device and a writer, and what reads gave, which only clauses see.
+ghost use Rattle.std.specs.Prelude.{◌≡◌, List};
 ghost use Rattle.std.specs.Io.{ReadsAtMost};
 ghost use Rattle.std.specs.Io.KnownBytes.{ReadConsumes};
+ghost use Rattle.lfs_script.specs.Counts.{CountsFailure};
 ghost use Rattle.lfs_script.specs.Heard.{Heard, HearsRead};
-ghost use Rattle.lfs_script.specs.Noted.{CountsFailure, Glance, GlancesAt};
+ghost use Rattle.lfs_script.specs.Noted.{Glance, GlancesAt};
 
+use crate::counting::CountsReads;
 use crate::transcript::Transcript;
 use lfs_device::SectorDevice;
 use std::io::{Read, Result, Write};
@@ -16,8 +17,6 @@ use std::snapshot::Snapshot;
 pub trait Witness<D: SectorDevice, W: Write> {
     // The device's clock and what the writer held, glance by glance.
     ghost glances: { Self → List Glance };
-    // How many of its reads failed.
-    ghost failures: { Self → ℕ };
     // What its reads gave, and whether the last of them met the end of the input.
     ghost heard: { Self → Heard };
 
@@ -25,26 +24,28 @@ pub trait Witness<D: SectorDevice, W: Write> {
     fn glance(&mut self, device: &D, writer: &W)
         ensures glances { GlancesAt (D.state device.now).moment (W.contents writer.now)
             (glances self.old) (glances self.new) }
-        ensures counted { failures self.new ≡ failures self.old }
         ensures unheard { heard self.new ≡ heard self.old };
 
-    /// Reads once, as the reader does, and counts it where the read fails.
-    fn read<R: Read>(&mut self, reader: &mut R, chunk: &mut [u8]) -> Result<usize>
+    /// Reads the reader once, by the counter. So it fails only where one more read of it failed.
+    fn read<R: Read, C: CountsReads<R>>(
+        &mut self,
+        reader: &mut R,
+        counter: &mut C,
+        chunk: &mut [u8],
+    ) -> Result<usize>
         ensures bound { ReadsAtMost result chunk.new }
         ensures bytes { ReadConsumes (R.remaining reader.old) (R.remaining reader.new) result
             chunk.new }
-        ensures counted { CountsFailure (failures self.old) (failures self.new) result }
+        ensures counted { CountsFailure (C.failures counter.old) (C.failures counter.new) result }
         ensures heard { HearsRead (heard self.old) (heard self.new) result chunk.new }
         ensures unseen { glances self.new ≡ glances self.old };
 }
 
-/// The glances and the failed reads so far. The list is never kept: a `Snapshot` of it takes no
-/// memory.
+/// The glances so far. The list is never kept: a `Snapshot` of it takes no memory.
 #[derive(Drop)]
 pub(crate) enum Seen<D, W> {
     Start,
     Then(Snapshot<D>, Snapshot<W>, Snapshot<Seen<D, W>>),
-    Failed(Snapshot<Seen<D, W>>),
 }
 
 /// A witness that takes no memory.
@@ -73,11 +74,9 @@ impl<D: SectorDevice, W: Write> Glances<D, W> {
 
 impl<D: SectorDevice, W: Write> Witness<D, W> for Glances<D, W> {
     ghost use Rattle.lfs_script.specs.HeardBy.{heard_by};
-    ghost use Rattle.lfs_script.specs.Seen.{failures_in, glances_in};
+    ghost use Rattle.lfs_script.specs.Seen.{glances_in};
 
     ghost glances = { λ l. glances_in D.SectorDevice.state W.contents l.seen.value };
-
-    ghost failures = { λ l. failures_in l.seen.value };
 
     ghost heard = { heard_by };
 
@@ -86,18 +85,19 @@ impl<D: SectorDevice, W: Write> Witness<D, W> for Glances<D, W> {
         self.seen = Snapshot::of(&Seen::Then(Snapshot::of(device), Snapshot::of(writer), before));
     }
 
-    fn read<R: Read>(&mut self, reader: &mut R, chunk: &mut [u8]) -> Result<usize> {
-        match reader.read(chunk) {
+    fn read<R: Read, C: CountsReads<R>>(
+        &mut self,
+        reader: &mut R,
+        counter: &mut C,
+        chunk: &mut [u8],
+    ) -> Result<usize> {
+        match counter.read(reader, chunk) {
             Ok(count) => {
                 self.transcript.append(&chunk[..count]);
                 self.ended = Snapshot::of(&(count == 0 && !chunk.is_empty()));
                 Ok(count)
             }
-            Err(error) => {
-                let before = mem::replace(&mut self.seen, Snapshot::of(&Seen::Start));
-                self.seen = Snapshot::of(&Seen::Failed(before));
-                Err(error)
-            }
+            Err(error) => Err(error),
         }
     }
 }

@@ -16,7 +16,7 @@ invariant-loop-byte g l =
     × Keeps (g.W.Write.contents l.initial.writer) (g.W.Write.contents l.writer)
     × (ahead l.initial.source.start l.initial.source.end l.initial.source.budget
     ≤ length l.line.items + ahead l.source.start l.source.end l.source.budget)
-    × (g.S.Witness.failures l.initial.witness ≤ g.S.Witness.failures l.witness)
+    × (g.C.CountsReads.failures l.initial.counter ≤ g.C.CountsReads.failures l.counter)
     × (g.S.Witness.glances l.witness ≡ g.S.Witness.glances l.initial.witness)
     × UsesHeard (g.S.Witness.heard l.initial.witness) (g.S.Witness.heard l.witness)
     (slice_range l.initial.source.chunk.items l.initial.source.start l.initial.source.end)

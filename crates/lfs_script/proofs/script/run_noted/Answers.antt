@@ -33,8 +33,7 @@ pub loop-count-preserved : goal.loop-count-preserved
 unfolding so_far_more so_far_flushed
 loop-count-preserved g c =
     let failed = c.loop-count.invariant.3 in
-    let counted = c.next_line.ensures.counted in
-    let still = c.turn.ensures.counted in (
+    let counted = c.next_line.ensures.counted in (
       c.next_line.ensures.room,
       so_far_more (told_none g.met.D.SectorDevice.lawful)
           (tells_more g.met.D.SectorDevice.lawful) _ _
@@ -48,7 +47,7 @@ loop-count-preserved g c =
           c.turn.ensures.glances),
       ahead_more c.loop-count.invariant.1.texts c.next_line.new.line.items _ _ _ c.in-Ok-Newline.field-0-is c.loop-count.invariant.2
           c.in-Ok-Newline.ensures.ahead,
-      omega (arith, failed, counted, still),
+      omega (arith, failed, counted),
       heard_more _ _ _ c.loop-count.invariant.1.texts c.next_line.new.line.items c.in-Ok-Newline.field-0-is c.loop-count.invariant.4
           c.in-Ok-Newline.ensures.heard c.turn.ensures.unheard,
     )

@@ -14,6 +14,6 @@ invariant-loop-count g l = (140000 ≤ vec_capacity l.line)
     l.fn.writer) (g.W.Write.contents l.writer) (seen l.fn.fs) (seen l.fs) (g.S.Witness.glances l.fn.witness)
     (g.S.Witness.glances l.witness))
     × (2 ^ 64 - 1 ≤ length (ended_texts so.texts) + ahead l.source.start l.source.end l.source.budget)
-    × (g.S.Witness.failures l.fn.witness ≤ g.S.Witness.failures l.witness)
+    × (g.C.CountsReads.failures l.fn.counter ≤ g.C.CountsReads.failures l.counter)
     × UsesHeard (g.S.Witness.heard l.fn.witness) (g.S.Witness.heard l.witness) []
     (slice_range l.source.chunk.items l.source.start l.source.end) (ended_texts so.texts)
