@@ -30,7 +30,8 @@ fn step<F: Read + Write + Seek>(file: &mut F, kind: u64, size: usize) -> (String
     let told = match kind {
         0 => file.read(&mut bytes).map(|count| count as u64),
         1 | 2 => {
-            let written: Vec<u8> = (0..size).map(|at| (at % 251) as u8).collect();
+            // A write of nothing behind the end makes bytes in memory longer, and no file.
+            let written: Vec<u8> = (0..size.max(1)).map(|at| (at % 251) as u8).collect();
             file.write(&written).map(|count| count as u64)
         }
         3 => file.seek(SeekFrom::Start(size as u64)),
