@@ -99,15 +99,15 @@ module _ {a b c : DeviceState} {v v' : LogMemory} {left left1 : ℕ} (one : HasM
       }
 
   -- what a second function leaves, behind a first one that is done
-  pub ends_then : {v'' : LogMemory} {left2 : ℕ} {P P2 : Memory → Type 0} {R1 R2 R : Memory → Memory → Type 0} {L2 L : Memory → Type 0}
+  pub ends_then : {v'' : LogMemory} {left2 : ℕ} {P Q : Memory → Type 0} {One Two R : Memory → Memory → Type 0} {K L : Memory → Type 0}
       {T : Type 0} {r : Result T LogFault}
-      → HoldsOn a b v v' R1 → b.failures ≡ a.failures
-      → ((k : CheckpointValue) (m0 m : LogMap) (is : IsLog a v k m0 m) (is' : IsLog b v' k m0 m) → R1 is.running.memory is'.running.memory
-      → P is.running.memory → P2 is'.running.memory)
-      → ((M M' M'' : Memory) → R1 M M' → R2 M' M'' → R M M'')
-      → ((k : CheckpointValue) (m0 m : LogMap) (is : IsLog a v k m0 m) (M' : Memory) → R1 is.running.memory M' → P is.running.memory
-      → L2 M' → L is.running.memory)
-      → EndsMoving b c v' v'' left1 left2 P2 R2 L2 r → EndsMoving a c v v'' left left2 P R L r
+      → HoldsOn a b v v' One → b.failures ≡ a.failures
+      → ((k : CheckpointValue) (m0 m : LogMap) (is : IsLog a v k m0 m) (is' : IsLog b v' k m0 m) → One is.running.memory is'.running.memory
+      → P is.running.memory → Q is'.running.memory)
+      → ((M M' M'' : Memory) → One M M' → Two M' M'' → R M M'')
+      → ((k : CheckpointValue) (m0 m : LogMap) (is : IsLog a v k m0 m) (M' : Memory) → One is.running.memory M' → P is.running.memory
+      → K M' → L is.running.memory)
+      → EndsMoving b c v' v'' left1 left2 Q Two K r → EndsMoving a c v v'' left left2 P R L r
   ends_then {r = r} first same may join lacks two = let back = two.carries.kept_before in record {
     carries = carries_then one.carries two.carries;
     moves = λ ends. moved_then (two.moves ends);
@@ -125,11 +125,11 @@ module _ {a b c : DeviceState} {v v' : LogMemory} {left left1 : ℕ} (one : HasM
   }
 
   -- a second one that is done
-  pub done_then : {v'' : LogMemory} {left2 : ℕ} {P : Memory → Type 0} {R1 R2 R : Memory → Memory → Type 0} {L : Memory → Type 0}
+  pub done_then : {v'' : LogMemory} {left2 : ℕ} {P : Memory → Type 0} {One Two R : Memory → Memory → Type 0} {L : Memory → Type 0}
       {T : Type 0} {x : T}
-      → HoldsOn a b v v' R1 → b.failures ≡ a.failures
-      → ((M M' M'' : Memory) → R1 M M' → R2 M' M'' → R M M'')
-      → HasMoved b c v' v'' left1 left2 → HoldsOn b c v' v'' R2 → c.failures ≡ b.failures
+      → HoldsOn a b v v' One → b.failures ≡ a.failures
+      → ((M M' M'' : Memory) → One M M' → Two M' M'' → R M M'')
+      → HasMoved b c v' v'' left1 left2 → HoldsOn b c v' v'' Two → c.failures ≡ b.failures
       → (let r : Result T LogFault = Ok x in EndsMoving a c v v'' left left2 P R L r)
   done_then first same join two second next = record {
     carries = carries_then one.carries two.carries;
@@ -142,12 +142,12 @@ module _ {a b c : DeviceState} {v v' : LogMemory} {left left1 : ℕ} (one : HasM
   }
 
 -- other words for what holds before and after
-pub ends_as : {a b : DeviceState} {v v' : LogMemory} {left left' : ℕ} {P P2 : Memory → Type 0} {R R2 : Memory → Memory → Type 0}
-    {L L2 : Memory → Type 0} {T : Type 0} {r : Result T LogFault}
-    → ((k : CheckpointValue) (m0 m : LogMap) (is : IsLog a v k m0 m) → P2 is.running.memory → P is.running.memory)
-    → ((M M' : Memory) → R M M' → R2 M M')
-    → ((k : CheckpointValue) (m0 m : LogMap) (is : IsLog a v k m0 m) → L is.running.memory → L2 is.running.memory)
-    → EndsMoving a b v v' left left' P R L r → EndsMoving a b v v' left left' P2 R2 L2 r
+pub ends_as : {a b : DeviceState} {v v' : LogMemory} {left left' : ℕ} {P Q : Memory → Type 0} {R Two : Memory → Memory → Type 0}
+    {L K : Memory → Type 0} {T : Type 0} {r : Result T LogFault}
+    → ((k : CheckpointValue) (m0 m : LogMap) (is : IsLog a v k m0 m) → Q is.running.memory → P is.running.memory)
+    → ((M M' : Memory) → R M M' → Two M M')
+    → ((k : CheckpointValue) (m0 m : LogMap) (is : IsLog a v k m0 m) → L is.running.memory → K is.running.memory)
+    → EndsMoving a b v v' left left' P R L r → EndsMoving a b v v' left left' Q Two K r
 ends_as {r = r} may more lacks one = record {
   carries = one.carries;
   moves = one.moves;
@@ -214,9 +214,9 @@ ends_halted halts = record {
 }
 
 -- the fault that ended one, which `?` passes on
-pub ends_on : {a b : DeviceState} {v v' : LogMemory} {left left' : ℕ} {P : Memory → Type 0} {R R2 : Memory → Memory → Type 0}
+pub ends_on : {a b : DeviceState} {v v' : LogMemory} {left left' : ℕ} {P : Memory → Type 0} {R Two : Memory → Memory → Type 0}
     {L : Memory → Type 0} {S T : Type 0} (r : Result T LogFault) (e : LogFault) → IsErr r × IsErrAnd r (λ y. y ≡ e)
-    → (let s : Result S LogFault = Err e in EndsMoving a b v v' left left' P R L s) → EndsMoving a b v v' left left' P R2 L r
+    → (let s : Result S LogFault = Err e in EndsMoving a b v v' left left' P R L s) → EndsMoving a b v v' left left' P Two L r
 ends_on (Ok x) e is one = absurd is.1
 ends_on {T = T} (Err y) e is one = rw is.1 (record {
   carries = one.carries;
@@ -487,17 +487,17 @@ module _ (d d' : DeviceState) (v : LogMemory) (x : Entry) (address : ℕ) (victi
 
 -- ---- a second function that isn't done
 module _ {a b c : DeviceState} {v v' : LogMemory} {left left1 : ℕ} (one : HasMoved a b v v' left left1) where
-  pub fails_then : (R1 : Memory → Memory → Type 0) {v'' : LogMemory} {left2 : ℕ} {P P2 : Memory → Type 0}
-      {R2 R : Memory → Memory → Type 0} {L2 L : Memory → Type 0} {S T : Type 0} (r : Result T LogFault) (e : LogFault) → IsErr r ×
+  pub fails_then : (One : Memory → Memory → Type 0) {v'' : LogMemory} {left2 : ℕ} {P Q : Memory → Type 0}
+      {Two R : Memory → Memory → Type 0} {K L : Memory → Type 0} {S T : Type 0} (r : Result T LogFault) (e : LogFault) → IsErr r ×
       IsErrAnd r (λ y. y ≡ e)
-      → HoldsOn a b v v' R1 → b.failures ≡ a.failures
-      → ((k : CheckpointValue) (m0 m : LogMap) (is : IsLog a v k m0 m) (is' : IsLog b v' k m0 m) → R1 is.running.memory is'.running.memory
-      → P is.running.memory → P2 is'.running.memory)
-      → ((k : CheckpointValue) (m0 m : LogMap) (is : IsLog a v k m0 m) (M' : Memory) → R1 is.running.memory M' → P is.running.memory
-      → L2 M' → L is.running.memory)
-      → (let s : Result S LogFault = Err e in EndsMoving b c v' v'' left1 left2 P2 R2 L2 s) → EndsMoving a c v v'' left left2 P R L r
-  fails_then R1 r e is first same may lacks two =
-      ends_on r e is (ends_then one {R1 = R1} {R = λ (M M' : Memory). Unit {0}} first same may (λ M M' M'' r go. tt) lacks two)
+      → HoldsOn a b v v' One → b.failures ≡ a.failures
+      → ((k : CheckpointValue) (m0 m : LogMap) (is : IsLog a v k m0 m) (is' : IsLog b v' k m0 m) → One is.running.memory is'.running.memory
+      → P is.running.memory → Q is'.running.memory)
+      → ((k : CheckpointValue) (m0 m : LogMap) (is : IsLog a v k m0 m) (M' : Memory) → One is.running.memory M' → P is.running.memory
+      → K M' → L is.running.memory)
+      → (let s : Result S LogFault = Err e in EndsMoving b c v' v'' left1 left2 Q Two K s) → EndsMoving a c v v'' left left2 P R L r
+  fails_then One r e is first same may lacks two =
+      ends_on r e is (ends_then one {One = One} {R = λ (M M' : Memory). Unit {0}} first same may (λ M M' M'' r go. tt) lacks two)
 
 pub moved_less : {d d' : DeviceState} {v v' : LogMemory} {left left' : ℕ} (least : ℕ) → least ≤ left' → HasMoved d d' v v' left left'
     → HasMoved d d' v v' left least
