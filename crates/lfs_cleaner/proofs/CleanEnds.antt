@@ -8,9 +8,9 @@ use Rattle.lfs_model.specs.Device.{DeviceState, IsLawful, Carries}
 use Rattle.lfs_model.specs.Stands.{LogMap}
 use Rattle.lfs_model.specs.TreeOf.{dropped}
 use Rattle.lfs_model.proofs.Moments.{carries_none, carries_then, started, joined, weaker}
-use Rattle.lfs_log.proofs.LogReads.{acknowledged, held_still, looks_leave, rest_reads}
+use Rattle.lfs_log.proofs.LogReads.{acknowledged, rest_still}
 use Rattle.lfs_log.specs.Cleaning.{Cleans}
-use Rattle.lfs_log.specs.LogState.{LogState, Halts, Holds, IsReadFault, IsSaved, LeavesSaved, Reads, Saves}
+use Rattle.lfs_log.specs.LogState.{LogState, Halts, Holds, HoldsStill, IsReadFault, IsSaved, LeavesSaved, Saves}
 use Rattle.lfs_cleaner.specs.Making.{Acknowledges, HaltsLater, HoldsOver, IsAtRest, IsCleanFault, KeepsMap, PassesInNeed, PassesOn, Repeats}
 use Rattle.lfs_cleaner.specs.Making.{SavesAll}
 
@@ -39,20 +39,20 @@ module _ {D : Type 0} (state : D → DeviceState) where
   rest_cleans : {h h' : LogState D} {vs : List ℕ} → Cleans state h h' vs → IsAtRest h'
   rest_cleans s = record { nothing = s.empty; untaken = s.untaken; many = s.many }
 
-  pub keeps_reads : {a b : LogState D} → IsLawful (state a.device) → a.halted ≡ false → Reads state a b → KeepsMap state a b 0
-  keeps_reads {a} {b} lawful running reads = record {
-    carries = reads.looks.carries;
-    running = reads.halted ∙ running;
-    later = (let same = reads.number in omega (arith, same));
-    number = (let same = reads.number in omega (arith, same));
-    segments = reads.segments;
-    totals = reads.totals;
-    saved = λ all. reads.saved ∙ all;
-    rest = λ rest. rest_reads _ a b reads rest;
+  -- after a pass that isn't made
+  pub keeps_still : {a b : LogState D} → a.halted ≡ false → HoldsStill state a b → KeepsMap state a b 0
+  keeps_still {a} {b} running still = record {
+    carries = still.carries;
+    running = still.halted ∙ running;
+    later = (let same = still.number in omega (arith, same));
+    number = (let same = still.number in omega (arith, same));
+    segments = still.segments;
+    totals = still.totals;
+    saved = λ all. still.saved ∙ all;
+    rest = λ rest. rest_still _ a b still rest;
     holds = λ k m0 m keeps is map.
-        record { checkpoint = k; acknowledged = m0; either = inl refl; same = refl; holds = held_still _ reads is };
-    moment = λ k m0 m keeps is map.
-        weaker (λ c. StandsOn (shape_of k) c m0) _ (λ c there. inl there) (looks_leave _ m lawful reads.looks is);
+        record { checkpoint = k; acknowledged = m0; either = inl refl; same = refl; holds = still.holds k m0 m keeps is };
+    moment = λ k m0 m keeps is map. weaker (λ c. StandsOn (shape_of k) c m0) _ (λ c there. inl there) (still.moment k m0 m keeps is);
   }
 
   pub saves_all : {h h' : LogState D} → Saves state h h' → SavesAll state h h'

@@ -3,12 +3,12 @@ use Rattle.std.proofs.Common.{◌≡◌, ◌<◌, ◌≤◌, ◌+◌, ◌*◌, �
 use Rattle.std.proofs.Math.Nat.{mul-le-mul_right, one-mul}
 use Rattle.lfs_model.specs.Checkpoint.{IsSegmentCount}
 use Rattle.lfs_model.specs.Device.{DeviceState, IsLawful}
-use Rattle.lfs_log.specs.LogState.{AreAllSaved, LogState, Reads}
+use Rattle.lfs_log.specs.LogState.{AreAllSaved, HoldsStill, LogState}
 use Rattle.lfs_log.specs.Saving.{commit_orders, pass_orders}
 use Rattle.lfs_cleaner.specs.Passing.{FailsPass, IsUnfit, RefusesPass}
 use Rattle.lfs_cleaner.specs.Making.{CleansOnce, CommitsUnsaved, FailsPasses, KeepsMap, LacksPasses, MayNotMakeClean}
 use Rattle.lfs_cleaner.specs.Making.{PassesWhereDue, once_orders, clean_orders}
-use Rattle.lfs_cleaner.proofs.CleanEnds.{keeps_none, keeps_reads, keeps_weaker, read_fault, repeats_passes}
+use Rattle.lfs_cleaner.proofs.CleanEnds.{keeps_none, keeps_still, keeps_weaker, read_fault, repeats_passes}
 use Rattle.lfs_log.proofs.LogReads.{segment_count}
 use Rattle.lfs_cleaner.proofs.CleanBounds.{may_pass, passes_none}
 
@@ -27,11 +27,11 @@ once_within {n} count = let least = count.least in more (n / 8) (8 * n + 4) (ome
 module _ {D : Type 0} {state : D → DeviceState} where
   -- a pass may be made where room can be
   unfit_lacks : {h now : LogState D} → IsLawful (state h.device) → h.halted ≡ false → AreAllSaved h → 4 * h.clean < h.segments
-      → Reads state h now → IsUnfit state h now → MayNotMakeClean state h now
-  unfit_lacks lawful running nothing few reads unfit k m0 m keeps may =
+      → HoldsStill state h now → IsUnfit state h now → MayNotMakeClean state h now
+  unfit_lacks lawful running nothing few still unfit k m0 m keeps may =
       let least = (segment_count _ lawful may.holds).least in
       let next =
-      may_pass nothing (passes_none lawful running) few (reads.looks.carries.kept_before keeps) may
+      may_pass nothing (passes_none lawful running) few (still.carries.kept_before keeps) may
       (omega (arith, least)) in
       unfit next.0 next.1 m keeps next.2
 
@@ -44,14 +44,12 @@ module _ {D : Type 0} {state : D → DeviceState} where
   pub lacks_pass : {h now : LogState D} → IsLawful (state h.device) → h.halted ≡ false → AreAllSaved h
       → 4 * h.clean < h.segments → RefusesPass state h now → LacksPasses state h now 0
   lacks_pass lawful running nothing few refuses = record {
-    keeps = keeps_reads _ lawful running refuses.reads;
-    never = unfit_lacks lawful running nothing few refuses.reads refuses.unfit;
+    keeps = keeps_still _ running refuses.still;
+    never = unfit_lacks lawful running nothing few refuses.still refuses.unfit;
   }
 
-  pub fails_pass : {h now : LogState D} → IsLawful (state h.device) → h.halted ≡ false → FailsPass state h now
-      → FailsPasses state h now 0
-  fails_pass {now} lawful running fails =
-      record { keeps = keeps_reads _ lawful running fails.reads; fault = read_fault _ now fails.fault }
+  pub fails_pass : {h now : LogState D} → h.halted ≡ false → FailsPass state h now → FailsPasses state h now 0
+  fails_pass {now} running fails = record { keeps = keeps_still _ running fails.still; fault = read_fault _ now fails.fault }
 
   -- a pass behind a commit
   pub once_behind : {a b c : LogState D} → CommitsUnsaved state a b → PassesWhereDue state b c → CleansOnce state a c

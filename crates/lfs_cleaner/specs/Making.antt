@@ -204,7 +204,7 @@ module _ {D : Type 0} (state : D → DeviceState) where
     pub keeps : KeepsMap h h' most
     pub never : MayNotMakeClean h h'
 
-  -- a call of the device failed before one wrote anything
+  -- a call of the device failed that reads: the log has its map still
   pub record FailsPasses (h h' : LogState D) (most : ℕ) : Type 0 where
     pub keeps : KeepsMap h h' most
     pub fault : IsCleanFault h h'
@@ -214,7 +214,7 @@ module _ {D : Type 0} (state : D → DeviceState) where
     pub makes : MakesClean h h'
     pub never : MayNotMakeClean h h'
 
-  -- A call of the device failed before anything more was written: the log has its map still.
+  -- A call of the device failed that reads: the log has its map still.
   pub record FailsClean (h h' : LogState D) : Type 0 where
     pub makes : MakesClean h h'
     pub fault : IsCleanFault h h'

@@ -9,7 +9,7 @@ use Rattle.lfs_model.specs.Totals.{data_in, meta_in}
 use Rattle.lfs_log.specs.segments.Victims.{AreVictims, IsChosen, pass_limit, wanted_gain}
 use Rattle.lfs_log.specs.Cleaning.{Cleans}
 use Rattle.lfs_log.specs.Thresholds.{IsEighthClean}
-use Rattle.lfs_log.specs.LogState.{LogState, Holds, IsReadFault, Reads, AreAllSaved}
+use Rattle.lfs_log.specs.LogState.{LogState, Holds, HoldsStill, IsReadFault, AreAllSaved}
 use Rattle.lfs_log.specs.segments.Early.{AreUntaken}
 
 module _ {D : Type 0} (state : D → DeviceState) where
@@ -45,14 +45,14 @@ module _ {D : Type 0} (state : D → DeviceState) where
   IsUnfit h h' = (k : CheckpointValue) (m0 m : LogMap) → (state h'.device).keeps_model
       → CanPass h k m0 m → ⊥
 
-  -- It isn't made: the log was only read, and has no such map.
+  -- It isn't made: the log holds what it held, and has no such map.
   pub record RefusesPass (h h' : LogState D) : Type 0 where
-    pub reads : Reads state h h'
+    pub still : HoldsStill state h h'
     pub unfit : IsUnfit h h'
 
-  -- A call of the device failed: the log was only read.
+  -- A call of the device failed: the log holds what it held.
   pub record FailsPass (h h' : LogState D) : Type 0 where
-    pub reads : Reads state h h'
+    pub still : HoldsStill state h h'
     pub fault : IsReadFault state h h'
 
   -- one that wants a segment, or why it isn't made

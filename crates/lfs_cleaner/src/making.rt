@@ -104,8 +104,8 @@ pub(crate) fn commit_unsaved<D: SectorDevice>(log: &mut Log<D>) -> Result<(), Lo
 /// # Errors
 ///
 /// With the log map as it was: `Full` where a commit finds too few clean segments, or no pass gains
-/// one, `Device` where a call of the device failed before anything more was written. `Halted` where
-/// one failed later, or as the log was written before.
+/// one, `Device` where a call of the device failed that reads. `Halted` where one failed that writes,
+/// or as the log was written before.
 pub fn make_clean<D: SectorDevice>(log: &mut Log<D>) -> Result<(), LogFault>
     ensures done { OnOk result (CleansQuarter D.SectorDevice.state log.old log.new) }
     ensures totals { log.new.totals ≡ log.old.totals }

@@ -44,8 +44,8 @@ fn pass_where_due<D: SectorDevice>(log: &mut Log<D>) -> Result<(), LogFault>
 /// # Errors
 ///
 /// With the log map as it was: `Full` where a commit finds too few clean segments, or no pass gains
-/// one, `Device` where a call of the device failed before anything more was written. `Halted` where
-/// one failed later, or as the log was written before.
+/// one, `Device` where a call of the device failed that reads. `Halted` where one failed that writes,
+/// or as the log was written before.
 pub fn clean_once<D: SectorDevice>(log: &mut Log<D>) -> Result<(), LogFault>
     ensures done { OnOk result (MakesOnce D.SectorDevice.state log.old log.new) }
     ensures alone { log.old.saved ≡ true

@@ -11,15 +11,14 @@ use lfs_log::{Log, LogFault};
 
 /// Empties the segments that are chosen by benefit and cost, or by their blocks (`victims`): an
 /// eighth of all and one at most, by which as many are gained as are wanted where they can be, and
-/// one at least. All that lives in them is relocated, whole or not at all, and then saved.
+/// one at least. All that lives in them goes to other segments, and is saved.
 ///
 /// # Errors
 ///
 /// `Full` where no list of an eighth of the segments and one at most gains one, or where
-/// `Log::relocate` refuses it: nothing changed. Where the log holds a log map for which a pass may be
-/// made (`CanPass`), it never answers so. `Device` where a call of the device failed before
-/// anything was written: nothing changed. `Halted` where one failed later, or as the log was
-/// written before.
+/// `Log::vacate` refuses it. Where the log holds a log map for which a pass may be made (`CanPass`),
+/// it never answers so. `Device` where a call of the device failed that reads. With both the log
+/// holds what it held. `Halted` where one failed that writes, or as the log was written before.
 pub fn pass_for<D: SectorDevice>(log: &mut Log<D>, wanted: u32) -> Result<(), LogFault>
     requires { 1 ≤ wanted }
     ensures done { OnOk result (PassesFor D.SectorDevice.state wanted log.old log.new) }
@@ -43,11 +42,7 @@ pub fn pass_for<D: SectorDevice>(log: &mut Log<D>, wanted: u32) -> Result<(), Lo
     let Some(chosen) = victims(log.usage(), log.meta(), most, wanted, log.number()) else {
         return Err(LogFault::Full);
     };
-    match log.relocate(chosen.as_slice()) {
-        Ok(()) => {}
-        Err(fault) => return Err(fault),
-    }
-    match log.commit_relocated() {
+    match log.vacate(chosen.as_slice()) {
         Ok(()) => Ok(()),
         Err(fault) => Err(fault),
     }

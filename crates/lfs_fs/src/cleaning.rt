@@ -25,8 +25,8 @@ impl<D: SectorDevice> Fs<D> {
     ///
     /// # Errors
     ///
-    /// `Worn` from checkpoint 2^62 on. `Device` where a call of the device failed before anything
-    /// more was written, `Halted` where one failed later.
+    /// `Worn` from checkpoint 2^62 on. `Device` where a call of the device failed that reads, `Halted`
+    /// where one failed that writes.
     pub fn clean(&mut self) -> Result<(), FsError>
         ensures serves { Serves D.SectorDevice.state (seen self.old) (seen self.new)
             Clean

@@ -1,4 +1,4 @@
--- Segments whose blocks came into memory: nothing lives there, and a commit makes them clean.
+-- Segments that were emptied, which a commit makes clean, and the memory of a pass beside that of the log.
 use Rattle.std.proofs.Common.{◌≡◌, ◌<◌, ◌≤◌, ⊎_elim, ℕ, zero, suc, Bool, true, false, List, [], ◌∷◌, length, get_or, refl}
 use Rattle.std.proofs.Common.{sym, ◌∙◌, ap, ap₂, arith, ◌&&◌, eq-eqb}
 use Rattle.std.specs.List.{AllByRecursion}
@@ -8,7 +8,6 @@ use Rattle.lfs_model.specs.Device.{DeviceState}
 use Rattle.lfs_model.specs.Members.{IsIn, AreApart}
 use Rattle.lfs_model.specs.Running.{Running}
 use Rattle.lfs_model.specs.Stands.{LogMap, count_up}
-use Rattle.lfs_model.proofs.EmptySegment.{empty_segment}
 use Rattle.lfs_model.proofs.Live.{count_up_none, count_up_more}
 use Rattle.lfs_memory.specs.segments.Chunk.{Chunk}
 use Rattle.lfs_memory.specs.segments.Emptied.{IsEmptied}
@@ -16,62 +15,15 @@ use Rattle.lfs_memory.specs.segments.Spare.{is_emptied, emptied_in}
 use Rattle.lfs_memory.specs.segments.Steps.{Releases, is_empty}
 use Rattle.lfs_memory.specs.segments.Table.{SegmentNumbers, UsageTable, no_segment, used_of}
 use Rattle.lfs_memory.specs.inodes.MapValue.{MapValue}
-use Rattle.lfs_memory.specs.inodes.Blocks.{Blocks, TableValue, blocks_of}
+use Rattle.lfs_memory.specs.inodes.Blocks.{TableValue, blocks_of}
 use Rattle.lfs_memory.specs.declared.memory.LogMemory.{LogMemory}
-use Rattle.lfs_memory.specs.Changing.{Tightens}
-use Rattle.lfs_memory.specs.Memory.{IsLog, IsLoose, tables_of, segment_in, chunk_in}
-use Rattle.lfs_memory.specs.Present.{FailsFromDevice}
-use Rattle.lfs_memory.proofs.BlockSteps.{tightened_log}
-use Rattle.lfs_memory.proofs.Looses.{loose}
+use Rattle.lfs_memory.specs.Memory.{IsLog, tables_of, segment_in, chunk_in}
 use Rattle.lfs_memory.proofs.Opened.{closed_chunk, closed_segment}
 use Rattle.lfs_memory.proofs.of_segments.EmptiedGained.{count_gained}
 use Rattle.lfs_memory.proofs.of_segments.Spare.{passes}
-use Rattle.lfs_log.specs.Cleaning.{AreCleanable, AreEmptied, Crowds, Empties, Overfills}
-use Rattle.lfs_log.specs.Relocating.{Relocates, VacatesAll}
+use Rattle.lfs_log.specs.Cleaning.{AreEmptied}
 
--- ---- nothing lives where no block stands
-module _ {a b : DeviceState} {v v' : LogMemory} (vs : List ℕ) (one : Relocates a b v v') (vacates : VacatesAll a b v v' vs (length vs))
-    (victims : AreCleanable v.usage vs) where
-  emptied_there : (k : CheckpointValue) (m0 m : LogMap) → b.keeps_model → IsLoose a v k m0 m → AreEmptied v'.usage vs
-  emptied_there k m0 m keeps is i lt =
-      let s = get_or vs i 0 in
-      let now = vacates k m0 m keeps is in
-      let laid = now.0.running.laid in
-      let empty = empty_segment _ m _ _ _ laid
-      (λ y above same. now.2 i lt y (omega (arith, above, same)) (omega (arith, above, same))) in
-      let was = victims i lt in
-      record {
-        used = rw (one.gathers.used (get_or vs i 0)) was.used;
-        before = one.gathers.kept (get_or vs i 0) ∙ was.before ∙ sym (one.gathers.used (get_or vs i 0));
-        live = now.0.running.tables.live (get_or vs i 0) ∙ empty.0;
-        held = now.0.running.tables.held (get_or vs i 0) ∙ empty.1;
-      }
-
-  pub not_emptied : (AreEmptied v'.usage vs → ⊥) → FailsFromDevice a b v
-  not_emptied never k m0 m keeps is = absurd (never (emptied_there k m0 m keeps is))
-
-pub empties : {a b : DeviceState} {v v' v'' : LogMemory} {vs : List ℕ} → Relocates a b v v' → AreEmptied v'.usage vs → Tightens v' v''
-    → Empties a b v v'' vs
-empties {a} {b} {v} {v'} {v''} {vs} one emptied go = record {
-  looks = one.looks;
-  memory = go.stays.memory one.memory;
-  segments = go.stays.segments ∙ one.segments;
-  clean = go.stays.clean ∙ one.clean;
-  chunk = ap (λ (c : Chunk). c.names) (go.stays.chunk ∙ one.chunk);
-  emptied = rw go.usage emptied;
-  log = λ k m0 m keeps is. tightened_log k m go (one.gathers.traces k m0 m keeps (loose a v k m0 m is)).0;
-}
-
--- a table by its parts
-table_by : (t : TableValue) {bs : Blocks} (limit : ℕ) → t.blocks ≡ bs → t.capacity.limit ≡ limit
-    → t ≡ record { blocks = bs; capacity = record { limit = limit; room = t.capacity.room } }
-table_by t {bs} limit blocks same =
-    ap (λ (b : Blocks). record t { blocks = b }) blocks ∙ ap (λ (n : ℕ). by_limit n) same
-  where
-    by_limit : ℕ → TableValue
-    by_limit n = record { blocks = bs; capacity = record { limit = n; room = t.capacity.room } }
-
--- ---- memory with the same tables and blocks, and another limit; neither has begun a chunk
+-- ---- memory with the same tables and blocks beside it; neither has begun a chunk
 abbrev pub beside : LogMemory → TableValue → Chunk → LogMemory
 beside v t c = record { map = v.map; usage = v.usage; dirty = t; chunk = c }
 
@@ -98,39 +50,10 @@ module _ (v : LogMemory) (t : TableValue) (c : Chunk) (same : t.blocks ≡ v.dir
     tight = rw same is.tight;
   }
 
-  pub loose_beside : (d : DeviceState) (k : CheckpointValue) (m0 m : LogMap) → IsLoose d v k m0 m → IsLoose d (beside v t c) k m0 m
-  loose_beside d k m0 m is =
-      record { running = running_beside d k m0 m is.running; hidden = is.hidden; segments = is.segments; unit = is.unit }
-
   -- with tables that are copies of its own
-  module _ {map : MapValue} {usage : UsageTable} (same_map : map ≡ v.map) (same_usage : usage ≡ v.usage) (a b : DeviceState) where
-    abbrev copied : LogMemory
-    copied = record { map = map; usage = usage; dirty = t; chunk = c }
-
-    pub empties_beside : {v' : LogMemory} {vs : List ℕ} → Empties a b copied v' vs → Empties a b v v' vs
-    empties_beside {v'} {vs} copy =
-        let one : Empties a b (beside v t c) v' vs = rw (← same_map, ← same_usage) copy in
-        record {
-          looks = one.looks;
-          memory = one.memory;
-          segments = one.segments;
-          clean = one.clean;
-          chunk = one.chunk ∙ closed ∙ sym ended;
-          emptied = one.emptied;
-          log = λ k m0 m keeps is. one.log k m0 m keeps (log_beside k m is);
-        }
-
-    pub fails_beside : FailsFromDevice a b copied → FailsFromDevice a b v
-    fails_beside failed k m0 m keeps is = failed k m0 m keeps (rw (same_map, same_usage) (loose_beside a k m0 m is))
-
-    pub overfills : {most : ℕ} {w : LogMemory} {vs : List ℕ} → t.capacity.limit ≡ most → Crowds a b copied w vs → Overfills a b v vs most
-    overfills {most} {w} {vs} limit one = record {
-      room = t.capacity.room;
-      chunk = c;
-      closed = closed;
-      after = w;
-      crowds = rw (← table_by t most same limit) (rw (← same_map, ← same_usage) one);
-    }
+  pub log_copied : {map : MapValue} {usage : UsageTable} → map ≡ v.map → usage ≡ v.usage → {d : DeviceState} (k : CheckpointValue)
+      {m0 : LogMap} (m : LogMap) → IsLog d v k m0 m → IsLog d (record { map = map; usage = usage; dirty = t; chunk = c }) k m0 m
+  log_copied same_map same_usage k m is = rw (same_map, same_usage) (log_beside k m is)
 
 -- ---- how many were emptied
 no_test : ℕ → Bool

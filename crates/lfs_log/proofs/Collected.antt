@@ -35,7 +35,7 @@ use Rattle.lfs_log.proofs.of_verify.RowSteps.{cut_chunk, entries_none, names_of,
 use Rattle.lfs_log.proofs.Relocated.{relocated_excused, relocates_looks, relocates_then}
 use Rattle.lfs_log.proofs.RowLabels.{IsRowFrom, label_is, row_end, row_next, row_start, summary_place}
 use Rattle.lfs_log.proofs.TableBlocks.{map_relocates, usage_lost, usage_relocates}
-use Rattle.lfs_log.proofs.Vacated.{has_row, stands_named}
+use Rattle.lfs_log.proofs.Named.{has_row, stands_named}
 
 -- ---- the list
 pub adds_none : (l : ListedKeys) {most : ℕ} → AddsKeys l l most

@@ -17,7 +17,7 @@ use Rattle.lfs_log.specs.Early.{WritesChunks, full_chunk}
 use Rattle.lfs_log.specs.Thresholds.{reserve_of}
 use Rattle.lfs_memory.proofs.of_inodes.Data.{no_data}
 use Rattle.lfs_log.specs.LogState.{Halts, IsAtRest, WritesEarly}
-use Rattle.lfs_log.specs.Held.{Held, WaitsForPass, WaitsUnlessSaved, seen}
+use Rattle.lfs_log.specs.Held.{Held, WaitsUnlessSaved, seen}
 use Rattle.lfs_log.proofs.Unsaved.{none_left}
 use Rattle.std.proofs.Math.Logic.{⊎_map}
 
@@ -85,7 +85,7 @@ module _ {D : Type 0} {state : D → DeviceState} where
     moment = λ k m0 m keeps is map. weaker (λ x. StandsOn (shape_of k) x m0) _ (λ x h. inl h) (stops.quiet k m0 m keeps is.log);
   }
 
--- nothing is written where nothing waits, so what is saved stays so, and so does what was relocated
+-- nothing is written where nothing waits, so what is saved stays so
 module _ {v v' : LogMemory} (idle : data_count v.dirty < full_chunk → v' ≡ v) where
   unwritten : v.dirty.blocks ≡ [] → v' ≡ v
   unwritten empty = let none = no_data v.dirty empty in idle (omega (arith, none))
@@ -93,7 +93,3 @@ module _ {v v' : LogMemory} (idle : data_count v.dirty < full_chunk → v' ≡ v
   pub early_waits : {upgraded saved : Bool} → WaitsUnlessSaved v upgraded saved → WaitsUnlessSaved v' upgraded saved
   early_waits {upgraded} waits all =
       rw (unwritten (waits all).blocks) (waits all)
-
-  pub early_ready : {pass : LogMemory} {relocated : Bool} → WaitsForPass v pass relocated → WaitsForPass v' pass relocated
-  early_ready {pass} waits on =
-      rw (unwritten (waits on).nothing) (waits on)

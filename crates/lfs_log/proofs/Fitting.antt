@@ -12,17 +12,15 @@ use Rattle.lfs_model.specs.Memory.{Memory, IsOfFile, IsPointers}
 use Rattle.lfs_model.specs.Stands.{LogMap}
 use Rattle.lfs_model.specs.Totals.{meta_in}
 use Rattle.lfs_model.proofs.MetasCounted.{IsMeta, metas_counted}
-use Rattle.lfs_memory.specs.inodes.Blocks.{Blocks, Capacity, TableValue, blocks_of, blocks_in}
+use Rattle.lfs_memory.specs.inodes.Blocks.{Blocks, blocks_of, blocks_in}
 use Rattle.lfs_memory.specs.segments.Victims.{load_of}
 use Rattle.lfs_memory.specs.declared.memory.LogMemory.{LogMemory}
 use Rattle.lfs_memory.specs.Lifting.{IsInMemory}
 use Rattle.lfs_memory.specs.Memory.{IsLog, IsLoose}
-use Rattle.lfs_log.specs.Cleaning.{Crowds, Overfills}
+use Rattle.lfs_log.specs.Brought.{OutNumber}
 use Rattle.lfs_log.specs.Relocating.{IsAmong, IsDataBlock, StandsWhere}
-use Rattle.lfs_memory.proofs.Looses.{loose}
-use Rattle.lfs_log.proofs.Cleaned.{loose_beside}
+use Rattle.lfs_log.proofs.Movings.{loose_of}
 use Rattle.lfs_log.proofs.StoodBlocks.{segments_counted}
-use Rattle.lfs_log.proofs.TableEntries.{entries, count_entries, apart_entries, has_entry, file_entry}
 
 -- ---- blocks of data, and the others
 data_or_meta : (x : Entry) → IsOfFile x → IsDataBlock x ⊎ IsMeta x
@@ -107,7 +105,7 @@ module _ (d : DeviceState) (v : LogMemory) (k : CheckpointValue) (m0 m : LogMap)
   not_one x file one = none_inside x (is.running.cached.found x file one)
 
   -- distinct blocks that stand on the device, those of data in some segments
-  pub blocks_fit : (vs : List ℕ) (xs : List Entry) → AreApart xs → ((x : Entry) → IsIn xs x → IsOfFile x)
+  blocks_fit : (vs : List ℕ) (xs : List Entry) → AreApart xs → ((x : Entry) → IsIn xs x → IsOfFile x)
       → ((x : Entry) → IsIn xs x → StandsWhere (IsAmong vs) M x)
       → length xs ≤ sum_by (load_of v.usage) vs + meta_in m
   blocks_fit vs xs apart files stand =
@@ -122,33 +120,12 @@ module _ (d : DeviceState) (v : LogMemory) (k : CheckpointValue) (m0 m : LogMap)
       let sum = parts.count in
       omega (arith, metas, datas, sum)
 
--- No more blocks are wanted in memory than the victims hold, with all inodes and blocks of pointers.
-crowd_fits : (d : DeviceState) {d' : DeviceState} {v w : LogMemory} (k : CheckpointValue) (m0 m : LogMap) (vs : List ℕ) → d'.keeps_model
-    → IsLoose d v k m0 m → IsLogMap m → v.dirty.blocks ≡ [] → Crowds d d' v w vs
-    → v.dirty.capacity.limit < sum_by (load_of v.usage) vs + meta_in m
-crowd_fits d {v} {w} k m0 m vs keeps is map nothing one =
-    let wanted = one.misses in
-    let came : (x : Entry) → IsIn (entries w.dirty) x → StandsWhere (IsAmong vs) is.running.memory x = λ x there. ⊎_elim
-    (λ (was : IsInMemory v x). absurd (none_inside d v k m0 m is map nothing x was))
-    (λ (stood : StandsWhere (IsAmong vs) is.running.memory x). stood) (one.came k m0 m keeps is x (has_entry one.order x there)) in
-    let fit = blocks_fit d v k m0 m is map nothing vs (wanted.block ∷ entries w.dirty)
-    (λ there. wanted.outside (has_entry one.order wanted.block there), apart_entries one.order)
-    (λ x there. ⊎_elim (λ (here : x ≡ wanted.block). rw here wanted.file)
-    (λ (later : IsIn (entries w.dirty) x). file_entry w.dirty x later) there)
-    (λ x there. ⊎_elim
-    (λ (here : x ≡ wanted.block). rw here (wanted.stood k m0 m keeps is))
-    (λ (later : IsIn (entries w.dirty) x). came x later)
-    there) in
-    let count = count_entries one.order in
-    let limit = ap (λ (c : Capacity). c.limit) one.relocates.capacity in
-    let full = one.full in
-    omega (arith, fit, count, limit, full)
-
--- so where memory beside the log's is overfilled
-pub overfilled : {d d' : DeviceState} {v : LogMemory} (k : CheckpointValue) (m0 m : LogMap) (vs : List ℕ) {most : ℕ} → d'.keeps_model
-    → IsLog d v k m0 m → IsLogMap m → v.dirty.blocks ≡ [] → v.chunk.names ≡ [] → Overfills d d' v vs most
+-- more blocks than so many stood there
+pub out_numbered : (d : DeviceState) (v : LogMemory) (k : CheckpointValue) (m0 m : LogMap) (is : IsLog d v k m0 m) → IsLogMap m
+    → v.dirty.blocks ≡ [] → (vs : List ℕ) (most : ℕ) → OutNumber vs most is.running.memory
     → most < sum_by (load_of v.usage) vs + meta_in m
-overfilled {d} {d'} {v} k m0 m vs {most} keeps is map nothing closed over =
-    let t : TableValue = record { blocks = v.dirty.blocks; capacity = record { limit = most; room = over.room } } in
-    crowd_fits d k m0 m vs keeps
-    (loose_beside v t over.chunk refl closed over.closed d k m0 m (loose d v k m0 m is)) map nothing over.crowds
+unfolding loose_of
+out_numbered d v k m0 m is map nothing vs most over =
+    let fit = blocks_fit d v k m0 m (loose_of is) map nothing vs over.blocks over.apart over.files over.stood in
+    let count = over.counted in
+    omega (arith, fit, count)

@@ -1,7 +1,7 @@
 -- The order of groups: which blocks lead to one, and that few are in memory at a time.
 use Rattle.std.proofs.Common.{◌≡◌, ◌<◌, ◌≤◌, ◌⊎◌, ⊎_elim, ◌+◌, ◌*◌, ◌-◌, ◌/◌, ◌%◌}
 use Rattle.std.proofs.Common.{cond, nat_lt, true, false, Bool, ℕ, zero, suc, List, [], ◌∷◌}
-use Rattle.std.proofs.Common.{length, Some, None, refl, sym, ◌∙◌, ap, ap₂, subst, arith, inl, inr}
+use Rattle.std.proofs.Common.{length, Some, None, refl, sym, ◌∙◌, ap, subst, arith, inl, inr}
 use Rattle.lfs_model.specs.Entry.{Entry, Data, Leaf, Double, Inode, Map, Usage, entry_by}
 use Rattle.lfs_model.specs.Members.{IsIn, AreApart}
 use Rattle.lfs_model.proofs.Entries.{same_entry}
@@ -13,10 +13,9 @@ use Rattle.lfs_memory.proofs.of_inodes.Blocks.{rises}
 use Rattle.lfs_memory.specs.inodes.Blocks.{Blocks, HasNumberAt, blocks_in, blocks_of, number_at}
 use Rattle.lfs_model.specs.declared.BlockKind.TheVariants as kind
 use Rattle.lfs_memory.specs.declared.memory.LogMemory.{LogMemory}
-use Rattle.lfs_memory.specs.Lifting.{IsInMemory}
 use Rattle.std.proofs.lemmas.Bool.{cases_eq, cases_lt, le-ltb, lt-ltb}
 use Rattle.lfs_log.proofs.CameIn.{no_data_above}
-use Rattle.lfs_log.specs.Groups.{HasAboveAlone, IsAbove, IsLeaf, closes_at, group_of}
+use Rattle.lfs_log.specs.Groups.{HasAboveAlone, HasAboveAndLeaves, IsAbove, IsClosedLeaf, IsLeaf, closes_at, group_of}
 use Rattle.lfs_log.specs.Moving.{depth}
 use Rattle.lfs_log.specs.Relocating.{IsDataBlock, IsInOrder}
 use Rattle.lfs_log.proofs.TableEntries.{apart_entries, count_entries, entries, found_in, has_entry, number_there}
@@ -286,17 +285,7 @@ few_above v group order alone =
     let count = count_entries order in
     omega (arith, all, count)
 
--- ---- the leaf in memory
-leaf_low_by : (n q c k : ℕ) → c / 134217728 ≡ k → Leaf n q ≡ entry_by (kind_by k) (c / 32768 % 4096) (c % 32768) → c < 268435456
-leaf_low_by n q c zero is same = absurd (cc)
-leaf_low_by n q c (suc zero) is same = omega (arith, is)
-leaf_low_by n q c (suc (suc zero)) is same = absurd (cc)
-leaf_low_by n q c (suc (suc (suc k))) is same = absurd (cc)
-
-leaf_low : (n q : ℕ) → IsCode (code (Leaf n q)) → code (Leaf n q) < 268435456
-leaf_low n q formed =
-    leaf_low_by n q (code (Leaf n q)) (code (Leaf n q) / 134217728) refl (entry_of_code (Leaf n q) formed refl)
-
+-- ---- leaves
 leaf_by : (k f i : ℕ) → IsLeaf (entry_by (kind_by k) f i) → k ≡ 1
 leaf_by zero f i is = absurd is
 leaf_by (suc zero) f i is = refl
@@ -318,65 +307,94 @@ is_kind key is = by (key / 134217728) is
 pub kind_is : (key : ℕ) → IsLeaf (entry_at key) → kind_by (key / 134217728) ≡ kind.Leaf
 kind_is key is = ap kind_by (by_kind key is)
 
-pub leaf_closes : (group key : ℕ) → IsLeaf (entry_at key) → IsAbove group (entry_at key)
-    → closes_at (entry_at key) ≡ group + 1
-leaf_closes group key leaf above =
-    let one = by_kind key leaf in
-    let is : IsAbove group (Leaf (key / 32768 % 4096) (key % 32768)) =
-    (rw one at above) in
-    let e = is.1 in
-    rw one (omega (arith, e))
+-- of two leaves the one with the lower number is closed first
+leaf_order : (a b : ℕ) → IsCode a → IsCode b → a / 134217728 ≡ 1 → b / 134217728 ≡ 1 → a ≤ b
+    → closes_at (entry_at a) ≤ closes_at (entry_at b)
+leaf_order a b formed other one two le =
+    let low = formed.leaf_index (omega (arith, one)) (omega (arith, one)) in
+    let few = other.leaf_index (omega (arith, two)) (omega (arith, two)) in
+    let sorted : 256 * (a / 32768 % 4096) + (a % 32768 + 2) ≤ 256 * (b / 32768 % 4096) + (b % 32768 + 2) =
+    omega (arith, low, few, one, two, le) in
+    rw (one, two) sorted
 
--- it is the one of its group
-pub one_leaf : (group key : ℕ) (n q : ℕ) → IsLeaf (entry_at key) → IsAbove group (entry_at key) → IsAbove group (Leaf n q)
-    → Leaf n q ≡ entry_at key
-one_leaf group key n q leaf above other =
-    let one = by_kind key leaf in
-    let is : IsAbove group (Leaf (key / 32768 % 4096) (key % 32768)) =
-    (rw one at above) in
-    let e = is.1 in
-    let low = is.0 in
-    let f = other.1 in
-    let few = other.0 in
-    let same : n ≡ key / 32768 % 4096 = omega (arith, e, low, f, few) in
-    let place : q ≡ key % 32768 = omega (arith, e, low, f, few) in
-    rw one (ap₂ Leaf same place)
+leaf_no_data : (x : Entry) → IsLeaf x → IsDataBlock x → ⊥
+leaf_no_data (Data n i) is own = is
+leaf_no_data (Leaf n q) is own = own
+leaf_no_data (Double n) is own = is
+leaf_no_data (Inode n) is own = is
+leaf_no_data (Map j) is own = is
+leaf_no_data (Usage j) is own = is
 
--- and it has the least key
-pub no_leaf : (v : LogMemory) (group key : ℕ) (n q : ℕ) → IsInOrder v.dirty → HasNumberAt v.dirty.blocks key 0
-    → (IsLeaf (entry_at key) → ⊥) → IsAbove group (entry_at key) → IsInMemory v (Leaf n q) → ⊥
-no_leaf v group key n q order first other above there =
-    let number = number_there v.dirty.blocks (code (Leaf n q)) (found_in v.dirty.blocks (code (Leaf n q)) there.1) in
-    let least : key ≤ code (Leaf n q) = ⊎_elim
-    (λ (own : number.0 ≡ 0). let same : number_at v.dirty.blocks 0 ≡ code (Leaf n q) = sym (ap (number_at v.dirty.blocks) own) ∙ number.2 in
-    let here = first.number in omega (arith, same, here))
-    (λ (later : number.0 ≡ 0 → ⊥).
-    let less = rises v.dirty.blocks order.sorted 0 number.0 (omega (arith, later)) number.1 in
-    let here = first.number in
-    let is = number.2 in
-    omega (arith, less, here, is))
-    (cases_eq number.0 0) in
-    let formed : IsCode (code (Leaf n q)) = subst IsCode number.2 (order.codes number.0 number.1) in
-    let low : code (Leaf n q) < 268435456 = leaf_low n q formed in
-    high (key / 134217728) refl other above (omega (arith, least, low))
-  where
-    high : (k : ℕ) → key / 134217728 ≡ k → (IsLeaf (entry_at key) → ⊥) → IsAbove group (entry_at key) → key < 268435456
-        → ⊥
-    high zero is other above low = let own : IsAbove group (Data (key / 32768 % 4096) (key % 32768)) = (rw is at above) in own
-    high (suc zero) is other above low = other (is_kind key (ap kind_by is))
-    high (suc (suc k)) is other above low = absurd (omega (arith, is, low))
+-- ---- what waits in memory: blocks above a group, and leaves of earlier ones
+pub waiting_no_data : (group : ℕ) (x : Entry) → IsAbove group x ⊎ IsClosedLeaf group x → IsDataBlock x → ⊥
+waiting_no_data group x is own = ⊎_elim
+    (λ (above : IsAbove group x). above_no_data group x above own)
+    (λ (closed : IsClosedLeaf group x). leaf_no_data x closed.0 own)
+    is
+
+-- is closed by the end of their file
+pub waiting_closed : (from to : ℕ) → 256 * (from / 256 + 1) ≤ to → (x : Entry) → IsAbove from x ⊎ IsClosedLeaf from x → closes_at x ≤ to
+waiting_closed from to next x is = ⊎_elim
+    (λ (above : IsAbove from x). let closed = above_closed from x above in omega (arith, closed, next))
+    (λ (closed : IsClosedLeaf from x). let low = closed.1 in omega (arith, low, next))
+    is
+
+-- and stands so at a later group of that file
+above_later : (from to : ℕ) → from ≤ to → from / 256 ≡ to / 256 → (x : Entry) → IsAbove from x → IsAbove to x ⊎ IsClosedLeaf to x
+above_later from to le same (Data n i) is = absurd is
+above_later from to le same (Leaf n q) is = ⊎_elim
+    (λ (here : from ≡ to). inl (is.0, is.1 ∙ here))
+    (λ (later : from ≡ to → ⊥). let e = is.1 in inr (tt, omega (arith, e, le, later)))
+    (cases_eq from to)
+above_later from to le same (Double n) is = inl (is ∙ same)
+above_later from to le same (Inode n) is = inl (is ∙ same)
+above_later from to le same (Map j) is = absurd is
+above_later from to le same (Usage j) is = absurd is
+
+pub waits_later : (v : LogMemory) (from to : ℕ) → from ≤ to → from / 256 ≡ to / 256 → HasAboveAndLeaves v from → HasAboveAndLeaves v to
+waits_later v from to le same waits x inside = ⊎_elim
+    (λ (above : IsAbove from x). above_later from to le same x above)
+    (λ (closed : IsClosedLeaf from x). inr (closed.0, let low = closed.1 in omega (arith, low, le)))
+    (waits x inside)
+
+-- the block with the least number isn't such a leaf: none is left
+module _ (v : LogMemory) (group key : ℕ) (order : IsInOrder v.dirty) (first : HasNumberAt v.dirty.blocks key 0)
+    (inside : IsAbove group (entry_at key) ⊎ IsClosedLeaf group (entry_at key)) (other : IsClosedLeaf group (entry_at key) → ⊥) where
+  own_code : IsCode key
+  own_code = subst IsCode first.number (order.codes 0 first.within)
+
+  not_least : (c : ℕ) → IsCode c → IsClosedLeaf group (entry_at c) → key ≤ c → ⊥
+  not_least c formed closed le = by (key / 134217728) refl inside
+    where
+      by : (k : ℕ) → key / 134217728 ≡ k → IsAbove group (entry_at key) ⊎ IsClosedLeaf group (entry_at key) → ⊥
+      by zero is there = waiting_no_data group (Data (key / 32768 % 4096) (key % 32768)) (rw is at there) tt
+      by (suc zero) is there =
+          let low = closed.1 in
+          let before = leaf_order key c own_code formed is (by_kind c closed.0) le in
+          other (is_kind key (ap kind_by is), omega (arith, low, before))
+      by (suc (suc k)) is there = let leaf = by_kind c closed.0 in absurd (omega (arith, is, leaf, le))
+
+  pub above_alone : HasAboveAndLeaves v group → HasAboveAlone v group
+  above_alone waits x there = ⊎_elim
+      (λ (above : IsAbove group x). above)
+      (λ (closed : IsClosedLeaf group x).
+      let number = number_there v.dirty.blocks (code x) (found_in v.dirty.blocks (code x) there.1) in
+      let formed : IsCode (code x) = subst IsCode number.2 (order.codes number.0 number.1) in
+      let named : x ≡ entry_at (code x) = entry_of_code x formed refl in
+      let least : key ≤ code x = ⊎_elim
+      (λ (own : number.0 ≡ 0). let same : number_at v.dirty.blocks 0 ≡ code x = sym (ap (number_at v.dirty.blocks) own) ∙ number.2 in
+      let here = first.number in omega (arith, same, here))
+      (λ (later : number.0 ≡ 0 → ⊥).
+      let less = rises v.dirty.blocks order.sorted 0 number.0 (omega (arith, later)) number.1 in
+      let here = first.number in
+      let is = number.2 in
+      omega (arith, less, here, is))
+      (cases_eq number.0 0) in
+      absurd (not_least (code x) formed (subst (IsClosedLeaf group) named closed) least))
+      (waits x there)
 
 pub empty_above : (v : LogMemory) (group : ℕ) → ((x : Entry) → blocks_of v.dirty x ≡ None) → HasAboveAlone v group
 empty_above v group none x is = let bad : None ≡ Some is.0 = sym (none x) ∙ is.1 in absurd (cc)
 
-pub nothing_above : (v : LogMemory) (group : ℕ) → v.dirty.blocks ≡ [] → HasAboveAlone v group
-nothing_above v group nothing = empty_above v group (λ x. ap (λ (bs : Blocks). blocks_in bs x) nothing)
-
--- another group of the same file
-pub same_file : (from to : ℕ) (x : Entry) → from / 256 ≡ to / 256 → IsAbove from x → ((n q : ℕ) → x ≡ Leaf n q → ⊥) → IsAbove to x
-same_file from to (Data n i) same is other = is
-same_file from to (Leaf n q) same is other = absurd (other n q refl)
-same_file from to (Double n) same is other = is ∙ same
-same_file from to (Inode n) same is other = is ∙ same
-same_file from to (Map j) same is other = is
-same_file from to (Usage j) same is other = is
+pub nothing_waits : (v : LogMemory) (group : ℕ) → v.dirty.blocks ≡ [] → HasAboveAndLeaves v group
+nothing_waits v group nothing x is = inl (empty_above v group (λ y. ap (λ (bs : Blocks). blocks_in bs y) nothing) x is)

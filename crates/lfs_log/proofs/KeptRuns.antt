@@ -1,51 +1,61 @@
--- What a log keeps, where a call only reads.
-use Rattle.std.proofs.Common.{Bool, Option, arith}
-use Rattle.lfs_model.specs.Device.{DeviceState}
+-- What a log keeps, where a call only reads, or was refused.
+use Rattle.std.proofs.Common.{Bool, Option, ◌≡◌, sym, ◌∙◌, arith}
+use Rattle.lfs_model.specs.Device.{Carries, DeviceState, IsLawful}
 use Rattle.lfs_memory.specs.declared.memory.LogMemory.{LogMemory}
 use Rattle.lfs_memory.specs.declared.pointers.PointerRun.{PointerRun}
 use Rattle.lfs_memory.specs.Pointers.{KeepsRun}
 use Rattle.lfs_memory.specs.Present.{Looks}
+use Rattle.lfs_memory.specs.segments.Table.{UsageTable}
 use Rattle.lfs_memory.proofs.PointerRuns.{run_still}
-use Rattle.lfs_log.specs.Keeping.{KeepsPass}
-use Rattle.lfs_log.specs.Held.{HoldsUnlessHalted, IsReadyToPass, WaitsForPass, WaitsUnlessSaved}
+use Rattle.lfs_log.specs.Groups.{ListedKeys}
+use Rattle.lfs_log.specs.Held.{HoldsUnlessHalted, IsPassMemory, IsReadyToPass, IsRunning, WaitsUnlessSaved}
+use Rattle.lfs_log.proofs.EarlyBlocks.{Ended, ended_goes}
 
-ready_still : {a b : DeviceState} {v pass : LogMemory} → Looks a b → IsReadyToPass a v pass → IsReadyToPass b v pass
-ready_still looks is =
-    let size = looks.carries.size in
-    let room = is.running.room in
+running_still : {a b : DeviceState} {v : LogMemory} → Carries a b → IsRunning a v → IsRunning b v
+running_still carries is =
+    let size = carries.size in
+    let room = is.room in
     record {
-      running = record {
-        memory = is.running.memory;
-        room = omega (arith, size, room);
-        closed = is.running.closed;
-        few = is.running.few;
-        wide = is.running.wide;
-        reserved = is.running.reserved;
-      };
-      prepared = is.prepared;
+      memory = is.memory;
+      room = omega (arith, size, room);
+      closed = is.closed;
+      few = is.few;
+      wide = is.wide;
+      reserved = is.reserved;
     }
 
--- what was relocated is, from now on, what a pass makes of its memory
-pub pass_still : {a b : DeviceState} {v pass pass' : LogMemory} {upgraded saved halted relocated relocated' : Bool}
-    (kept : Option PointerRun) → Looks a b → KeepsPass v pass pass' → WaitsForPass v pass' relocated'
-    → HoldsUnlessHalted a v pass halted × KeepsRun a v kept × WaitsUnlessSaved v upgraded saved × WaitsForPass v pass relocated
-    → HoldsUnlessHalted b v pass' halted × KeepsRun b v kept × WaitsUnlessSaved v upgraded saved × WaitsForPass v pass' relocated'
-pass_still {v} kept looks keeps waits is = (
-  (λ on.
-      let still = ready_still looks (is.0 on) in
-      let reserved = still.prepared.reserved in
-      let room = keeps.room in
-      record {
-        running = still.running;
-        prepared = record { segments = keeps.segments; closed = keeps.closed; reserved = omega (arith, reserved, room) };
-      }),
-  run_still v kept looks is.1,
-  is.2,
-  waits,
-)
+ready_still : {a b : DeviceState} {v pass : LogMemory} {keys : ListedKeys} → Looks a b → IsReadyToPass a v pass keys
+    → IsReadyToPass b v pass keys
+ready_still looks is = record { running = running_still looks.carries is.running; prepared = is.prepared }
 
-pub kept_still : {a b : DeviceState} {v pass : LogMemory} {upgraded saved halted relocated : Bool} (kept : Option PointerRun) → Looks a b
-    → HoldsUnlessHalted a v pass halted × KeepsRun a v kept × WaitsUnlessSaved v upgraded saved × WaitsForPass v pass relocated
-    → HoldsUnlessHalted b v pass halted × KeepsRun b v kept × WaitsUnlessSaved v upgraded saved × WaitsForPass v pass relocated
+pub kept_still : {a b : DeviceState} {v pass : LogMemory} {keys : ListedKeys} {upgraded saved halted : Bool} (kept : Option PointerRun)
+    → Looks a b → HoldsUnlessHalted a v pass keys halted × KeepsRun a v kept × WaitsUnlessSaved v upgraded saved
+    → HoldsUnlessHalted b v pass keys halted × KeepsRun b v kept × WaitsUnlessSaved v upgraded saved
 kept_still {v} kept looks is =
-    ((λ on. ready_still looks (is.0 on)), run_still v kept looks is.1, is.2, is.3)
+    ((λ on. ready_still looks (is.0 on)), run_still v kept looks is.1, is.2)
+
+-- behind a pass that was refused the next chunk begins in a clean segment
+pub ready_ended : {a b : DeviceState} (v : LogMemory) {pass : LogMemory} {keys : ListedKeys} {u : UsageTable} → IsLawful a → Carries a b
+    → u ≡ Ended v.usage → IsRunning a v → IsPassMemory v pass keys → IsReadyToPass b (record v { usage = u }) pass keys
+ready_ended {a} v lawful carries is running prepared =
+    let ended = ended_goes {d = a} v is lawful running.memory running.closed in
+    let size = ended.segments in
+    let room = running.room in
+    let list = prepared.list in
+    let limit = prepared.limit in
+    record {
+      running = running_still carries (record {
+        memory = ended.memory;
+        room = omega (arith, room, size);
+        closed = running.closed;
+        few = running.few;
+        wide = running.wide;
+        reserved = running.reserved;
+      });
+      prepared = record {
+        segments = prepared.segments ∙ sym size;
+        least = prepared.least;
+        limit = omega (arith, limit, size);
+        list = omega (arith, list, size);
+      };
+    }

@@ -17,7 +17,7 @@ pub mod Relocated
 pub mod Relocations
 pub mod TableBlocks
 pub mod RowLabels
-pub mod Vacated
+pub mod Named
 pub mod Collected
 pub mod Cleaned
 pub mod Passes

@@ -1,5 +1,5 @@
 -- What the layers above know of a log that holds a log map, and of calls that only read it.
-use Rattle.std.proofs.Common.{Option, ◌≡◌, ℕ, false, length, Some, refl, sym, ◌∙◌, ap, subst, arith}
+use Rattle.std.proofs.Common.{◌≡◌, inl, ℕ, false, List, length, Some, refl, sym, ◌∙◌, ap, subst, arith}
 use Rattle.lfs_model.specs.Checkpoint.{CheckpointValue, IsSegmentCount, shape_of}
 use Rattle.lfs_model.specs.Crash.{StandsOn}
 use Rattle.lfs_model.specs.Device.{DeviceState, IsLawful, AllLeft, LeavesOnly}
@@ -13,22 +13,27 @@ use Rattle.lfs_model.proofs.ObjectNeeds.{laid_long}
 use Rattle.lfs_model.proofs.Settled.{settled_stands}
 use Rattle.lfs_memory.specs.declared.memory.LogMemory.{LogMemory}
 use Rattle.lfs_memory.specs.segments.Early.{AreUntaken}
-use Rattle.lfs_memory.specs.segments.Table.{UsageTable}
+use Rattle.lfs_memory.specs.segments.Table.{SegmentNumbers, UsageTable, kept_of, used_of}
 use Rattle.lfs_memory.specs.Memory.{IsLoose, IsLog}
 use Rattle.lfs_memory.specs.Present.{Looks}
 use Rattle.lfs_memory.proofs.Looses.{loose, tight_again}
 use Rattle.lfs_memory.proofs.Presents.{looks_none, looks_quiet, looks_then, still_log}
-use Rattle.lfs_log.specs.LogState.{LogState, Holds, IsAtRest, IsReadFault, IsWhole, Reads}
+use Rattle.lfs_log.specs.LogState.{LogState, Holds, HoldsStill, IsAtRest, IsReadFault, IsWhole, Reads}
 use Rattle.lfs_log.proofs.Unsaved.{kept_saved}
+
+-- the same numbers of segments say so
+untaken_by : (t u : UsageTable) → u.segments ≡ t.segments → AreUntaken t → AreUntaken u
+untaken_by t u same untaken s =
+    ap (λ (ns : List SegmentNumbers). kept_of (record t { segments = ns }) s) same ∙ untaken s
+    ∙ sym (ap (λ (ns : List SegmentNumbers). used_of (record t { segments = ns }) s) same)
 
 module _ {D : Type 0} {state : D → DeviceState} where
   -- memory and device hold what the log does
   pub loose_in : {h : LogState D} {k : CheckpointValue} {m0 m : LogMap} → Holds state h k m0 m → IsLoose (state h.device) h.inner k m0 m
   loose_in {h} {k} {m0} {m} is = loose _ _ k m0 m is.log
 
-  -- a call that only looks at the device, whatever was relocated
-  pub reads_looked : {h : LogState D} {d : D} {relocated : Option LogMemory} → Looks (state h.device) (state d)
-      → Reads state h (record h { device = d; relocated = relocated })
+  -- a call that only looks at the device
+  pub reads_looked : {h : LogState D} {d : D} → Looks (state h.device) (state d) → Reads state h (record h { device = d })
   reads_looked looks = record {
     looks = looks;
     halted = refl;
@@ -107,6 +112,42 @@ module _ {D : Type 0} (state : D → DeviceState) where
     nothing_new = λ all. is.nothing_new (sym reads.saved ∙ all);
     rest = λ all. rest_reads a b reads (is.rest (sym reads.saved ∙ all));
   }
+
+  -- ---- calls that were refused
+  -- one that only read
+  pub still_read : {a b : LogState D} → IsLawful (state a.device) → Reads state a b → HoldsStill state a b
+  still_read lawful reads = record {
+    carries = reads.looks.carries;
+    halted = reads.halted;
+    number = reads.number;
+    version = reads.version;
+    upgraded = reads.upgraded;
+    saved = reads.saved;
+    unsaved = reads.unsaved;
+    totals = reads.totals;
+    segments = reads.segments;
+    clean = reads.clean;
+    emptied = reads.emptied;
+    waiting = reads.waiting;
+    file_data = reads.file_data;
+    usage = ap (λ (t : UsageTable). t.segments) reads.usage;
+    last = inl (ap length reads.looks.told);
+    holds = λ k m0 m keeps is. held_still reads is;
+    moment = λ k m0 m keeps is. looks_leave m lawful reads.looks is;
+  }
+
+  pub rest_still : (a b : LogState D) → HoldsStill state a b → IsAtRest a → IsAtRest b
+  rest_still a b still rest =
+      let waiting = still.waiting in
+      let untaken = untaken_by a.usage b.usage still.usage rest.untaken in
+      let many = rest.many in
+      let segments = still.segments in
+      let clean = still.clean in
+      record {
+        nothing = kept_saved rest.nothing (omega (arith, waiting)) still.upgraded untaken;
+        untaken = untaken;
+        many = omega (arith, many, segments, clean);
+      }
 
   pub reads_none : (a : LogState D) → Reads state a a
   reads_none a = reads_looked {h = a} (looks_none _)

@@ -82,7 +82,7 @@ module _ {a b c : DeviceState} {v v' : LogMemory} {left left1 : ℕ} (one : HasM
         log = λ k m0 m keeps is. two.log k m0 m keeps (one.log k m0 m (back keeps) is);
       }
 
-  pub halts_behind : HaltsMoving b c v' left1 → HaltsMoving a c v left
+  pub halts_behind : {v'' : LogMemory} → HaltsMoving b c v' v'' left1 → HaltsMoving a c v v'' left
   halts_behind two =
       let back = two.stops.carries.kept_before in
       record {
@@ -95,6 +95,7 @@ module _ {a b c : DeviceState} {v v' : LogMemory} {left left1 : ℕ} (one : HasM
           settled = λ k m0 m keeps is. two.stops.settled k m0 m keeps (one.log k m0 m (back keeps) is);
           quiet = quiet_behind back two.stops.quiet;
         };
+        room = let x = one.room in let y = two.room in omega (arith, x, y);
         tells = let x = one.tells in let y = two.tells in omega (arith, x, y);
       }
 
@@ -201,7 +202,7 @@ ends_full moved lacks = record {
 }
 
 pub ends_halted : {a b : DeviceState} {v v' : LogMemory} {left left' : ℕ} {P : Memory → Type 0} {R : Memory → Memory → Type 0}
-    {L : Memory → Type 0} {T : Type 0} → HaltsMoving a b v left
+    {L : Memory → Type 0} {T : Type 0} → HaltsMoving a b v v' left
     → (let r : Result T LogFault = Err fault.Halted in EndsMoving a b v v' left left' P R L r)
 ends_halted halts = record {
   carries = halts.stops.carries;
@@ -374,8 +375,12 @@ moved_saved left one fewer capacity order kept cleanable spares = record {
 }
 
 pub halts_saving : {d d' : DeviceState} {v v' : LogMemory} (left : ℕ) → 1 ≤ length v.dirty.blocks → StopsSaving d d' v v' 1 1
-    → HaltsMoving d d' v left
-halts_saving left some one = record { stops = one.stops; tells = let told = one.tells in omega (arith, told, some) }
+    → HaltsMoving d d' v v' left
+halts_saving left some one = record {
+  stops = one.stops;
+  room = let room = one.room in omega (arith, room, some);
+  tells = let told = one.tells in omega (arith, told, some);
+}
 
 -- it goes to none of these segments
 pub placed_outside : (v v' : LogMemory) (victims : List ℕ) (at : ℕ) → AreCleanable v.usage victims → StayCleanable v v'

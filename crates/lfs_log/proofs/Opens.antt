@@ -35,6 +35,7 @@ use Rattle.lfs_verify.specs.declared.fault.MountFault.TheVariants as fault
 use Rattle.lfs_verify.specs.Faults.{IsOpenFault}
 use Rattle.lfs_verify.specs.Verified.{HasLogMap, IsRefusedLog}
 use Rattle.lfs_log.specs.LogState.{LogState, AreAllSaved}
+use Rattle.lfs_log.specs.Groups.{ListedKeys}
 use Rattle.lfs_log.specs.Held.{Held, seen, IsPassMemory, IsReadyToPass}
 use Rattle.lfs_log.proofs.Volumes.{mounts}
 use Rattle.lfs_log.specs.Mounting.{HasWholeUnits, OpenedLog, OpensLog}
@@ -239,7 +240,8 @@ has_log_map d d' t has keeps = let h = has keeps in
     (h.held.log, record { checkpoint = h.held.checkpoint; newest = h.held.newest; stands = h.stands })
 
 -- the log that has it is ready
-pub ready : (d : DeviceState) {v pass : LogMemory} → IsOpened v d.size → IsPassMemory v pass → IsReadyToPass d v pass
+pub ready : (d : DeviceState) {v pass : LogMemory} {keys : ListedKeys} → IsOpened v d.size → IsPassMemory v pass keys
+    → IsReadyToPass d v pass keys
 ready d {v} is there = record {
   running = record {
     memory = is.memory;

@@ -1,21 +1,20 @@
 -- Blocks that come into memory from where they stand: what calls one after the other do.
-use Rattle.std.proofs.Common.{◌≡◌, ◌≤◌, ℕ, Some, refl, sym, ◌∙◌, ap, arith}
+use Rattle.std.proofs.Common.{◌≡◌, ℕ, Some, refl, ◌∙◌, ap, arith}
 use Rattle.lfs_model.specs.Device.{DeviceState, IsLawful}
 use Rattle.lfs_model.specs.Entry.{Entry, Data, Leaf, Double, Inode, Map, Usage}
 use Rattle.lfs_model.specs.Memory.{parent, file_of}
 use Rattle.lfs_model.specs.Staging.{IsAtAddress}
 use Rattle.lfs_model.proofs.Entries.{data_below, leaf_below, double_below}
-use Rattle.lfs_model.proofs.Reading.{reading}
 use Rattle.lfs_model.proofs.Replacing.{address_at}
 use Rattle.lfs_memory.specs.inodes.Blocks.{blocks_of}
 use Rattle.lfs_memory.specs.inodes.MapValue.{address_in}
 use Rattle.lfs_memory.specs.declared.memory.LogMemory.{LogMemory}
-use Rattle.lfs_memory.specs.Lifting.{Gathers, IsInMemory, Prepares}
-use Rattle.lfs_memory.specs.Memory.{IsMemory, tables_of, segment_in}
-use Rattle.lfs_memory.specs.Present.{AnswersAddress, FailsFromDevice, Looks}
+use Rattle.lfs_memory.specs.Lifting.{Gathers, Prepares}
+use Rattle.lfs_memory.specs.Memory.{IsMemory, tables_of}
+use Rattle.lfs_memory.specs.Present.{FailsFromDevice, Looks}
 use Rattle.lfs_memory.proofs.Gathered.{gathers_looks, gathers_then}
 use Rattle.lfs_memory.proofs.Presents.{inode_at, looks_then}
-use Rattle.lfs_log.specs.Relocating.{HasLeft, IsNoBlock, Relocates}
+use Rattle.lfs_log.specs.Relocating.{IsNoBlock, Relocates}
 
 -- ---- one call after the other
 pub relocates_looks : {d d' : DeviceState} (v : LogMemory) → IsMemory v → Looks d d' → Relocates d d' v v
@@ -76,27 +75,6 @@ pub no_inode_there : (d : DeviceState) (v : LogMemory) (x : Entry) {f : ℕ} →
     → IsNoBlock d v x
 no_inode_there d v x {f} file top none k m0 m keeps is = ap is.running.memory.at (top_inode x file top) ∙ inode_at d v k m0 m is f ∙ none
 
-pub no_block_above : (d : DeviceState) (v : LogMemory) (x : Entry) {up : Entry} → up ≡ parent x → IsNoBlock d v up → IsNoBlock d v x
-no_block_above d v x named none k m0 m keeps is =
-    (reading d.content m is.running.memory (segment_in v.chunk) is.running.laid).no_pointer x
-    (ap is.running.memory.at (sym named) ∙ none k m0 m keeps is)
-
 pub no_pointer_there : (d : DeviceState) (v : LogMemory) (x : Entry) → IsAtAddress (blocks_of v.dirty) (tables_of v) x 0 → IsNoBlock d v x
 no_pointer_there d v x at k m0 m keeps is =
     address_at d k m0 m x 0 is.running at
-
--- ---- a block that has left its address
-pub elsewhere : (d d' : DeviceState) (v v' : LogMemory) (x : Entry) {there address : ℕ} → AnswersAddress d d' v x there
-    → (there ≡ address → ⊥) → 2 ≤ address → HasLeft d d' v v' x address
-elsewhere d d' v v' x answer ne above k m0 m keeps is is' traces at =
-    ne (sym (answer k m0 m keeps is) ∙ traces x (omega (arith, above, at)) ∙ at)
-
-pub left_inside : (d d' : DeviceState) (v v' : LogMemory) (x : Entry) (address : ℕ) → IsInMemory v' x → 2 ≤ address
-    → HasLeft d d' v v' x address
-left_inside d d' v v' x address inside above k m0 m keeps is is' traces at = let one = (is'.running.cached.cached x inside.0 inside.1).1 in
-    absurd (omega (arith, one, at, above))
-
-pub left_nowhere : (d d' : DeviceState) (v v' : LogMemory) (x : Entry) (address : ℕ) → IsNoBlock d' v' x → 2 ≤ address
-    → HasLeft d d' v v' x address
-left_nowhere d d' v v' x address none above k m0 m keeps is is' traces at = let zero_there = none k m0 m keeps is' in
-    absurd (omega (arith, zero_there, at, above))

@@ -1,5 +1,6 @@
 -- A commit, from its two halves.
-use Rattle.std.proofs.Common.{◌≡◌, ◌<◌, ◌≤◌, ⊎_elim, inl, ◌+◌, ◌*◌, ℕ, [], length, sym, ◌∙◌, ap, subst, arith}
+use Rattle.std.proofs.Common.{◌≡◌, ◌<◌, ◌≤◌, ⊎_elim, inl, ◌+◌, ◌*◌, ◌==◌, cond, nat_lt, ℕ, Bool, true, false, [], length, Option, Some}
+use Rattle.std.proofs.Common.{None, sym, ◌∙◌, ap, subst, arith}
 use Rattle.lfs_model.specs.Checkpoint.{CheckpointValue, shape_of}
 use Rattle.lfs_model.specs.Content.{Content}
 use Rattle.lfs_model.specs.Crash.{StandsOn, StandsForOn}
@@ -8,8 +9,8 @@ use Rattle.lfs_model.specs.Stands.{LogMap}
 use Rattle.lfs_model.specs.TreeOf.{dropped}
 use Rattle.lfs_model.proofs.Moments.{carries_then, joined, weaker}
 use Rattle.lfs_model.proofs.Settled.{settled_stands}
-use Rattle.lfs_memory.specs.segments.Table.{SegmentNumbers, clean_in}
-use Rattle.lfs_memory.specs.segments.Chunk.{Chunk, room_in}
+use Rattle.lfs_memory.specs.segments.Table.{SegmentNumbers, UsageTable, clean_in, used_of}
+use Rattle.lfs_memory.specs.segments.Chunk.{Chunk, due_in, room_behind, room_in}
 use Rattle.lfs_memory.specs.segments.Emptied.{IsEmptied}
 use Rattle.lfs_memory.specs.segments.Spare.{emptied_in, spare_in}
 use Rattle.lfs_memory.proofs.of_segments.Spare.{emptied_stay, spare_there, emptied_given}
@@ -17,10 +18,26 @@ use Rattle.lfs_memory.specs.declared.memory.LogMemory.{LogMemory}
 use Rattle.lfs_memory.specs.Memory.{Goes, Stops, room_of}
 use Rattle.lfs_log.specs.Publishing.{IsAcknowledged, Publishes, PublishFails, LeavesEither}
 use Rattle.lfs_log.specs.Saving.{CommitsAll, CommitsIn, CommitsOpen, CommitFails, CommitFailsIn, CommitFailsOpen, IsSpared, IsSparedBy}
-use Rattle.lfs_log.specs.Saving.{orders_for_open, segments_for, segments_for_open, segments_open}
+use Rattle.lfs_log.specs.Saving.{segments_for, segments_for_open, segments_open}
 use Rattle.lfs_memory.proofs.Begun.{zero_or_more}
 use Rattle.lfs_memory.proofs.Rooms.{room_none, room_some}
 use Rattle.lfs_log.proofs.Cleaned.{emptied_clean}
+
+-- a summary at most comes without a clean segment
+one_or_none : (yes : Bool) → cond yes 1 0 ≤ 1
+one_or_none true = omega arith
+one_or_none false = omega arith
+
+one_at_most : (yes : Bool) {n : ℕ} → n ≤ 1 → cond yes n 1 ≤ 1
+one_at_most true le = le
+one_at_most false le = omega arith
+
+one_behind : (t : UsageTable) (o : Option ℕ) → room_behind t o ≤ 1
+one_behind t None = omega arith
+one_behind t (Some s) = one_or_none (nat_lt (used_of t s) 63)
+
+pub few_due : (v : LogMemory) → due_in v.chunk v.usage ≤ 1
+few_due v = one_at_most (length v.chunk.names == 0) (one_behind v.usage v.usage.last)
 
 -- how many blocks more a chunk takes at most, that has one
 pub few_more : (c : Chunk) → room_in c ≤ 62
@@ -37,19 +54,50 @@ segments_taken v v' blocks room =
     let before = few_more v.chunk in
     omega (arith, few, before, room)
 
+-- no fewer orders and segments than it may take
+commits_more : {most orders least fewer : ℕ} {d d' : DeviceState} {v v' : LogMemory} {version number : ℕ} → least ≤ most → fewer ≤ orders
+    → CommitsIn least fewer d d' v v' version number → CommitsIn most orders d d' v v' version number
+commits_more few le c = record {
+  carries = c.carries;
+  memory = c.memory;
+  chunk = c.chunk;
+  dirty = c.dirty;
+  untaken = c.untaken;
+  capacity = c.capacity;
+  segments = c.segments;
+  gains = let gains = c.gains in omega (arith, gains, few);
+  many = c.many;
+  cleaned = c.cleaned;
+  no_failure = c.no_failure;
+  log = c.log;
+  moment = c.moment;
+  told = let told = c.told in omega (arith, told, le);
+}
+
 -- one that is begun with no chunk: as many as these want
 pub commits_closed : {d d' : DeviceState} {v v' : LogMemory} {version number : ℕ} → v.chunk.names ≡ []
     → CommitsOpen d d' v v' version number → CommitsAll d d' v v' version number
-commits_closed {d} {d'} {v} {v'} {version} {number} closed =
-    let n = length v.dirty.blocks in
-    subst (λ (r : ℕ). CommitsIn (segments_for_open n r) (orders_for_open n r) d d' v v' version number)
-    (room_none v.chunk (ap length closed))
+commits_closed {v = v} closed =
+    let none = room_none v.chunk (ap length closed) in
+    let due = few_due v in
+    commits_more (omega (arith, none)) (omega (arith, none, due))
+
+pub fails_more : {orders fewer : ℕ} {d d' : DeviceState} {v : LogMemory} {version number : ℕ} → fewer ≤ orders
+    → CommitFailsIn fewer d d' v version number → CommitFailsIn orders d d' v version number
+fails_more le c = record {
+  carries = c.carries;
+  cause = c.cause;
+  left = c.left;
+  moment = c.moment;
+  told = let told = c.told in omega (arith, told, le);
+}
 
 pub fails_closed : {d d' : DeviceState} {v : LogMemory} {version number : ℕ} → v.chunk.names ≡ [] → CommitFailsOpen d d' v version number
     → CommitFails d d' v version number
-fails_closed {d} {d'} {v} {version} {number} closed =
-    subst (λ (r : ℕ). CommitFailsIn (orders_for_open (length v.dirty.blocks) r) d d' v version number)
-    (room_none v.chunk (ap length closed))
+fails_closed {v = v} closed =
+    let none = room_none v.chunk (ap length closed) in
+    let due = few_due v in
+    fails_more (omega (arith, none, due))
 
 pub spared_closed : (v : LogMemory) → v.chunk.names ≡ [] → IsSpared v → IsSparedBy (segments_open v) v
 spared_closed v closed =

@@ -34,13 +34,6 @@ use Rattle.lfs_log.proofs.Relocated.{relocates_looks, relocates_of}
 pub map_relocates : {d : DeviceState} {v v' : LogMemory} {j : ℕ} → IsLawful d → IsMemory v → (v' ≡ v) ⊎ MapLifts v v' j → Relocates d d v v'
 map_relocates {d} {v} {v'} {j} lawful memory go = relocates_of (map_of_prepares lawful memory go) (map_of_gathers d go)
 
-pub map_dirty : {v v' : LogMemory} {j : ℕ} → (v' ≡ v) ⊎ MapLifts v v' j → v'.dirty ≡ v.dirty
-map_dirty {v} {v'} {j} go = ⊎_elim (λ (same : v' ≡ v). ap (λ (v : LogMemory). v.dirty) same) (λ (lifts : MapLifts v v' j). lifts.dirty) go
-
-pub usage_dirty : {v v' : LogMemory} {j : ℕ} → (v' ≡ v) ⊎ UsageLeavesIn v v' j → v'.dirty ≡ v.dirty
-usage_dirty {v} {v'} {j} go =
-    ⊎_elim (λ (same : v' ≡ v). ap (λ (v : LogMemory). v.dirty) same) (λ (leaves : UsageLeavesIn v v' j). leaves.dirty) go
-
 -- ---- a usage block
 pub usage_lost : (d : DeviceState) {v : LogMemory} {j : ℕ} → IsUsageLost v j → FailsFromDevice d d v
 usage_lost d {v} {j} gone k m0 m keeps is = absurd (gone.lost (record {

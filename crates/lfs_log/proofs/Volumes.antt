@@ -19,7 +19,7 @@ use Rattle.lfs_memory.specs.files.declared.fault.LogFault.{LogFault}
 use Rattle.lfs_memory.specs.files.declared.fault.LogFault.TheVariants.{Device}
 use Rattle.lfs_memory.specs.Present.{OnlyLooks, Looks}
 use Rattle.lfs_log.specs.Publishing.{IsAcknowledged}
-use Rattle.lfs_log.specs.Saving.{CommitsAll, CommitFails}
+use Rattle.lfs_log.specs.Saving.{CommitsAll, CommitFailsIn}
 use Rattle.lfs_log.proofs.LogReads.{loose_in, reads_looked}
 use Rattle.lfs_memory.specs.declared.changes.Changes.{Changes}
 use Rattle.lfs_memory.specs.declared.memory.LogMemory.{LogMemory}
@@ -39,7 +39,7 @@ use Rattle.lfs_memory.proofs.Applied.{has_inode}
 use Rattle.lfs_memory.proofs.BlockSteps.{tightened_log}
 use Rattle.lfs_memory.proofs.Presents.{no_inode, same_map}
 use Rattle.lfs_memory.proofs.Versions.{staged_version}
-use Rattle.lfs_log.specs.LogState.{LogState, Holds, Mounts, Saves, HaltsOf}
+use Rattle.lfs_log.specs.LogState.{LogState, Holds, Mounts, Saves, Halts}
 use Rattle.lfs_log.specs.LogState.{Alters, IsStaged, IsRefused}
 use Rattle.lfs_log.specs.LogState.{IsStageFault, IsRemoved, IsKept, IsVacant, HasAll, HoldsOne, AreAllSaved, IsAtRest, ReadsLog}
 use Rattle.lfs_log.specs.Held.{Held, seen}
@@ -130,19 +130,16 @@ module _ {D : Type 0} {state : D → DeviceState} where
             },
           )
 
-  -- where `Has` says what the log holds, and that memory stands for it
-  pub halts : {h h' : Held D} {v : LogMemory} {Has : CheckpointValue → LogMap → LogMap → Type 0}
-      → ((k : CheckpointValue) (m0 m : LogMap) → Has k m0 m → Holds state (seen h) k m0 m × IsLog (state h.device) v k m0 m)
-      → CommitFails (state h.device) (state h'.device) v h.version h.number → h'.halted ≡ true → h'.saved ≡ false
-      → h'.number ≡ h.number → HaltsOf state Has (seen h) (seen h')
-  halts {h} stands c halted unsaved number = record {
+  pub halts : {h h' : Held D} {orders : ℕ} → CommitFailsIn orders (state h.device) (state h'.device) h.memory h.version h.number
+      → h'.halted ≡ true → h'.saved ≡ false → h'.number ≡ h.number → Halts state (seen h) (seen h')
+  halts {h} c halted unsaved number = record {
     carries = c.carries;
     halted = halted;
     unsaved = unsaved;
     number = number;
-    cause = λ k m0 m keeps is. c.cause k m0 m keeps (stands k m0 m is).1;
-    left = λ k m0 m keeps is map. (let both = stands k m0 m is in c.left k m0 m keeps (acknowledged h both.0 both.1 map));
-    moment = λ k m0 m keeps is map. (let both = stands k m0 m is in c.moment k m0 m keeps (acknowledged h both.0 both.1 map));
+    cause = λ k m0 m keeps is. c.cause k m0 m keeps is.log;
+    left = λ k m0 m keeps is map. c.left k m0 m keeps (acknowledged h is is.log map);
+    moment = λ k m0 m keeps is map. c.moment k m0 m keeps (acknowledged h is is.log map);
   }
 
   -- a mounted log map has no file of no links

@@ -1,5 +1,5 @@
 -- Segments from which all that lived there went elsewhere: the steps of that, one behind the other.
-use Rattle.std.proofs.Common.{◌≡◌, ◌<◌, ◌≤◌, ◌⊎◌, ⊎_elim, ◌+◌, ℕ, List, [], ◌∷◌, length, get_or, refl, sym, ◌∙◌, ap, subst, arith, inl, inr}
+use Rattle.std.proofs.Common.{◌≡◌, ◌<◌, ◌≤◌, ◌⊎◌, ⊎_elim, ℕ, List, [], ◌∷◌, get_or, sym, ◌∙◌, subst, arith, inl, inr}
 use Rattle.std.specs.Prelude.{IsPermutation}
 use Rattle.std.proofs.lemmas.Bool.{cases_eq, cases_lt}
 use Rattle.lfs_model.specs.Checkpoint.{CheckpointValue}
@@ -12,7 +12,6 @@ use Rattle.lfs_model.specs.Running.{IsTight}
 use Rattle.lfs_model.specs.Stands.{LogMap}
 use Rattle.lfs_model.proofs.EmptySegment.{empty_segment}
 use Rattle.lfs_memory.specs.inodes.Blocks.{TableValue, blocks_of}
-use Rattle.lfs_memory.specs.inodes.Key.{entry_of}
 use Rattle.lfs_memory.specs.inodes.declared.key.BlockKey.{BlockKey}
 use Rattle.lfs_memory.specs.declared.memory.LogMemory.{LogMemory}
 use Rattle.lfs_memory.specs.Lifting.{HasTraces}

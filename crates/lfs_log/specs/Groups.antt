@@ -1,5 +1,5 @@
 -- The order in which a pass of the cleaner goes over the blocks of files: file by file, and in a file leaf by leaf.
-use Rattle.std.specs.Prelude.{◌≡◌, ◌≤◌, ◌+◌, ◌*◌, ◌-◌, ◌/◌, cond, nat_lt, ℕ, List}
+use Rattle.std.specs.Prelude.{◌≡◌, ◌≤◌, ◌⊎◌, ◌+◌, ◌*◌, ◌-◌, ◌/◌, cond, nat_lt, ℕ, List}
 use Rattle.lfs_model.specs.declared.limits.TheConstants.{BLOCK_POINTERS, DIRECT_BLOCKS, LAST_LEAF}
 use Rattle.lfs_model.specs.Entry.{Entry, Data, Leaf, Double, Inode, Map, Usage}
 use Rattle.lfs_memory.specs.inodes.Key.{entry_of}
@@ -50,6 +50,14 @@ IsLeaf (Usage j) = ⊥
 -- no other blocks are in memory
 abbrev pub HasAboveAlone : LogMemory → ℕ → Type 0
 HasAboveAlone v group = (x : Entry) → IsInMemory v x → IsAbove group x
+
+-- a leaf of an earlier group
+abbrev pub IsClosedLeaf : ℕ → Entry → Type 0
+IsClosedLeaf group x = IsLeaf x × (closes_at x ≤ group)
+
+-- no others but leaves of earlier groups
+abbrev pub HasAboveAndLeaves : LogMemory → ℕ → Type 0
+HasAboveAndLeaves v group = (x : Entry) → IsInMemory v x → IsAbove group x ⊎ IsClosedLeaf group x
 
 -- Keys of blocks in a list, for so many of which there is memory.
 pub record ListedKeys : Type 0 where

@@ -10,6 +10,7 @@ pub mod Brought
 pub mod Moving
 pub mod Relocating
 pub mod Cleaning
+pub mod Passing
 pub mod Collecting
 pub mod Telling
 pub mod Placing

@@ -52,10 +52,8 @@ pub record LogState (D : Type 0) : Type 0 where
   pub file_data : ℕ
   -- what lives in each segment, for the cleaner alone
   pub usage : UsageTable
-  -- the rest, of which no layer above speaks: the memory that calls change, and beside it what was relocated and waits for the commit of a
-  -- pass, if anything was
+  -- the rest, of which no layer above speaks: the memory that calls change
   pub inner : LogMemory
-  pub relocated : Option LogMemory
 
 -- nothing waits for a checkpoint: no block in memory, no version that was raised, and no sector that was taken
 pub record AreAllSaved {D : Type 0} (h : LogState D) : Type 0 where
@@ -102,13 +100,10 @@ module _ {D : Type 0} (state : D → DeviceState) where
   abbrev pub IsSaved : Shape → LogMap → LogMap → Content → Type 0
   IsSaved shape m0 m c = StandsForOn shape m0 (dropped m) c
 
-  -- A stop at any moment leaves one of these, where `Has` says what the log holds.
-  abbrev pub LeavesSavedOf : (Has : CheckpointValue → LogMap → LogMap → Type 0) → LogState D → LogState D → Type 0
-  LeavesSavedOf Has h h' = (k : CheckpointValue) (m0 m : LogMap) → (state h'.device).keeps_model → Has k m0 m → IsLogMap (dropped m)
-      → LeavesOnly (state h.device) (state h'.device) (IsSaved (shape_of k) m0 m)
-
+  -- a stop at any moment leaves one of these
   abbrev pub LeavesSaved : LogState D → LogState D → Type 0
-  LeavesSaved h h' = LeavesSavedOf (Holds h) h h'
+  LeavesSaved h h' = (k : CheckpointValue) (m0 m : LogMap) → (state h'.device).keeps_model → Holds h k m0 m → IsLogMap (dropped m)
+      → LeavesOnly (state h.device) (state h'.device) (IsSaved (shape_of k) m0 m)
 
   -- A commit: the present map, without its files of no links, is what is acknowledged.
   pub record Saves (h h' : LogState D) : Type 0 where
@@ -132,20 +127,17 @@ module _ {D : Type 0} (state : D → DeviceState) where
         → AllLeft (state h'.device) (λ c. StandsOn (shape_of k) c (dropped m))
     pub moment : LeavesSaved h h'
 
-  -- One that a failure of the device ended, where `Has` says what the log holds.
-  pub record HaltsOf (Has : CheckpointValue → LogMap → LogMap → Type 0) (h h' : LogState D) : Type 0 where
+  -- One that a failure of the device ended.
+  pub record Halts (h h' : LogState D) : Type 0 where
     pub carries : Carries (state h.device) (state h'.device)
     pub halted : h'.halted ≡ true
     pub unsaved : h'.saved ≡ false
     pub number : h'.number ≡ h.number
-    pub cause : (k : CheckpointValue) (m0 m : LogMap) → (state h'.device).keeps_model → Has k m0 m
+    pub cause : (k : CheckpointValue) (m0 m : LogMap) → (state h'.device).keeps_model → Holds h k m0 m
         → (state h.device).failed_orders < (state h'.device).failed_orders
-    pub left : (k : CheckpointValue) (m0 m : LogMap) → (state h'.device).keeps_model → Has k m0 m → IsLogMap (dropped m)
+    pub left : (k : CheckpointValue) (m0 m : LogMap) → (state h'.device).keeps_model → Holds h k m0 m → IsLogMap (dropped m)
         → AllLeft (state h'.device) (IsSaved (shape_of k) m0 m)
-    pub moment : LeavesSavedOf Has h h'
-
-  abbrev pub Halts : LogState D → LogState D → Type 0
-  Halts h h' = HaltsOf (Holds h) h h'
+    pub moment : LeavesSaved h h'
 
   -- Full chunks of data blocks went to segments that the acknowledged checkpoint doesn't reach. What the log holds stays, what is
   -- acknowledged and what a stop leaves, and as many blocks are unsaved.
@@ -191,6 +183,29 @@ module _ {D : Type 0} (state : D → DeviceState) where
     pub file_data : h'.file_data ≡ h.file_data
     pub usage : h'.usage ≡ h.usage
     pub inner : h'.inner ≡ h.inner
+
+  -- A call that gave up: it wrote at most to sectors that nothing needs. What the log holds stays, and all that is known of it but where
+  -- the last chunk stands, and a stop leaves what is acknowledged.
+  pub record HoldsStill (h h' : LogState D) : Type 0 where
+    pub carries : Carries (state h.device) (state h'.device)
+    pub halted : h'.halted ≡ h.halted
+    pub number : h'.number ≡ h.number
+    pub version : h'.version ≡ h.version
+    pub upgraded : h'.upgraded ≡ h.upgraded
+    pub saved : h'.saved ≡ h.saved
+    pub unsaved : h'.unsaved ≡ h.unsaved
+    pub totals : h'.totals ≡ h.totals
+    pub segments : h'.segments ≡ h.segments
+    pub clean : h'.clean ≡ h.clean
+    pub emptied : h'.emptied ≡ h.emptied
+    pub waiting : h'.waiting ≡ h.waiting
+    pub file_data : h'.file_data ≡ h.file_data
+    pub usage : h'.usage.segments ≡ h.usage.segments
+    -- the next chunk begins in a clean segment, where anything was written
+    pub last : (length (state h'.device).told ≡ length (state h.device).told) ⊎ (h'.usage.last ≡ None)
+    pub holds : (k : CheckpointValue) (m0 m : LogMap) → (state h'.device).keeps_model → Holds h k m0 m → Holds h' k m0 m
+    pub moment : (k : CheckpointValue) (m0 m : LogMap) → (state h'.device).keeps_model → Holds h k m0 m
+        → LeavesOnly (state h.device) (state h'.device) (λ c. StandsOn (shape_of k) c m0)
 
   -- a call of the device failed, where the log holds a map
   abbrev pub IsReadFault : LogState D → LogState D → Type 0

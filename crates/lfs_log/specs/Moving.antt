@@ -49,10 +49,11 @@ pub record HasMoved (d d' : DeviceState) (v v' : LogMemory) (left left' : ℕ) :
   pub quiet : Quiet d d' v
   pub log : (k : CheckpointValue) (m0 m : LogMap) → d'.keeps_model → IsLog d v k m0 m → IsLog d' v' k m0 m
 
--- a failure of the device ended them
-pub record HaltsMoving (d d' : DeviceState) (v : LogMemory) (left : ℕ) : Type 0 where
+-- a failure of the device ended them, at the order behind those at the latest
+pub record HaltsMoving (d d' : DeviceState) (v v' : LogMemory) (left : ℕ) : Type 0 where
   pub stops : Stops d d' v
-  pub tells : length d'.told ≤ orders_due d v + length v.dirty.blocks + left + 1
+  pub room : room_of v ≤ room_of v' + length v.dirty.blocks + left
+  pub tells : orders_due d' v' ≤ orders_due d v + length v.dirty.blocks + left + 1
 
 -- where memory and device hold a log map of which this holds, that does
 abbrev pub WhereLog : DeviceState → DeviceState → LogMemory → (Memory → Type 0) → (Memory → Type 0) → Type 0
@@ -68,7 +69,7 @@ pub record EndsMoving {T : Type 0} (d d' : DeviceState) (v v' : LogMemory) (left
   pub no_failure : OnOk result (d'.failures ≡ d.failures)
   pub failed : IsErrOf result fault.Device → WhereLog d d' v P (λ M. d.failures < d'.failures)
   pub full : IsErrOf result fault.Full → WhereLog d d' v P Lacks
-  pub halted : IsErrOf result fault.Halted → HaltsMoving d d' v left
+  pub halted : IsErrOf result fault.Halted → HaltsMoving d d' v v' left
 
 -- what exists goes on to exist
 abbrev pub StaysStored : Memory → Memory → Type 0

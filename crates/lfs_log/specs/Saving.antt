@@ -6,7 +6,7 @@ use Rattle.lfs_model.specs.declared.limits.TheConstants.{CHUNK_BLOCKS, MOST_UNSA
 use Rattle.lfs_model.specs.Device.{DeviceState, Carries, AllLeft}
 use Rattle.lfs_model.specs.Stands.{LogMap}
 use Rattle.lfs_model.specs.TreeOf.{dropped}
-use Rattle.lfs_memory.specs.segments.Chunk.{room_in}
+use Rattle.lfs_memory.specs.segments.Chunk.{due_in, room_in}
 use Rattle.lfs_memory.specs.segments.Emptied.{IsEmptied}
 use Rattle.lfs_memory.specs.segments.Table.{used_of, clean_in}
 use Rattle.lfs_memory.specs.segments.Spare.{emptied_in}
@@ -27,15 +27,16 @@ segments_for_open blocks room = (blocks + TABLE_BLOCKS + (CHUNK_BLOCKS - 1 - roo
 abbrev pub orders_for : ℕ → ℕ
 orders_for blocks = blocks + TABLE_BLOCKS + segments_for blocks + 4
 
-abbrev pub orders_for_open : ℕ → ℕ → ℕ
-orders_for_open blocks room = blocks + TABLE_BLOCKS + segments_for_open blocks room + 4
+-- these blocks, a summary for each segment and for as many chunks as have begun or may begin without one, two syncs and a checkpoint
+abbrev pub orders_for_open : ℕ → ℕ → ℕ → ℕ
+orders_for_open blocks room due = blocks + TABLE_BLOCKS + segments_for_open blocks room + due + 3
 
 -- of the blocks in memory, with the chunk that has begun, if there is one
 abbrev pub segments_open : LogMemory → ℕ
 segments_open v = segments_for_open (length v.dirty.blocks) (room_in v.chunk)
 
 abbrev pub orders_open : LogMemory → ℕ
-orders_open v = orders_for_open (length v.dirty.blocks) (room_in v.chunk)
+orders_open v = orders_for_open (length v.dirty.blocks) (room_in v.chunk) (due_in v.chunk v.usage)
 
 -- how many a commit gives it at most, outside a pass of the cleaner: with all blocks of files that memory takes
 abbrev pub commit_orders : ℕ

@@ -11,6 +11,7 @@ mod log;
 pub mod mapping;
 pub mod moving;
 pub mod opening;
+pub mod passing;
 pub mod placing;
 pub mod publishing;
 pub mod relocating;

@@ -7,16 +7,17 @@ ghost use Rattle.lfs_model.specs.Members.{AreApart};
 ghost use Rattle.lfs_verify.specs.Loading.{HasTables, IsLoaded};
 ghost use Rattle.lfs_memory.specs.Batch.{room_for};
 
-use crate::cleaning::{may_clean, most_of, relocate, take_tables};
+use crate::cleaning::may_clean;
 use crate::committing::save;
 use crate::early::{age_after, write_chunks};
+use crate::groups::KeyList;
 use crate::layout_version::{LayoutVersion, is_raised_after, unsaved_by, version_after};
 use crate::opening::open_memory;
+use crate::passing::{empty_segments, take_tables};
 use crate::thresholds::has_reserve;
 use lfs_cache::{CachedDevice, DEFAULT_SECTORS, MOST_SECTORS};
 use lfs_device::{SectorDevice, TendedDevice};
 use lfs_memory::counting::SegmentCounts;
-use lfs_memory::lifting::LiftFault;
 use lfs_memory::pointers::{count_blocks, find_block, read_block};
 use lfs_memory::present::{locate_double, locate_leaf, read_header};
 use lfs_memory::segments::Usage;
@@ -45,10 +46,9 @@ pub struct Log<D: SectorDevice> {
     totals: BlockTotals,
     /// What a file loses is counted here.
     counts: SegmentCounts,
-    /// What a pass of the cleaner relocated, which its commit writes.
+    /// The memory of a pass of the cleaner, and a list of the keys of what it moves.
     pass: LogMemory,
-    /// Something was relocated, and nothing changed since.
-    relocated: bool,
+    keys: KeyList,
     /// The pointers that the last read of a block found, until something changes.
     pointers: Option<PointerRun>,
 }
@@ -56,7 +56,7 @@ pub struct Log<D: SectorDevice> {
 impl<D: SectorDevice> Model for Log<D> {
     ghost use Rattle.lfs_memory.specs.Pointers.{KeepsRun};
     ghost use Rattle.lfs_log.specs.LogState.{LogState};
-    ghost use Rattle.lfs_log.specs.Held.{HoldsUnlessHalted, WaitsForPass, WaitsUnlessSaved, relocated_by, seen};
+    ghost use Rattle.lfs_log.specs.Held.{HoldsUnlessHalted, WaitsUnlessSaved, seen};
     ghost use Rattle.lfs_log.specs.Versions.{number_of};
 
     ghost Value = { LogState D };
@@ -70,23 +70,21 @@ impl<D: SectorDevice> Model for Log<D> {
       saved = l.saved;
       halted = l.halted;
       totals = l.totals;
-      relocated = relocated_by l.relocated l.pass;
     } };
 
     ghost invariant = { λ l.
-        HoldsUnlessHalted (D.SectorDevice.state l.device) l.memory l.pass l.halted
+        HoldsUnlessHalted (D.SectorDevice.state l.device) l.memory l.pass l.keys l.halted
         × KeepsRun (D.SectorDevice.state l.device) l.memory l.pointers
-        × WaitsUnlessSaved l.memory l.upgraded l.saved
-        × WaitsForPass l.memory l.pass l.relocated };
+        × WaitsUnlessSaved l.memory l.upgraded l.saved };
 }
 
 impl<D: SectorDevice> Log<D> {
-    ghost use Rattle.lfs_log.specs.Cleaning.{ArePacked, HaltsRelocated, IsRelocated, MayClean, MayPass, Overfills, SavesRelocated, most_brought};
+    ghost use Rattle.lfs_log.specs.Cleaning.{ArePacked, Cleans, MayPass};
     ghost use Rattle.lfs_log.specs.Saving.{commit_orders, orders_for, pass_orders};
     ghost use Rattle.lfs_log.specs.Early.{full_chunk};
     ghost use Rattle.lfs_log.specs.Thresholds.{HasReserve, LacksReserve, reserve_of};
     ghost use Rattle.lfs_log.specs.Mounting.{HasWholeUnits, OpenedLog, OpensLog};
-    ghost use Rattle.lfs_log.specs.LogState.{Saves, Halts, Reads, ReadsHeader, ReadsBlock, TellsBlock, TellsLeaf, TellsDouble, CountsBlocks, IsReadFault, IsFull, IsVacant, HasAll, IsStaged, IsRefused, IsStageFault, IsRemoved, IsKept, IsWhole, HoldsOne, AreAllSaved, WritesEarly, ReadsLog, unsaved_by};
+    ghost use Rattle.lfs_log.specs.LogState.{Saves, Halts, HoldsStill, Reads, ReadsHeader, ReadsBlock, TellsBlock, TellsLeaf, TellsDouble, CountsBlocks, IsReadFault, IsFull, IsVacant, HasAll, IsStaged, IsRefused, IsStageFault, IsRemoved, IsKept, IsWhole, HoldsOne, AreAllSaved, WritesEarly, ReadsLog, unsaved_by};
 
     /// The volume that the newest checkpoint of the device leads to, with the totals of its files;
     /// else why there is none, and the device. All that the checkpoint leads to is walked over
@@ -170,7 +168,7 @@ impl<D: SectorDevice> Log<D> {
                 totals: opened.totals,
                 counts,
                 pass: opened.pass,
-                relocated: false,
+                keys: opened.keys,
                 pointers: None,
             }),
             Err(_) => Err((MountFault::NoMemory, device.into_inner())),
@@ -459,7 +457,6 @@ impl<D: SectorDevice> Log<D> {
     /// device failed. `Halted` once a write of the log failed.
     pub fn stage(&mut self, changes: &Changes, totals: BlockTotals) -> Result<(), LogFault>
         ensures done { OnOk result (IsStaged D.SectorDevice.state self.old self.new changes.now) }
-        ensures given_up { OnOk result (self.new.relocated ≡ None) }
         ensures counted { OnOk result (self.new.totals ≡ totals) }
         ensures kept { OnErr result (self.new.totals ≡ self.old.totals) }
         ensures refused { OnErr result (IsRefused D.SectorDevice.state self.old self.new
@@ -475,7 +472,6 @@ impl<D: SectorDevice> Log<D> {
             return Err(LogFault::Halted);
         }
         drop_run(&mut self.pointers);
-        self.relocated = false;
         // A stage that fails may have brought blocks into memory, which a commit clears.
         self.saved = false;
         match stage(
@@ -503,7 +499,6 @@ impl<D: SectorDevice> Log<D> {
     pub fn remove(&mut self, number: u16, totals: BlockTotals) -> Result<(), LogFault>
         requires { number < FILE_NUMBERS }
         ensures done { OnOk result (IsRemoved D.SectorDevice.state self.old self.new number) }
-        ensures given_up { OnOk result (self.new.relocated ≡ None) }
         ensures counted { OnOk result (self.new.totals ≡ totals) }
         ensures kept { OnErr result (IsKept D.SectorDevice.state self.old self.new) }
         ensures same { OnErr result (self.new.totals ≡ self.old.totals) }
@@ -515,7 +510,6 @@ impl<D: SectorDevice> Log<D> {
             return Err(LogFault::Halted);
         }
         drop_run(&mut self.pointers);
-        self.relocated = false;
         let nameless = self.memory.map.is_hidden(number);
         let Ok(()) = remove_tight(&mut self.device, &mut self.memory, number, &mut self.counts)
         else {
@@ -582,7 +576,6 @@ impl<D: SectorDevice> Log<D> {
     /// device failed, here or as the log was written before.
     pub fn commit(&mut self) -> Result<(), LogFault>
         ensures done { OnOk result (Saves D.SectorDevice.state self.old self.new) }
-        ensures given_up { OnOk result (self.new.relocated ≡ None) }
         ensures totals { self.new.totals ≡ self.old.totals }
         ensures full { IsErrOf result LogFault.Full → (self.new ≡ self.old) × IsFull self.old }
         ensures halted { IsErrOf result LogFault.Halted → self.old.halted ≢ true
@@ -606,7 +599,6 @@ impl<D: SectorDevice> Log<D> {
             return Err(LogFault::Full);
         }
         drop_run(&mut self.pointers);
-        self.relocated = false;
         match save(
             &mut self.device,
             &mut self.memory,
@@ -627,36 +619,36 @@ impl<D: SectorDevice> Log<D> {
         }
     }
 
-    /// Brings all that lives in these segments into memory of its own, the blocks of files without a
-    /// name and those of the tables too, whole or not at all, for `commit_relocated`, which saves it
-    /// elsewhere. The files stay as they are, and a call that changes or saves some gives up what was
-    /// relocated. The segments are 2 at least, and an eighth of all and one at most. It takes no
-    /// memory.
+    /// Empties these segments: all that lives in them goes to others, the blocks of files without a
+    /// name and those of the tables too, and is saved as by a commit. No block is left in them, and
+    /// fewer were taken for it. The segments are 2 at least, and an eighth of all and one at most.
+    /// It takes no memory.
     ///
     /// # Errors
     ///
-    /// With nothing changed: `Full` where blocks of files wait for a commit, fewer than an eighth of
-    /// the segments are clean, one of these is clean, wasn't there before the acknowledged checkpoint
-    /// or is that of the last chunk, no number is left, or their blocks, with the inodes and blocks
-    /// of pointers above them and the 48 of the tables, fill as many segments. `Device` where a call
-    /// of the device failed. `Halted` once a write of the log failed.
-    pub fn relocate(&mut self, victims: &[u16]) -> Result<(), LogFault>
+    /// With the log map as it was, and all that is known of it: `Full` where blocks of files wait
+    /// for a commit, fewer than an eighth of the segments are clean, one of these is clean, wasn't
+    /// there before the acknowledged checkpoint or is that of the last chunk, no number is left, or
+    /// their blocks, with the inodes and blocks of pointers above them and the 48 of the tables,
+    /// fill as many segments. `Device` where a call of the device failed that reads. `Halted` where
+    /// one failed that writes, here or as the log was written before.
+    pub fn vacate(&mut self, victims: &[u16]) -> Result<(), LogFault>
         requires { AreApart victims.now }
-        ensures done { OnOk result (IsRelocated D.SectorDevice.state self.old self.new
-            victims.now) }
-        ensures kept { OnErr result (Reads D.SectorDevice.state self.old self.new) }
+        ensures done { OnOk result (Cleans D.SectorDevice.state self.old self.new victims.now) }
+        ensures totals { self.new.totals ≡ self.old.totals }
+        ensures kept { (IsErrOf result LogFault.Halted → ⊥)
+            → OnErr result (HoldsStill D.SectorDevice.state self.old self.new) }
         ensures lacks { IsErrOf result LogFault.Full → MayPass self.old victims.now
             → self.old.number < 2 ^ 64 - 1
             → ArePacked D.SectorDevice.state self.old self.new victims.now }
-        ensures crowds { IsErrOf result LogFault.Full → MayClean self.old.inner victims.now
-            → self.old.number < 2 ^ 64 - 1
-            → Overfills (D.state self.old.device) (D.state self.new.device) self.old.inner
-            victims.now (most_brought (length victims.now)) }
         ensures failed { IsErrOf result LogFault.Device
             → IsReadFault D.SectorDevice.state self.old self.new }
-        ensures halted { IsErrOf result LogFault.Halted → self.old.halted ≡ true }
+        ensures halted { IsErrOf result LogFault.Halted → self.old.halted ≢ true
+            → Halts D.SectorDevice.state self.old self.new }
         ensures still { self.old.halted ≡ true
             → (self.new ≡ self.old) × IsErrOf result LogFault.Halted }
+        ensures told { length (D.state self.new.device).told
+            ≤ length (D.state self.old.device).told + pass_orders self.old.segments }
     {
         if self.halted {
             return Err(LogFault::Halted);
@@ -664,58 +656,27 @@ impl<D: SectorDevice> Log<D> {
         if self.number == u64::MAX || !may_clean(&self.memory, victims) {
             return Err(LogFault::Full);
         }
-        self.relocated = false;
-        let most = most_of(victims.len());
-        match relocate(
+        drop_run(&mut self.pointers);
+        match empty_segments(
             &mut self.device,
             &self.memory,
             &mut self.pass,
+            &mut self.keys,
             victims,
-            most,
+            self.version,
+            self.number,
         ) {
             Ok(()) => {}
-            Err(LiftFault::Full) => return Err(LogFault::Full),
-            Err(LiftFault::Device) => return Err(LogFault::Device),
+            Err(LogFault::Halted) => {
+                self.halted = true;
+                self.saved = false;
+                return Err(LogFault::Halted);
+            }
+            Err(fault) => {
+                self.memory.usage.end_last();
+                return Err(fault);
+            }
         }
-        self.relocated = true;
-        Ok(())
-    }
-
-    /// Saves what was relocated, as a commit does, to segments that are clean. No block is left in
-    /// those that it came from, and fewer were taken for it. It takes no memory.
-    ///
-    /// # Errors
-    ///
-    /// `Full` where nothing was relocated, or no number is left: nothing changed. `Halted` where a
-    /// call of the device failed, here or as the log was written before.
-    pub fn commit_relocated(&mut self) -> Result<(), LogFault>
-        ensures done { OnOk result (SavesRelocated D.SectorDevice.state self.old self.new) }
-        ensures some { OnOk result (self.old.relocated ≢ None) }
-        ensures totals { self.new.totals ≡ self.old.totals }
-        ensures full { IsErrOf result LogFault.Full → self.new ≡ self.old }
-        ensures lacks { IsErrOf result LogFault.Full → self.old.number < 2 ^ 64 - 1
-            → self.old.relocated ≡ None }
-        ensures halted { IsErrOf result LogFault.Halted → self.old.halted ≢ true
-            → HaltsRelocated D.SectorDevice.state self.old self.new }
-        ensures still { self.old.halted ≡ true
-            → (self.new ≡ self.old) × IsErrOf result LogFault.Halted }
-        ensures other { IsErrOf result LogFault.Device → ⊥ }
-        ensures told { length (D.state self.new.device).told
-            ≤ length (D.state self.old.device).told + pass_orders self.old.segments }
-    {
-        if self.halted {
-            return Err(LogFault::Halted);
-        }
-        if self.number == u64::MAX || !self.relocated {
-            return Err(LogFault::Full);
-        }
-        drop_run(&mut self.pointers);
-        self.relocated = false;
-        let Ok(()) = save(&mut self.device, &mut self.pass, self.version, self.number) else {
-            self.halted = true;
-            self.saved = false;
-            return Err(LogFault::Halted);
-        };
         take_tables(&mut self.memory, &mut self.pass);
         self.number += 1;
         self.upgraded = false;

@@ -1,5 +1,6 @@
 //! Blocks of segments come into memory and go to other segments, file by file and leaf by leaf: a
 //! block of data as soon as it was read, a block of pointers once all that it leads to was moved.
+//! Leaves of pointers wait in memory as long as it has room, and are written one after the other.
 //! After the cleaner of the Sprite LFS paper (1992, section 3.3).
 ghost use Rattle.std.specs.Prelude.{◌≡◌, ◌<◌, ◌≤◌, ◌+◌, ◌*◌, ◌/◌, ℕ, [], List, length, true, ◌⊎◌, OnOk, OnErr, IfOk, IsErrOf, IsTrue, IsFalse};
 ghost use Rattle.lfs_model.specs.Entry.{Entry};
@@ -15,7 +16,7 @@ ghost use Rattle.std.specs.List.Sorted.{IsNonDecreasingBy};
 ghost use Rattle.lfs_memory.specs.Memory.{room_of};
 ghost use Rattle.lfs_log.specs.Brought.{OutNumber};
 ghost use Rattle.lfs_log.specs.Cleaning.{AreCleanable};
-ghost use Rattle.lfs_log.specs.Groups.{HasAboveAlone, IsAbove, IsLeaf, group_at, group_of};
+ghost use Rattle.lfs_log.specs.Groups.{HasAboveAlone, HasAboveAndLeaves, IsAbove, IsClosedLeaf, IsLeaf, group_at, group_of};
 ghost use Rattle.lfs_log.specs.Moving.{Anywhere, BringsAbove, EndsMoving, IsStored, Lacks, Moved, MovesAll, MovesOut, Never, StandsAmong, depth};
 ghost use Rattle.lfs_log.specs.Relocating.{BringsOne, EndsBringing, IsAmong};
 
@@ -32,8 +33,12 @@ use lfs_memory::{LogFault, LogMemory};
 use lfs_model::BlockKind;
 use lfs_model::limits::CHECKPOINT_SLOTS;
 
-/// How many blocks a pass has in memory at most: a block of data, and those above it.
+/// For how many blocks a pass has memory at least: for those above a group, and for a block with all
+/// above it. What more it has is for leaves of pointers that wait, to be written one after the other.
 pub const MOST_MOVING: u32 = 8;
+
+/// How many blocks are on the way to a block, and it.
+const MOST_WAY: u32 = 4;
 
 /// Whether an address lies in one of these segments.
 fn is_among(victims: &[u16], address: u32) -> bool
@@ -149,8 +154,8 @@ fn bring<D: SectorDevice>(
         (λ M M'. BringsAbove victims left.old left.new group M M' × (M'.at (entry_of key) ≡ 1))
         (Lacks victims left.old group) result }
     ensures inside { OnOk result (IsInMemory memory.new (entry_of key)) }
-    ensures alone { (group : ℕ) → IsAbove group (entry_of key) → HasAboveAlone memory.old group
-        → HasAboveAlone memory.new group }
+    ensures waits { (group : ℕ) → IsAbove group (entry_of key) → HasAboveAndLeaves memory.old group
+        → HasAboveAndLeaves memory.new group }
     ensures stays { (x : Entry) → IsInMemory memory.old x → IsInMemory memory.new x }
     ensures only { (x : Entry) → IsInMemory memory.new x → IsInMemory memory.old x
         ⊎ (depth x ≤ depth (entry_of key)) }
@@ -193,9 +198,10 @@ fn move_data<D: SectorDevice>(
     age: u32,
 ) -> Result<(), LogFault>
     requires data_block { is_data_code key.code ≡ true }
-    requires alone { HasAboveAlone memory.old (group_of (entry_of key)) }
+    requires waits { HasAboveAndLeaves memory.old (group_of (entry_of key)) }
     requires victims { AreCleanable memory.old.usage victims.now }
-    requires limit { MOST_MOVING ≤ memory.old.dirty.capacity.limit }
+    requires room { length memory.old.dirty.blocks + MOST_WAY
+        ≤ memory.old.dirty.capacity.limit }
     requires spare { length memory.old.dirty.blocks + left.old ≤ room_of memory.old }
     requires memory { IsMemory memory.old }
     requires size { HoldsVolume (D.state device.old) memory.old }
@@ -204,7 +210,7 @@ fn move_data<D: SectorDevice>(
         (λ M M'. StandsAmong victims.now (entry_of key) M
         → MovesOut victims.now left.old left.new (entry_of key) M M')
         (Lacks victims.now left.old (group_of (entry_of key))) result }
-    ensures alone { OnOk result (HasAboveAlone memory.new (group_of (entry_of key))) }
+    ensures waits { OnOk result (HasAboveAndLeaves memory.new (group_of (entry_of key))) }
 {
     are_in_order(memory);
     let above = above_data(key);
@@ -233,16 +239,17 @@ fn move_block<D: SectorDevice>(
     left: &mut u32,
     age: u32,
 ) -> Result<(), LogFault>
-    requires alone { HasAboveAlone memory.old (group_of (entry_of key)) }
+    requires waits { HasAboveAndLeaves memory.old (group_of (entry_of key)) }
     requires victims { AreCleanable memory.old.usage victims.now }
-    requires limit { MOST_MOVING ≤ memory.old.dirty.capacity.limit }
+    requires room { length memory.old.dirty.blocks + MOST_WAY
+        ≤ memory.old.dirty.capacity.limit }
     requires spare { length memory.old.dirty.blocks + left.old ≤ room_of memory.old }
     requires memory { IsMemory memory.old }
     requires size { HoldsVolume (D.state device.old) memory.old }
     ensures ends { EndsMoving (D.state device.old) (D.state device.new) memory.old memory.new
         left.old left.new Anywhere (MovesOut victims.now left.old left.new (entry_of key))
         (Lacks victims.now left.old (group_of (entry_of key))) result }
-    ensures alone { OnOk result (HasAboveAlone memory.new (group_of (entry_of key))) }
+    ensures waits { OnOk result (HasAboveAndLeaves memory.new (group_of (entry_of key))) }
 {
     are_in_order(memory);
     let address = match locate(device, memory, key) {
@@ -270,44 +277,85 @@ fn is_leaf(key: BlockKey) -> bool
     }
 }
 
-/// Puts the leaf that is in memory, if one is, into another segment.
+/// Whether a key is that of a leaf of an earlier group.
+fn is_closed_leaf(key: BlockKey, at_group: u32) -> bool
+    ensures yes { IsTrue result → IsClosedLeaf at_group (entry_of key) }
+    ensures no { IsFalse result → IsClosedLeaf at_group (entry_of key) → ⊥ }
+{
+    is_leaf(key) && group(key) < at_group
+}
+
+/// Puts the leaves of earlier groups that are in memory into other segments.
 ///
 /// # Errors
 ///
 /// The device's fault.
-fn put_leaf<D: SectorDevice>(
+fn put_leaves<D: SectorDevice>(
     device: &mut CachedDevice<D>,
     memory: &mut LogMemory,
     victims: &[u16],
-    from: u32,
-    to: u32,
+    at_group: u32,
     left: u32,
     age: u32,
 ) -> Result<(), LogFault>
-    requires next { from < to }
-    requires same_file { from / GROUPS ≡ to / GROUPS }
-    requires alone { HasAboveAlone memory.old from }
+    requires waits { HasAboveAndLeaves memory.old at_group }
     requires victims { AreCleanable memory.old.usage victims.now }
     requires spare { length memory.old.dirty.blocks ≤ room_of memory.old }
     requires memory { IsMemory memory.old }
     requires size { HoldsVolume (D.state device.old) memory.old }
     ensures ends { EndsMoving (D.state device.old) (D.state device.new) memory.old memory.new
-        left left Anywhere (Moved victims.now left left from to) Never result }
-    ensures alone { OnOk result (HasAboveAlone memory.new to) }
+        left left Anywhere (Moved victims.now left left at_group at_group) Never result }
+    ensures alone { OnOk result (HasAboveAlone memory.new at_group) }
 {
     are_in_order(memory);
-    let Some(key) = memory.dirty.next() else {
-        return Ok(());
-    };
-    if !is_leaf(key) {
+    while let Some(key) = memory.dirty.next() {
+        if !is_closed_leaf(key, at_group) {
+            return Ok(());
+        }
+        match save_block(device, memory, key, age) {
+            Ok(()) => are_in_order(memory),
+            Err(_) => return Err(LogFault::Halted),
+        }
+    }
+    Ok(())
+}
+
+/// Makes room in memory for a block with all above it: where it lacks that, the leaves of earlier
+/// groups go to other segments. Else they wait, so that leaves stand together, which change often.
+///
+/// # Errors
+///
+/// The device's fault.
+fn make_room<D: SectorDevice>(
+    device: &mut CachedDevice<D>,
+    memory: &mut LogMemory,
+    victims: &[u16],
+    at_group: u32,
+    left: u32,
+    age: u32,
+) -> Result<(), LogFault>
+    requires waits { HasAboveAndLeaves memory.old at_group }
+    requires limit { MOST_MOVING ≤ memory.old.dirty.capacity.limit }
+    requires victims { AreCleanable memory.old.usage victims.now }
+    requires spare { length memory.old.dirty.blocks ≤ room_of memory.old }
+    requires memory { IsMemory memory.old }
+    requires size { HoldsVolume (D.state device.old) memory.old }
+    ensures ends { EndsMoving (D.state device.old) (D.state device.new) memory.old memory.new
+        left left Anywhere (Moved victims.now left left at_group at_group) Never result }
+    ensures waits { OnOk result (HasAboveAndLeaves memory.new at_group) }
+    ensures room { OnOk result (length memory.new.dirty.blocks + MOST_WAY
+        ≤ memory.new.dirty.capacity.limit) }
+{
+    are_in_order(memory);
+    if memory.dirty.len() + MOST_WAY as usize <= memory.dirty.capacity() {
         return Ok(());
     }
-    match save_block(device, memory, key, age) {
+    match put_leaves(device, memory, victims, at_group, left, age) {
         Ok(()) => {
             are_in_order(memory);
             Ok(())
         }
-        Err(_) => Err(LogFault::Halted),
+        Err(fault) => Err(fault),
     }
 }
 
@@ -326,7 +374,7 @@ fn put_all<D: SectorDevice>(
     age: u32,
 ) -> Result<(), LogFault>
     requires next { GROUPS * (from / GROUPS + 1) ≤ to }
-    requires alone { HasAboveAlone memory.old from }
+    requires waits { HasAboveAndLeaves memory.old from }
     requires victims { AreCleanable memory.old.usage victims.now }
     requires spare { length memory.old.dirty.blocks ≤ room_of memory.old }
     requires memory { IsMemory memory.old }
@@ -345,7 +393,8 @@ fn put_all<D: SectorDevice>(
     Ok(())
 }
 
-/// Puts into other segments what isn't above the next group.
+/// Goes on to the next group, with room in memory for a block with all above it. All that is in
+/// memory goes to other segments where that group is one of another file.
 ///
 /// # Errors
 ///
@@ -360,21 +409,20 @@ fn go_on<D: SectorDevice>(
     age: u32,
 ) -> Result<(), LogFault>
     requires next { from ≤ to }
-    requires alone { HasAboveAlone memory.old from }
+    requires waits { HasAboveAndLeaves memory.old from }
+    requires limit { MOST_MOVING ≤ memory.old.dirty.capacity.limit }
     requires victims { AreCleanable memory.old.usage victims.now }
     requires spare { length memory.old.dirty.blocks ≤ room_of memory.old }
     requires memory { IsMemory memory.old }
     requires size { HoldsVolume (D.state device.old) memory.old }
     ensures ends { EndsMoving (D.state device.old) (D.state device.new) memory.old memory.new
         left left Anywhere (Moved victims.now left left from to) Never result }
-    ensures alone { OnOk result (HasAboveAlone memory.new to) }
+    ensures waits { OnOk result (HasAboveAndLeaves memory.new to) }
+    ensures room { OnOk result (length memory.new.dirty.blocks + MOST_WAY
+        ≤ memory.new.dirty.capacity.limit) }
 {
-    if from == to {
-        are_in_order(memory);
-        return Ok(());
-    }
     if from / GROUPS == to / GROUPS {
-        return put_leaf(device, memory, victims, from, to, left, age);
+        return make_room(device, memory, victims, to, left, age);
     }
     put_all(device, memory, victims, from, to, left, age)
 }

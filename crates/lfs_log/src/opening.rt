@@ -1,27 +1,41 @@
 //! What a mount takes into memory: the tables that a walk over the volume leads to.
-ghost use Rattle.std.specs.Prelude.{◌≡◌, ◌≤◌, ◌+◌, ◌*◌, ◌/◌, ℕ, [], length, IfOk};
+ghost use Rattle.std.specs.Prelude.{◌≡◌, ◌≤◌, ◌+◌, ◌*◌, ◌/◌, ℕ, length, IfOk};
 ghost use Rattle.lfs_model.specs.Checkpoint.{IsSegmentCount};
 ghost use Rattle.lfs_verify.specs.Loading.{IsLoaded};
 ghost use Rattle.lfs_log.specs.Held.{IsPassMemory};
 ghost use Rattle.lfs_log.specs.Opening.{IsOpened};
+ghost use Rattle.lfs_log.specs.Thresholds.{most_victims};
 
+use crate::groups::KeyList;
+use crate::moving::MOST_MOVING;
+use crate::thresholds::most_victims;
 use lfs_memory::LogMemory;
 use lfs_memory::inodes::{DirtyTable, InodeMap};
 use lfs_memory::segments::{ChunkWriter, Usage};
-use lfs_model::limits::{CHUNK_BLOCKS, MOST_UNSAVED, TABLE_BLOCKS};
+use lfs_model::limits::{CHUNK_BLOCKS, MOST_UNSAVED, SEGMENT_SECTORS, TABLE_BLOCKS};
 use lfs_verify::{BlockTotals, Tables};
 use std::alloc::{AllocError, Global};
 
-const CHUNK: u32 = CHUNK_BLOCKS as u32;
-
-/// How many blocks of files a cleaning pass may bring into memory: with all blocks of the tables, a
-/// chunk for each of an eighth of the segments.
-fn most_cleaned(segments: u32) -> u32
+/// Room for the keys of all blocks that a pass of the cleaner over so many segments may find.
+///
+/// # Errors
+///
+/// Where memory is refused.
+fn pass_keys(alloc: Global, segments: u32) -> Result<KeyList, AllocError>
     requires { IsSegmentCount segments }
-    ensures blocks { result + TABLE_BLOCKS ≡ CHUNK_BLOCKS * (segments / 8) }
-    ensures least { MOST_UNSAVED ≤ result }
+    ensures { IfOk result (λ l. SEGMENT_SECTORS * most_victims segments ≤ l.room) }
 {
-    CHUNK * (segments / 8) - TABLE_BLOCKS
+    KeyList::new(alloc, (SEGMENT_SECTORS * most_victims(segments)) as usize)
+}
+
+/// How many blocks may wait in the memory of a pass over so many segments: as many leaves of pointers
+/// as full segments of data have, and somewhat more.
+fn most_waiting(segments: u32) -> u32
+    requires { IsSegmentCount segments }
+    ensures least { MOST_MOVING ≤ result }
+    ensures most { result + TABLE_BLOCKS ≤ CHUNK_BLOCKS * (segments / 8) }
+{
+    segments / 2 + MOST_MOVING
 }
 
 /// What a mount takes into memory.
@@ -32,8 +46,9 @@ pub struct OpenedLog {
     pub number: u64,
     /// How many blocks the files have.
     pub totals: BlockTotals,
-    /// The memory of a cleaning pass.
+    /// The memory of a pass of the cleaner, and a list of the keys of what it moves.
     pub pass: LogMemory,
+    pub keys: KeyList,
 }
 
 /// Memory for a pass of the cleaner over so many segments.
@@ -44,13 +59,14 @@ pub struct OpenedLog {
 fn pass_memory(alloc: Global, segments: u32) -> Result<LogMemory, AllocError>
     requires { IsSegmentCount segments }
     ensures segments { IfOk result (λ v. length v.usage.segments ≡ segments) }
-    ensures closed { IfOk result (λ v. v.chunk.names ≡ []) }
-    ensures room { IfOk result (λ v. v.dirty.capacity.room + TABLE_BLOCKS
-        ≡ CHUNK_BLOCKS * (segments / 8)) }
+    ensures least { IfOk result (λ v. MOST_MOVING ≤ v.dirty.capacity.limit) }
+    ensures limit { IfOk result (λ v. v.dirty.capacity.limit + TABLE_BLOCKS
+        ≤ CHUNK_BLOCKS * (segments / 8)) }
 {
     let map = InodeMap::new(alloc)?;
     let usage = Usage::new(alloc, segments, 0)?;
-    let dirty = DirtyTable::new(alloc, most_cleaned(segments), MOST_UNSAVED)?;
+    let room = most_waiting(segments);
+    let dirty = DirtyTable::new(alloc, room, room)?;
     Ok(LogMemory {
         map,
         usage,
@@ -69,7 +85,7 @@ pub fn open_memory(alloc: Global, tables: Tables) -> Result<OpenedLog, AllocErro
     requires whole { length tables.usage.segments ≡ tables.segments }
     ensures opened { IfOk result (λ r. (size : ℕ) → IsLoaded tables size
         → IsOpened r.memory size) }
-    ensures pass { IfOk result (λ r. IsPassMemory r.memory r.pass) }
+    ensures pass { IfOk result (λ r. IsPassMemory r.memory r.pass r.keys) }
     ensures map { IfOk result (λ r. r.memory.map ≡ tables.map) }
     ensures usage { IfOk result (λ r. r.memory.usage ≡ tables.usage) }
     ensures number { IfOk result (λ r. r.number ≡ tables.number) }
@@ -77,6 +93,7 @@ pub fn open_memory(alloc: Global, tables: Tables) -> Result<OpenedLog, AllocErro
     ensures meta_blocks { IfOk result (λ r. r.totals.meta_blocks ≡ tables.meta_blocks) }
 {
     let pass = pass_memory(alloc, tables.segments)?;
+    let keys = pass_keys(alloc, tables.segments)?;
     let dirty = DirtyTable::new(alloc, MOST_UNSAVED, MOST_UNSAVED)?;
     Ok(OpenedLog {
         memory: LogMemory {
@@ -91,5 +108,6 @@ pub fn open_memory(alloc: Global, tables: Tables) -> Result<OpenedLog, AllocErro
             meta_blocks: tables.meta_blocks,
         },
         pass,
+        keys,
     })
 }

@@ -1,32 +1,28 @@
-//! The blocks of segments come into memory, so that the next commit writes them elsewhere.
-ghost use Rattle.std.specs.Prelude.{◌≡◌, ◌<◌, ◌≤◌, ◌⊎◌, ◌+◌, ◌*◌, [], true, false, None, length, OnOk, OnErr, IfOk, IsErrOf, IsTrue, IsFalse};
+//! Blocks of segments come into memory one by one, to be written elsewhere.
+ghost use Rattle.std.specs.Prelude.{◌≡◌, ◌<◌, ◌≤◌, ◌⊎◌, ◌+◌, true, None, length, OnOk, OnErr, IfOk, IsErrOf, IsTrue, IsFalse};
 ghost use Rattle.lfs_model.specs.Content.{block};
 ghost use Rattle.lfs_model.specs.Device.{cell_at};
 ghost use Rattle.lfs_model.specs.Entry as entry;
 ghost use Rattle.lfs_model.specs.Memory.{parent};
-ghost use Rattle.lfs_model.specs.Reach.{segment_start};
-ghost use Rattle.lfs_model.specs.Summary.{FitsSummary, IsPlaced};
+ghost use Rattle.lfs_model.specs.Summary.{IsPlaced};
 ghost use Rattle.lfs_memory.specs.Lifting.{IsCountedAbove, IsInMemory, IsMapLost, MapLifts};
-ghost use Rattle.lfs_memory.specs.Memory.{HoldsVolume, IsMemory};
+ghost use Rattle.lfs_memory.specs.Memory.{IsMemory};
 ghost use Rattle.lfs_memory.specs.Moving.{MovesIn};
 ghost use Rattle.lfs_memory.specs.Present.{Looks};
 ghost use Rattle.lfs_memory.specs.inodes.Key.{entry_of};
 ghost use Rattle.lfs_memory.specs.inodes.MapValue.{block_in};
 ghost use Rattle.lfs_memory.specs.segments.Table.{address_of};
-ghost use Rattle.lfs_log.specs.Relocating.{BringsOne, BringsWay, EndsBringing, EndsRelocating, HasLeft, IsBetween, IsInOrder, IsInSegment, IsUsageLost, LacksOnWay, LeavesNames, UsageLeaves, UsageLeavesIn, Vacates};
+ghost use Rattle.lfs_log.specs.Relocating.{BringsOne, EndsBringing, IsInOrder, IsUsageLost, UsageLeaves, UsageLeavesIn};
 
 use lfs_cache::CachedDevice;
 use lfs_device::{DeviceFault, SectorDevice};
-use lfs_layout::{BlockName, SummaryView, segment_of};
+use lfs_layout::{BlockName, segment_of};
 use lfs_memory::LogMemory;
 use lfs_memory::inodes::{BlockKey, IN_MEMORY};
 use lfs_memory::lifting::{LiftFault, has_block, is_counted, lift_child, lift_inode, lift_map};
-use lfs_memory::present::locate;
 use lfs_memory::segments::Usage;
 use lfs_model::BlockKind;
-use lfs_model::limits::{
-    CHECKPOINT_SLOTS, MAP_BLOCKS, MOST_SEGMENTS, SEGMENT_SECTORS, USAGE_BLOCKS,
-};
+use lfs_model::limits::{CHECKPOINT_SLOTS, MAP_BLOCKS, USAGE_BLOCKS};
 
 /// The blocks in memory stand in the order of their keys: a law of their table.
 pub fn are_in_order(memory: &LogMemory)
@@ -109,66 +105,6 @@ pub(crate) fn bring_child<D: SectorDevice>(
             Ok(true)
         }
         Ok(false) => Ok(false),
-        Err(fault) => Err(fault),
-    }
-}
-
-/// Brings a block of a file into memory with all blocks above it, where they are stored: whether it
-/// is there then.
-///
-/// # Errors
-///
-/// As those of `lift`.
-fn bring_block<D: SectorDevice>(
-    device: &mut CachedDevice<D>,
-    memory: &mut LogMemory,
-    key: BlockKey,
-) -> Result<bool, LiftFault>
-    requires { IsMemory memory.old }
-    ensures brings { EndsBringing (D.state device.old) (D.state device.new) memory.old memory.new
-        (entry_of key) result }
-    ensures came { BringsWay memory.old memory.new (entry_of key) }
-    ensures lacks { IsErrOf result LiftFault.Full → LacksOnWay memory.new (entry_of key) }
-{
-    let Some(above) = key.parent() else {
-        return bring_inode(device, memory, key);
-    };
-    match bring_block(device, memory, above) {
-        Ok(true) => {}
-        Ok(false) => return Ok(false),
-        Err(fault) => return Err(fault),
-    }
-    bring_child(device, memory, key)
-}
-
-/// A block of a file comes into memory with all above it, if it is at this address that it stands.
-///
-/// # Errors
-///
-/// As those of `lift`.
-fn relocate_file_block<D: SectorDevice>(
-    device: &mut CachedDevice<D>,
-    memory: &mut LogMemory,
-    key: BlockKey,
-    address: u32,
-) -> Result<(), LiftFault>
-    requires above { CHECKPOINT_SLOTS ≤ address }
-    requires memory { IsMemory memory.old }
-    ensures relocates { EndsRelocating (D.state device.old) (D.state device.new) memory.old
-        memory.new (IsBetween address (address + 1)) result }
-    ensures left { OnOk result (HasLeft (D.state device.old) (D.state device.new) memory.old
-        memory.new (entry_of key) address) }
-{
-    let there = match locate(device, memory, key) {
-        Ok(there) => there,
-        Err(_) => return Err(LiftFault::Device),
-    };
-    if there != address {
-        return Ok(());
-    }
-    match bring_block(device, memory, key) {
-        Ok(true) => Ok(()),
-        Ok(false) => Ok(()),
         Err(fault) => Err(fault),
     }
 }
@@ -257,66 +193,6 @@ pub(crate) fn key_of(name: BlockName) -> BlockKey
     }
 }
 
-/// The block that a summary names comes into memory with all above it, if it is at this address
-/// that it stands.
-///
-/// # Errors
-///
-/// As those of `lift`, and where the block isn't counted there.
-#[tactic(auto, unfolding(lfs_model::specs::Summary::IsPlaced))]
-fn relocate_block<D: SectorDevice>(
-    device: &mut CachedDevice<D>,
-    memory: &mut LogMemory,
-    name: BlockName,
-    address: u32,
-) -> Result<(), LiftFault>
-    requires placed { IsPlaced name.kind name.file name.index }
-    requires above { CHECKPOINT_SLOTS ≤ address }
-    requires memory { IsMemory memory.old }
-    ensures relocates { EndsRelocating (D.state device.old) (D.state device.new) memory.old
-        memory.new (IsBetween address (address + 1)) result }
-    ensures left { OnOk result (HasLeft (D.state device.old) (D.state device.new) memory.old
-        memory.new (entry.entry_of name) address) }
-{
-    match name.kind {
-        BlockKind::Map => match relocate_map(memory, name.index, address) {
-            Ok(()) => Ok(()),
-            Err(_) => Err(LiftFault::Device),
-        },
-        BlockKind::Usage => match relocate_usage(memory, name.index, address) {
-            Ok(()) => Ok(()),
-            Err(_) => Err(LiftFault::Device),
-        },
-        _ => relocate_file_block(device, memory, key_of(name), address),
-    }
-}
-
-/// The blocks of a chunk come into memory with all above them, those that stand there.
-///
-/// # Errors
-///
-/// As those of `relocate_block`.
-fn relocate_chunk<D: SectorDevice>(
-    device: &mut CachedDevice<D>,
-    memory: &mut LogMemory,
-    names: &SummaryView<'_>,
-    first: u32,
-) -> Result<(), LiftFault>
-    requires fits { FitsSummary names.now }
-    requires above { CHECKPOINT_SLOTS ≤ first }
-    requires few { first ≤ CHECKPOINT_SLOTS + SEGMENT_SECTORS * (MOST_SEGMENTS + 1) }
-    requires memory { IsMemory memory.old }
-    ensures relocates { EndsRelocating (D.state device.old) (D.state device.new) memory.old
-        memory.new (IsBetween first (first + length names.now)) result }
-    ensures left { OnOk result (LeavesNames (D.state device.old) (D.state device.new) memory.old
-        memory.new names.now first (length names.now)) }
-{
-    for place in 0..names.len() {
-        relocate_block(device, memory, names.get(place), first + place as u32)?;
-    }
-    Ok(())
-}
-
 /// Reads a sector of a segment.
 ///
 /// # Errors
@@ -342,45 +218,4 @@ pub(crate) fn read_sector<D: SectorDevice>(
         Ok(()) => Ok(()),
         Err(_) => Err(DeviceFault),
     }
-}
-
-/// The blocks of a segment come into memory with all above them, chunk by chunk.
-///
-/// # Errors
-///
-/// As those of `relocate_block`, and where the segment's used part isn't whole chunks.
-pub fn relocate_segment<D: SectorDevice>(
-    device: &mut CachedDevice<D>,
-    memory: &mut LogMemory,
-    segment: u32,
-) -> Result<(), LiftFault>
-    requires inside { segment < length memory.old.usage.segments }
-    requires closed { memory.old.chunk.names ≡ [] }
-    requires memory { IsMemory memory.old }
-    requires size { HoldsVolume (D.state device.old) memory.old }
-    ensures relocates { EndsRelocating (D.state device.old) (D.state device.new) memory.old
-        memory.new (IsInSegment segment) result }
-    ensures vacates { OnOk result (Vacates (D.state device.old) (D.state device.new) memory.old
-        memory.new (segment_start segment) (segment_start (segment + 1))) }
-{
-    let mut sector = [0; 512];
-    let first = CHECKPOINT_SLOTS + SEGMENT_SECTORS * segment;
-    let used = u32::from(memory.usage.state(segment).used);
-    let mut at = 0;
-    while at < used {
-        match read_sector(device, first + at, &mut sector) {
-            Ok(()) => {}
-            Err(_) => return Err(LiftFault::Device),
-        }
-        let Some(names) = SummaryView::decode(&sector) else {
-            return Err(LiftFault::Device);
-        };
-        let count = names.len() as u32;
-        if count >= used - at {
-            return Err(LiftFault::Device);
-        }
-        relocate_chunk(device, memory, &names, first + at + 1)?;
-        at += 1 + count;
-    }
-    Ok(())
 }

@@ -1,6 +1,6 @@
 //! Passes of the cleaner over a device in memory.
 use crate::devices::Probe::{Fail, Stop};
-use crate::log_steps::Act::{Commit, CommitRelocated, Empty, Fill, FillTo, Hide, Make, Relocate};
+use crate::log_steps::Act::{Commit, Empty, Fill, FillTo, Hide, Make};
 use crate::log_steps::Look::{Clean, Is, Number, Reads, Root, Unsaved};
 use crate::log_steps::Step::{Done, On, Refused, Sees};
 use crate::log_steps::{CAPACITIES, Step, check, prepared, run};
@@ -78,47 +78,8 @@ fn a_pass_takes_files_without_links(rt: HostRuntime) -> Result<(), Wrong> {
     check(rt.alloc(), 64, &FIVE_SEGMENTS, &steps)
 }
 
-#[test]
-fn what_is_relocated_waits_for_its_commit(rt: HostRuntime) -> Result<(), Wrong> {
-    let steps = [
-        Refused(CommitRelocated, LogFault::Full),
-        Done(Relocate(1, 2)),
-        Sees(Number(5)),
-        Sees(Clean(59)),
-        Sees(Unsaved(0)),
-        Sees(Reads(2, 1, 8)),
-        Done(CommitRelocated),
-        Sees(Number(6)),
-        Sees(Clean(60)),
-        Sees(Unsaved(0)),
-        Sees(Reads(2, 0, 7)),
-        Sees(Reads(2, 1, 8)),
-        Sees(Reads(2, 2, 9)),
-        Sees(Reads(3, 0, 5)),
-        Refused(CommitRelocated, LogFault::Full),
-        // A change gives it up.
-        Done(Relocate(0, 3)),
-        Done(Fill(2, 3, 4)),
-        Refused(CommitRelocated, LogFault::Full),
-        Sees(Clean(60)),
-        Sees(Unsaved(2)),
-        Done(Commit),
-        Sees(Number(7)),
-        Sees(Reads(2, 3, 4)),
-        // So does a stop.
-        Done(Relocate(0, 3)),
-        On(Stop(Left::Bad)),
-        Refused(CommitRelocated, LogFault::Full),
-        Sees(Number(7)),
-        Sees(Reads(2, 0, 7)),
-        Sees(Reads(2, 3, 4)),
-        Sees(Root),
-    ];
-    check(rt.alloc(), 64, &FIVE_SEGMENTS, &steps)
-}
-
 /// What comes of it where a read fails before which so many come, the mount's too: 0 where the
-/// mount fails, 1 where the pass does, and changes nothing, and 2 where neither does.
+/// mount fails, 1 where the pass does, and loses nothing, and 2 where neither does.
 fn fate_of(alloc: Global, capacity: u32, read: u64) -> Result<u8, Wrong> {
     let fails = [
         On(Fail(DeviceCall::Read, read)),
@@ -127,11 +88,19 @@ fn fate_of(alloc: Global, capacity: u32, read: u64) -> Result<u8, Wrong> {
         Sees(Clean(59)),
         Sees(Unsaved(0)),
         Sees(Reads(2, 1, 8)),
+        // What is written next is written over what the pass may have left.
+        Done(Fill(2, 3, 4)),
+        Done(Commit),
+        Sees(Clean(58)),
+        On(Stop(Left::Bad)),
+        Sees(Reads(2, 1, 8)),
+        Sees(Reads(2, 3, 4)),
         Done(Empty(1, 2)),
-        Sees(Clean(60)),
+        Sees(Clean(59)),
         Sees(Reads(2, 0, 7)),
         Sees(Reads(2, 1, 8)),
         Sees(Reads(2, 2, 9)),
+        Sees(Reads(2, 3, 4)),
         Sees(Root),
     ];
     let device = prepared(alloc, 64, &FIVE_SEGMENTS)?;

@@ -31,9 +31,6 @@ pub enum Act {
     /// Full chunks of data blocks are written without a commit.
     WriteEarly,
     Commit,
-    /// What lives in two segments is relocated.
-    Relocate(u16, u16),
-    CommitRelocated,
     /// A pass of the cleaner over two segments.
     Empty(u16, u16),
 }
@@ -168,18 +165,12 @@ fn make_to(log: &mut MemoryLog, alloc: Global, end: u16) -> Result<(), LogFault>
     Ok(())
 }
 
-/// What lives in two segments is relocated.
-fn relocate(log: &mut MemoryLog, one: u16, other: u16) -> Result<(), LogFault> {
+/// A pass of the cleaner over two segments.
+fn empty(log: &mut MemoryLog, one: u16, other: u16) -> Result<(), LogFault> {
     if one == other {
         return Err(LogFault::Full);
     }
-    log.relocate(&[one, other])
-}
-
-/// A pass of the cleaner over two segments.
-fn empty(log: &mut MemoryLog, one: u16, other: u16) -> Result<(), LogFault> {
-    relocate(log, one, other)?;
-    log.commit_relocated()
+    log.vacate(&[one, other])
 }
 
 fn carry_out(log: &mut MemoryLog, alloc: Global, act: Act) -> Result<(), LogFault> {
@@ -191,8 +182,6 @@ fn carry_out(log: &mut MemoryLog, alloc: Global, act: Act) -> Result<(), LogFaul
         Act::FillTo(end, byte) => fill_to(log, alloc, end, byte),
         Act::FillEdges => fill_edges(log, alloc),
         Act::MakeTo(end) => make_to(log, alloc, end),
-        Act::Relocate(one, other) => relocate(log, one, other),
-        Act::CommitRelocated => log.commit_relocated(),
         Act::Empty(one, other) => empty(log, one, other),
         _ => stage(log, alloc, act),
     }

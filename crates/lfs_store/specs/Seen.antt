@@ -1,5 +1,5 @@
 -- What the layers above see of a store.
-use Rattle.std.specs.Prelude.{◌≡◌, None, length}
+use Rattle.std.specs.Prelude.{◌≡◌, length}
 use Rattle.lfs_model.specs.Checkpoint.{CheckpointValue}
 use Rattle.lfs_model.specs.Device.{DeviceState}
 use Rattle.lfs_model.specs.Stands.{LogMap}
@@ -16,7 +16,7 @@ use Rattle.lfs_cleaner.specs.log.verify.declared.totals.BlockTotals.{BlockTotals
 abbrev pub counted_of : BlockTotals → Counted
 counted_of t = record { data_blocks = t.data_blocks; meta_blocks = t.meta_blocks }
 
--- what is staged: all that is seen of the log but its device and what was relocated
+-- what is staged: all that is seen of the log but its device
 abbrev pub StagedLog : Type 0
 StagedLog = LogState (Unit {0})
 
@@ -37,7 +37,6 @@ staged_of h = record {
   file_data = h.file_data;
   usage = h.usage;
   inner = h.inner;
-  relocated = None;
 }
 
 module _ {D : Type 0} (state : D → DeviceState) where

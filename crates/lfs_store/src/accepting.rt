@@ -175,8 +175,8 @@ impl<D: SectorDevice> Store<D> {
     /// # Errors
     ///
     /// With the files as they were: `Full` where too few segments are clean for the commit or a
-    /// pass, `Device` where a call of the device failed before anything more was written. `Halted`
-    /// where one failed later, or as the log was written before.
+    /// pass, `Device` where a call of the device failed that reads. `Halted` where one failed that
+    /// writes, or as the log was written before.
     pub fn clean(&mut self) -> Result<(), LogFault>
         ensures cleans { Cleaned D.SectorDevice.state self.old self.new result }
         ensures enough { OnOk result (HasQuarter self.new.log) }

@@ -47,7 +47,7 @@ returns-clause-makes g c =
     let ready = c.in-Ok.ensures.done in
     on_success c.try_pass.result _ _ _
     (λ tries same. makes_after ready {x = 1} (omega (arith, least))
-    (keeps_tried (g.met.D.SectorDevice.lawful c.commit_unsaved.new.log.device) ready.keeps.running tries c.try_pass.ensures.totals))
+    (keeps_tried ready.keeps.running tries c.try_pass.ensures.totals))
     c.try_pass.ensures.done c.try_pass.ensures.done
 
 pub returns-clause-halted : goal.returns-clause-halted

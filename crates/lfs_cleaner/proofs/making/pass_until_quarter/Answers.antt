@@ -1,6 +1,6 @@
 use Rattle.std.proofs.Common.{rules, ◌≡◌, ◌<◌, ◌≤◌, ◌+◌, ◌/◌, true, false, ◌∙◌, arith}
 use Rattle.lfs_cleaner.proofs.CleanEnds.{fault_then, halts_at_once, halts_then, halts_weaker}
-use Rattle.lfs_cleaner.proofs.CleanEnds.{keeps_reads, keeps_then, keeps_weaker, read_fault}
+use Rattle.lfs_cleaner.proofs.CleanEnds.{keeps_still, keeps_then, keeps_weaker, read_fault}
 use Rattle.lfs_cleaner.proofs.CleanBounds.{may_pass, nothing_between, passes_more, told_within, told_more, passes_none, passes_suffice}
 use Rattle.lfs_cleaner.proofs.making.pass_until_quarter.Goals as goal
 
@@ -15,12 +15,12 @@ returns-in-Err-clause-full g c is =
     let size = c.segments.ensures in
     let le : c.loop.counter < c.args.log.now.segments / 8 = omega (arith, lt, most, size) in
     let refuses = c.in-Err.ensures.full (search rules) in
-    let reads = keeps_reads _ (g.met.D.SectorDevice.lawful c.loop.log.device) done.running refuses.reads in record {
-      keeps = keeps_weaker _ (keeps_then _ _ done reads) (omega (arith, le));
+    let still = keeps_still _ done.running refuses.still in record {
+      keeps = keeps_weaker _ (keeps_then _ _ done still) (omega (arith, le));
       never = λ k m0 m keeps may.
           (let next =
           may_pass c.requires.nothing c.loop.invariant (c.if-has_quarter.ensures.no (search rules))
-          (refuses.reads.looks.carries.kept_before keeps) may le in
+          (refuses.still.carries.kept_before keeps) may le in
           refuses.unfit next.0 next.1 m keeps next.2);
     }
 
@@ -32,10 +32,10 @@ returns-in-Err-clause-device g c is =
     let size = c.segments.ensures in
     let le : c.loop.counter + 0 ≤ c.args.log.now.segments / 8 = omega (arith, lt, most, size) in
     let fails = c.in-Err.ensures.device (search rules) in
-    let reads = keeps_reads _ (g.met.D.SectorDevice.lawful c.loop.log.device) done.running fails.reads in record {
-      keeps = keeps_weaker _ (keeps_then _ _ done reads) le;
+    let still = keeps_still _ done.running fails.still in record {
+      keeps = keeps_weaker _ (keeps_then _ _ done still) le;
       fault = fault_then _ c.pass.new.log done
-          fails.reads.looks.carries (read_fault _ c.pass.new.log fails.fault);
+          fails.still.carries (read_fault _ c.pass.new.log fails.fault);
     }
 
 pub returns-in-Err-clause-halted : goal.returns-in-Err-clause-halted

@@ -54,8 +54,7 @@ returns-clause-full g c is =
 
 pub returns-clause-device : goal.returns-clause-device
 returns-clause-device g c is =
-    fails_after c.in-Ok.ensures.done (omega arith) (fails_pass (g.met.D.SectorDevice.lawful c.commit_unsaved.new.log.device)
-    c.in-Ok.ensures.done.keeps.running (c.pass_where_due.ensures.device is))
+    fails_after c.in-Ok.ensures.done (omega arith) (fails_pass c.in-Ok.ensures.done.keeps.running (c.pass_where_due.ensures.device is))
 
 pub returns-clause-halted : goal.returns-clause-halted
 returns-clause-halted g c is ne =

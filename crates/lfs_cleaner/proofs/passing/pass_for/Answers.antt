@@ -1,16 +1,16 @@
 use Rattle.std.proofs.Common.{rules, ◌≡◌, false, true, sym, ◌∙◌, ap}
 use Rattle.lfs_log.specs.segments.Victims.{AreVictims, IsChosen, pass_limit}
 use Rattle.lfs_log.specs.Thresholds.{most_victims}
-use Rattle.lfs_log.proofs.Passes.{pass_done, pass_halts}
+use Rattle.lfs_log.proofs.LogReads.{reads_none, still_read}
 use Rattle.lfs_cleaner.proofs.Pressing.{carried, not_refused, pressed_there}
 use Rattle.lfs_cleaner.proofs.passing.pass_for.Goals as goal
 
-pub relocate-requires : goal.relocate-requires
-relocate-requires g c = rw c.as_slice.ensures.value c.in-Some.ensures.some.apart
+pub vacate-requires : goal.vacate-requires
+vacate-requires g c = rw c.as_slice.ensures.value c.in-Some.ensures.some.apart
 
 pub returns-in_default-clause-full : goal.returns-in_default-clause-full
 returns-in_default-clause-full g c is = record {
-  reads = search rules;
+  still = still_read _ (g.met.D.SectorDevice.lawful c.args.log.now.device) (reads_none _ c.args.log.now);
   unfit = λ k m0 m keeps can.
       let whole = c.are_tables_whole.ensures in
       let there = pressed_there can whole c.meta.ensures in
@@ -20,8 +20,8 @@ returns-in_default-clause-full g c is = record {
       absurd (cc);
 }
 
-pub returns-in-Ok-commit_relocated-clause-done : goal.returns-in-Ok-commit_relocated-clause-done
-returns-in-Ok-commit_relocated-clause-done g c =
+pub returns-in-Ok-clause-done : goal.returns-in-Ok-clause-done
+returns-in-Ok-clause-done g c =
     let h = c.args.log.now in
     let limit : c.most_victims-most.result ≡ pass_limit h.usage =
     c.most_victims-most.ensures ∙ ap most_victims (c.segments.ensures ∙ c.are_tables_whole.ensures.segments) in
@@ -32,26 +32,20 @@ returns-in-Ok-commit_relocated-clause-done g c =
           c.usage.ensures c.meta.ensures limit c.number.ensures (sym c.as_slice.ensures.value) c.in-Some.ensures.some;
       choice = carried (λ t a m x vs. IsChosen t a m c.args.wanted x vs) _
           c.usage.ensures c.meta.ensures limit c.number.ensures (sym c.as_slice.ensures.value) c.in-Some.ensures.choice;
-      cleans = pass_done g.D.SectorDevice.state c.commit_relocated.new.self (g.met.D.SectorDevice.lawful h.device) c.in-Ok.ensures.done
-          (c.in-Ok-commit_relocated.ensures.done vs c.in-Ok.ensures.done.emptied);
+      cleans = c.in-Ok.ensures.done;
     }
-
-pub returns-in-Err-commit_relocated-clause-halted : goal.returns-in-Err-commit_relocated-clause-halted
-returns-in-Err-commit_relocated-clause-halted g c is ne =
-    pass_halts g.D.SectorDevice.state c.commit_relocated.new.self (g.met.D.SectorDevice.lawful c.args.log.now.device) c.in-Ok.ensures.done
-    (c.in-Err-commit_relocated.ensures.halted is (λ on. ne (sym c.in-Ok.ensures.done.reads.halted ∙ on)))
 
 pub returns-in-Err-clause-full : goal.returns-in-Err-clause-full
 returns-in-Err-clause-full g c is = record {
-  reads = c.in-Err.ensures.kept;
+  still = c.in-Err.ensures.kept (λ bad. absurd (cc));
   unfit = λ k m0 m keeps can.
       let vs = c.as_slice.result.now in
       let most = c.most_victims-most.result in
       let are : AreVictims c.usage.result.now c.meta.result most vs =
       rw c.as_slice.ensures.value c.in-Some.ensures.some in
-      not_refused can c.relocate.new.self keeps c.meta.ensures (c.most_victims-most.ensures ∙ ap most_victims c.segments.ensures)
+      not_refused can c.vacate.new.self keeps c.meta.ensures (c.most_victims-most.ensures ∙ ap most_victims c.segments.ensures)
       (rw (← c.usage.ensures) are) (c.in-Err.ensures.lacks is);
 }
 
 pub returns-in-Err-clause-device : goal.returns-in-Err-clause-device
-returns-in-Err-clause-device g c is = record { reads = c.in-Err.ensures.kept; fault = c.in-Err.ensures.failed is }
+returns-in-Err-clause-device g c is = record { still = c.in-Err.ensures.kept (λ bad. absurd (cc)); fault = c.in-Err.ensures.failed is }

@@ -27,10 +27,10 @@ returns-in_default-clause-ends g t c victims group above =
     ends_as (λ k m0 m is p. p) (λ M M' came. (above_in above came.1 came.0, came.0.now))
     (λ k m0 m is lacks. lacks_one x (of_file c.args.key.code) (inl (above_open group x above)) lacks.0 lacks.1) c.bring_one.ensures.ends
 
-pub returns-in_default-clause-alone : goal.returns-in_default-clause-alone
-returns-in_default-clause-alone g t c group above alone x inside = ⊎_elim
-    (λ (was : IsInMemory c.args.memory.now x). alone x was)
-    (λ (own : x ≡ entry_of c.args.key). rw own above)
+pub returns-in_default-clause-waits : goal.returns-in_default-clause-waits
+returns-in_default-clause-waits g t c group above waits x inside = ⊎_elim
+    (λ (was : IsInMemory c.args.memory.now x). waits x was)
+    (λ (own : x ≡ entry_of c.args.key). inl (rw own above))
     (c.bring_one.ensures.came x inside)
 
 pub returns-in_err-bring-clause-ends : goal.returns-in_err-bring-clause-ends
@@ -41,10 +41,10 @@ returns-in_err-bring-clause-ends g t c victims group above =
     (ends_as (λ k m0 m is p. rw up (is.running.laid.down x p)) (λ M M' r. r) (λ k m0 m is l. l)
     (c.in_err-bring.ensures.ends victims group (rw up (above_parent group x above))))
 
-pub returns-in_err-bring-clause-alone : goal.returns-in_err-bring-clause-alone
-returns-in_err-bring-clause-alone g t c group above =
+pub returns-in_err-bring-clause-waits : goal.returns-in_err-bring-clause-waits
+returns-in_err-bring-clause-waits g t c group above =
     let up = c.in-Some.ensures.some.0 in
-    c.bring.ensures.alone group (rw up (above_parent group (entry_of c.args.key) above))
+    c.bring.ensures.waits group (rw up (above_parent group (entry_of c.args.key) above))
 
 pub returns-in_default-clause-only : goal.returns-in_default-clause-only
 returns-in_default-clause-only g t c x inside = ⊎_elim
@@ -127,11 +127,11 @@ returns-clause-ends g t c victims group above =
     lacks.0 lacks.1))
     c.bring_one-2.ensures.ends
 
-pub returns-clause-alone : goal.returns-clause-alone
-returns-clause-alone g t c group above alone x inside =
+pub returns-clause-waits : goal.returns-clause-waits
+returns-clause-waits g t c group above waits x inside =
     let up = c.in-Some.ensures.some.0 in
     ⊎_elim
     (λ (was : IsInMemory c.bring.new.memory x).
-    c.bring.ensures.alone group (rw up (above_parent group (entry_of c.args.key) above)) alone x was)
-    (λ (own : x ≡ entry_of c.args.key). rw own above)
+    c.bring.ensures.waits group (rw up (above_parent group (entry_of c.args.key) above)) waits x was)
+    (λ (own : x ≡ entry_of c.args.key). inl (rw own above))
     (c.bring_one-2.ensures.came x inside)

@@ -2,7 +2,7 @@ use Rattle.std.proofs.Common.{◌≡◌, ◌∙◌, true, false, refl, sym, arit
 use Rattle.lfs_memory.specs.inodes.Data.{is_data_code}
 use Rattle.lfs_memory.specs.inodes.Key.{entry_of}
 use Rattle.lfs_log.specs.Groups.{group_of}
-use Rattle.lfs_log.proofs.GroupOrder.{depth_most, few_above, own_above}
+use Rattle.lfs_log.proofs.GroupOrder.{depth_most, own_above}
 use Rattle.lfs_log.proofs.Movings.{ends_done, ends_failed, ends_then, lacks_behind, leaves_looked, loose_of, moved_join, moved_looked}
 use Rattle.lfs_log.proofs.Movings.{moved_still, on_more, stands_looked}
 use Rattle.lfs_log.proofs.UsageMoves.{all_ok}
@@ -26,10 +26,9 @@ returns-then-not-is_among-clause-ends g c =
 
 pub bring-requires-clause-room : goal.bring-requires-clause-room
 bring-requires-clause-room g c =
-    let few = few_above c.args.memory.now (group_of (entry_of c.args.key)) c.are_in_order.ensures c.requires.alone in
     let deep = depth_most (entry_of c.args.key) in
-    let limit = c.requires.limit in
-    omega (arith, few, deep, limit)
+    let room = c.requires.room in
+    omega (arith, deep, room)
 
 pub returns-then-is_data-clause-ends : goal.returns-then-is_data-clause-ends
 returns-then-is_data-clause-ends g c =
@@ -67,10 +66,10 @@ returns-else-is_data-clause-ends g c =
     (λ k m0 m is M' r p lacks. lacks_behind (moved_still left (group_of x) r.0) lacks)
     (c.bring.ensures.ends c.args.victims.now (group_of x) above)
 
-pub returns-else-is_data-clause-alone : goal.returns-else-is_data-clause-alone
-returns-else-is_data-clause-alone g c =
+pub returns-else-is_data-clause-waits : goal.returns-else-is_data-clause-waits
+returns-else-is_data-clause-waits g c =
     let x = entry_of c.args.key in
     let above = own_above c.args.key.code c.args.key.formed
     (λ (is : is_data_code c.args.key.code ≡ true).
     let bad : true ≡ false = sym is ∙ sym c.is_data.ensures ∙ c.if-is_data.false in absurd (cc)) in
-    all_ok c.bring.result _ (c.bring.ensures.alone (group_of x) above c.requires.alone)
+    all_ok c.bring.result _ (c.bring.ensures.waits (group_of x) above c.requires.waits)

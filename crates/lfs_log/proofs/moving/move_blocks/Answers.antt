@@ -6,8 +6,8 @@ use Rattle.lfs_memory.specs.inodes.declared.key.BlockKey.{BlockKey}
 use Rattle.lfs_memory.specs.Moving.{HoldsOn}
 use Rattle.lfs_log.specs.Brought.{IsOut}
 use Rattle.lfs_log.specs.Moving.{Moved, MovesFirst}
-use Rattle.lfs_log.specs.Groups.{HasAboveAlone, group_at}
-use Rattle.lfs_log.proofs.GroupOrder.{nothing_above}
+use Rattle.lfs_log.specs.Groups.{HasAboveAndLeaves, group_at}
+use Rattle.lfs_log.proofs.GroupOrder.{nothing_waits}
 use Rattle.lfs_log.proofs.Movings.{ends_less, ends_then, fails_then, lacks_all, moved_as, moved_join, moved_lifted, moved_none, moved_then}
 use Rattle.lfs_log.proofs.Movings.{on_more, on_then, relocates_still}
 use Rattle.lfs_log.proofs.moving.move_blocks.Goals as goal
@@ -25,7 +25,7 @@ loop-at-init g c = record {
   );
   no_failure = refl;
   low = omega arith;
-  alone = nothing_above c.args.memory.now 0 c.requires.nothing;
+  waits = nothing_waits c.args.memory.now 0 c.requires.nothing;
   rest = λ i d from to. omega arith;
 }
 
@@ -78,7 +78,7 @@ loop-at-preserved g c =
           middle two.done;
       no_failure = two.no_failure ∙ one.no_failure ∙ c.loop-at.invariant.no_failure;
       low = c.group-next.ensures.most;
-      alone = subst (HasAboveAlone c.move_block.new.memory) (sym same) c.in_ok-move_block.ensures.alone;
+      waits = subst (HasAboveAndLeaves c.move_block.new.memory) (sym same) c.in_ok-move_block.ensures.waits;
       rest = λ i d from to. (
           let up = c.requires.order c.loop-at.at i d (omega (arith, from)) to in
           let key = ap group_at (c.get-key.ensures d) in

@@ -6,20 +6,22 @@ use Rattle.lfs_memory.specs.inodes.Key.{entry_of}
 use Rattle.lfs_memory.specs.inodes.Blocks.{Capacity}
 use Rattle.lfs_memory.proofs.of_inodes.Codes.{of_file}
 use Rattle.lfs_log.specs.Groups.{group_of}
-use Rattle.lfs_log.specs.Moving.{Moved, StandsAmong}
+use Rattle.lfs_log.specs.Moving.{Moved, StandsAmong, depth}
 use Rattle.lfs_log.proofs.Movings.{cleanable_after, data_lowest, done_then, ends_as}
 use Rattle.lfs_log.proofs.Movings.{ends_halted, ends_on, ends_then, inside_some, lacks_behind}
 use Rattle.lfs_log.proofs.Movings.{halts_behind, halts_saving, lacks_one, moved_in, moved_join, moved_out, moved_saved, moved_then, on_then}
 use Rattle.lfs_log.proofs.Movings.{placed_outside, room_after, volume_after}
-use Rattle.lfs_log.proofs.GroupOrder.{above_no_data, data_closes, data_key, depth_most, few_above}
+use Rattle.lfs_log.proofs.GroupOrder.{data_closes, data_key, data_no_top, depth_above, depth_most, waiting_no_data}
 use Rattle.lfs_log.proofs.moving.move_data.Goals as goal
 
 pub bring-requires-clause-room : goal.bring-requires-clause-room
 bring-requires-clause-room g c =
-    let few = few_above c.args.memory.now (group_of (entry_of c.args.key)) c.are_in_order.ensures c.requires.alone in
-    let deep = depth_most (entry_of c.above_data-above.result) in
-    let limit = c.requires.limit in
-    omega (arith, few, deep, limit)
+    let x = entry_of c.args.key in
+    let deep = depth_above x (data_no_top c.args.key.code c.requires.data_block) in
+    let most = depth_most x in
+    let same = ap depth c.above_data-above.ensures.parent in
+    let room = c.requires.room in
+    omega (arith, deep, most, same, room)
 
 pub returns-in_err-bring-clause-ends : goal.returns-in_err-bring-clause-ends
 returns-in_err-bring-clause-ends g c =
@@ -32,18 +34,20 @@ returns-in_err-bring-clause-ends g c =
 pub bring_one-requires-clause-outside : goal.bring_one-requires-clause-outside
 bring_one-requires-clause-outside g c is =
     let group = group_of (entry_of c.args.key) in
-    above_no_data group (entry_of c.args.key)
-    (c.bring.ensures.alone group c.above_data-above.ensures.above c.requires.alone (entry_of c.args.key) is)
+    waiting_no_data group (entry_of c.args.key)
+    (c.bring.ensures.waits group c.above_data-above.ensures.above c.requires.waits (entry_of c.args.key) is)
     (data_key c.args.key.code c.requires.data_block)
 
 pub bring_one-requires-clause-room : goal.bring_one-requires-clause-room
 bring_one-requires-clause-room g c =
-    let few = few_above c.args.memory.now (group_of (entry_of c.args.key)) c.are_in_order.ensures c.requires.alone in
-    let deep = depth_most (entry_of c.above_data-above.result) in
+    let x = entry_of c.args.key in
+    let deep = depth_above x (data_no_top c.args.key.code c.requires.data_block) in
+    let most = depth_most x in
+    let up = ap depth c.above_data-above.ensures.parent in
     let more = c.bring.ensures.more in
     let same = ap (λ (c : Capacity). c.limit) c.bring.ensures.capacity in
-    let limit = c.requires.limit in
-    omega (arith, few, deep, more, same, limit)
+    let room = c.requires.room in
+    omega (arith, deep, most, up, more, same, room)
 
 pub returns-in_err-bring_one-clause-ends : goal.returns-in_err-bring_one-clause-ends
 returns-in_err-bring_one-clause-ends g c =
@@ -107,12 +111,12 @@ returns-in-Ok-clause-ends g c =
     c.save_block.ensures.kept c.in-Ok.ensures.cleanable c.in-Ok.ensures.spares)
     c.in-Ok.ensures.moves c.in-Ok.ensures.saves.done.goes.no_failure
 
-pub returns-in-Ok-clause-alone : goal.returns-in-Ok-clause-alone
-returns-in-Ok-clause-alone g c y inside =
+pub returns-in-Ok-clause-waits : goal.returns-in-Ok-clause-waits
+returns-in-Ok-clause-waits g c y inside =
     let x = entry_of c.args.key in
     ⊎_elim
     (λ (was : IsInMemory c.bring.new.memory y).
-    c.bring.ensures.alone (group_of x) c.above_data-above.ensures.above c.requires.alone y was)
+    c.bring.ensures.waits (group_of x) c.above_data-above.ensures.above c.requires.waits y was)
     (λ (here : y ≡ x). absurd (c.in-Ok.ensures.out.gone (rw here at inside)))
     (c.bring_one.ensures.came y (c.in-Ok.ensures.out.only y inside))
 

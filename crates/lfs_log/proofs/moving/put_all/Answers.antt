@@ -1,7 +1,6 @@
 use Rattle.std.proofs.Common.{◌∙◌, refl, arith}
 use Rattle.lfs_memory.specs.inodes.Key.{entry_of}
-use Rattle.lfs_log.specs.Groups.{IsAbove}
-use Rattle.lfs_log.proofs.GroupOrder.{above_closed}
+use Rattle.lfs_log.proofs.GroupOrder.{waiting_closed}
 use Rattle.lfs_log.proofs.Movings.{cleanable_after, ends_done, ends_halted, halts_behind}
 use Rattle.lfs_log.proofs.Movings.{halts_saving, moved_join, moved_lifted, moved_none}
 use Rattle.lfs_log.proofs.Movings.{moved_out, moved_saved, moved_then, on_then, placed_outside, relocates_still, volume_after}
@@ -13,7 +12,7 @@ loop-key-init g c = record {
       c.are_in_order.ensures refl (omega arith) (λ k m0 m keeps is. is);
   on = λ k m0 m keeps is. (is, moved_none c.args.left c.args.to (let next = c.requires.next in omega (arith, next)) is.running.memory);
   no_failure = refl;
-  alone = c.requires.alone;
+  waits = c.requires.waits;
 }
 
 pub save_block-requires-clause-room : goal.save_block-requires-clause-room
@@ -33,19 +32,18 @@ pub loop-key-preserved : goal.loop-key-preserved
 loop-key-preserved g c =
     let x = entry_of c.in-Some.key in
     let low = c.in-Some.ensures.lowest in
-    let above : IsAbove c.args.from x = c.loop-key.invariant.alone x (low.bytes, low.there) in
-    let closed = above_closed c.args.from x above in
+    let closed = waiting_closed c.args.from c.args.to c.requires.next x (c.loop-key.invariant.waits x (low.bytes, low.there)) in
     let next = c.requires.next in
     record {
       moved = moved_then c.loop-key.invariant.moved (moved_saved c.args.left c.in-Ok.ensures.saves.done c.in-Ok.ensures.fewer
           c.in-Ok.ensures.capacity c.are_in_order-in-Ok.ensures c.save_block.ensures.kept c.in-Ok.ensures.cleanable c.in-Ok.ensures.spares);
       on = on_then c.in-Ok.ensures.saves.done.goes.carries.kept_before
-          (λ M M' M'' r out. moved_join r (moved_out c.args.left c.args.to (omega arith) (omega (arith, closed, next)) out.0
+          (λ M M' M'' r out. moved_join r (moved_out c.args.left c.args.to (omega arith) closed out.0
           (placed_outside c.loop-key.memory c.save_block.new.memory c.args.victims.now (M''.at x)
           (cleanable_after c.args.victims.now c.loop-key.invariant.moved c.requires.victims) c.in-Ok.ensures.cleanable out.1)))
           c.loop-key.invariant.on c.in-Ok.ensures.moves;
       no_failure = c.in-Ok.ensures.saves.done.goes.no_failure ∙ c.loop-key.invariant.no_failure;
-      alone = λ y is. c.loop-key.invariant.alone y (c.in-Ok.ensures.out.only y is);
+      waits = λ y is. c.loop-key.invariant.waits y (c.in-Ok.ensures.out.only y is);
     }
 
 pub returns-in-Err-clause-ends : goal.returns-in-Err-clause-ends

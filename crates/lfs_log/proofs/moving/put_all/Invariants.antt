@@ -1,6 +1,6 @@
 use Rattle.std.proofs.Common.{◌≡◌, length}
 use Rattle.lfs_memory.specs.Moving.{HoldsOn}
-use Rattle.lfs_log.specs.Groups.{HasAboveAlone}
+use Rattle.lfs_log.specs.Groups.{HasAboveAndLeaves}
 use Rattle.lfs_log.specs.Moving.{HasMoved, Moved}
 use Rattle.lfs_log.proofs.moving.put_all.Given as goal
 
@@ -10,7 +10,7 @@ invariant-loop-key g l = record {
   on : HoldsOn (g.D.SectorDevice.state l.initial.device) (g.D.SectorDevice.state l.device) l.initial.memory l.memory
       (Moved l.victims l.left l.left l.from l.to);
   no_failure : (g.D.SectorDevice.state l.device).failures ≡ (g.D.SectorDevice.state l.initial.device).failures;
-  alone : HasAboveAlone l.memory l.from;
+  waits : HasAboveAndLeaves l.memory l.from;
 }
 
 abbrev pub decreases-loop-key : goal.decreases-loop-key

@@ -1,4 +1,4 @@
-use Rattle.std.proofs.Common.{rules, ◌≡◌, ◌∙◌, length, refl, sym, ap, arith}
+use Rattle.std.proofs.Common.{length, refl, ap, arith}
 use Rattle.lfs_memory.specs.inodes.Blocks.{TableValue}
 use Rattle.lfs_log.proofs.Movings.{cleanable_after, done_then, ends_failed, fails_then, log_kept, loose_of, moved_lifted, moved_then}
 use Rattle.lfs_log.proofs.WayOut.{Listed, all_out, emptied_out, lists_on, out_before}

@@ -8,4 +8,4 @@ returns-in-Ok-clause-done g c = rw (← c.self.view_is) (saves (c.self.invariant
 
 pub returns-in-Err-clause-halted : goal.returns-in-Err-clause-halted
 returns-in-Err-clause-halted g c is ne =
-    rw (← c.self.view_is) (halts (λ k m0 m is. (is, is.log)) c.in-Err.ensures.stopped refl refl refl)
+    rw (← c.self.view_is) (halts c.in-Err.ensures.stopped refl refl refl)

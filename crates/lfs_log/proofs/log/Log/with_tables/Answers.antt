@@ -17,5 +17,4 @@ invariant_of-result g c =
       (λ on. ready d is told.pass),
       tt,
       (λ all. record { blocks = is.dirty; version = refl; sectors = rw told.usage c.requires.loaded.usage.untaken }),
-      (λ on. absurd (cc)),
     )

@@ -1,7 +1,7 @@
 use Rattle.lfs_memory.specs.inodes.Data.{data_count}
 use Rattle.lfs_log.specs.Early.{full_chunk}
 use Rattle.std.proofs.Common.{◌<◌, rules, arith, refl}
-use Rattle.lfs_log.proofs.EarlyWrites.{early_halts, early_ready, early_waits, writes_early}
+use Rattle.lfs_log.proofs.EarlyWrites.{early_halts, early_waits, writes_early}
 use Rattle.lfs_log.proofs.log.Log.write_early.Goals as goal
 
 pub returns-in-Ok-clause-done : goal.returns-in-Ok-clause-done
@@ -16,7 +16,6 @@ invariant_of-self-in-Err g c = (
   (λ on. absurd (cc)),
   rw c.drop_run.ensures tt,
   (λ on. absurd (cc)),
-  early_ready (λ few. (c.write_chunks.ensures.idle few).1) c.self.invariant.3,
 )
 
 pub invariant_of-self : goal.invariant_of-self
@@ -25,5 +24,4 @@ invariant_of-self g c =
       (λ on. search (rules, arith)),
       rw c.drop_run.ensures tt,
       early_waits same c.self.invariant.2,
-      early_ready same c.self.invariant.3,
     )
