@@ -14,6 +14,8 @@ mod long_names;
 #[cfg(test)]
 mod path;
 #[cfg(test)]
+mod record;
+#[cfg(test)]
 mod remaking;
 #[cfg(test)]
 mod steps;

@@ -6,9 +6,12 @@ pub mod Listed
 pub mod Oldest
 pub mod Order
 pub mod Paths
+pub mod Recorded
 pub mod Refusing
 pub mod Running
 pub mod Saved
+pub mod Scanning
 pub mod Spelling
 pub mod Steps
 pub mod Stopping
+pub mod Turning

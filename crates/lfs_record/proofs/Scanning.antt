@@ -1,0 +1,29 @@
+-- Listed entries, one after the other.
+use Rattle.std.proofs.Common.{◌≡◌, ◌<◌, ◌≤◌, ℕ, suc, ◌+◌, Bool, true, false, cond, List, [], ◌∷◌, Option, Some, None, refl, sym, ap, ◌∙◌, length, drop, get_or, map, add-one, drop-cons}
+use Rattle.std.proofs.lemmas.List.{drop_all}
+use Rattle.std.proofs.lemmas.List.Sums.{sum_by-cons}
+use Rattle.lfs_model.specs.Call.{DirectoryEntry}
+use Rattle.lfs_fs.specs.entries.declared.rows.ListedEntry.{ListedEntry}
+use Rattle.lfs_fs.specs.Answers.{entry_of}
+use Rattle.lfs_record.specs.Files.{count_files, is_older, is_recorded, oldest}
+
+next : (xs : List ListedEntry) (i : ℕ) (x : ListedEntry) → x ≡ get_or xs i x → i < length xs → drop i xs ≡ x ∷ drop (i + 1) xs
+next xs i x is low =
+    drop-cons xs i x low ∙ ap (λ (y : ListedEntry). y ∷ drop (suc i) xs) (sym is) ∙ ap (λ (j : ℕ). x ∷ drop j xs) (sym (add-one i))
+
+module _ (xs : List ListedEntry) (i : ℕ) (x : ListedEntry) (is : x ≡ get_or xs i x) (low : i < length xs) where
+  pub count_step : (b : Bool) → is_recorded (entry_of x) ≡ b
+      → count_files (map entry_of (drop i xs)) ≡ cond b 1 0 + count_files (map entry_of (drop (i + 1) xs))
+  count_step b same =
+      ap (λ (l : List ListedEntry). count_files (map entry_of l)) (next xs i x is low)
+      ∙ sum_by-cons (λ e. cond (is_recorded e) 1 0) (entry_of x) (map entry_of (drop (i + 1) xs))
+      ∙ ap (λ (c : Bool). cond c 1 0 + count_files (map entry_of (drop (i + 1) xs))) same
+
+  pub oldest_step : (number : ℕ) (b : Bool) → is_older number (entry_of x) ≡ b
+      → oldest number (map entry_of (drop i xs)) ≡ cond b (Some (entry_of x)) (oldest number (map entry_of (drop (i + 1) xs)))
+  oldest_step number b same =
+      ap (λ (l : List ListedEntry). oldest number (map entry_of l)) (next xs i x is low)
+      ∙ ap (λ (c : Bool). cond c (Some (entry_of x)) (oldest number (map entry_of (drop (i + 1) xs)))) same
+
+pub oldest_none : (xs : List ListedEntry) (i number : ℕ) → length xs ≤ i → oldest number (map entry_of (drop i xs)) ≡ None
+oldest_none xs i number high = ap (λ (l : List ListedEntry). oldest number (map entry_of l)) (drop_all i xs high)
