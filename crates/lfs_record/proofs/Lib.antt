@@ -1,6 +1,9 @@
 pub mod Along
+pub mod Begun
 pub mod Changes
 pub mod Digits
+pub mod Finding
+pub mod Following
 pub mod Holding
 pub mod Listed
 pub mod Oldest

@@ -1,6 +1,6 @@
 -- The file that a line goes to, and the line.
-use Rattle.std.proofs.Common.{◌≡◌, ◌≢◌, ◌⊎◌, inl, inr, ⊎_elim, ◌<◌, ◌≤◌, ℕ, ◌+◌, true, false, List, [], ◌∷◌, ◌++◌, Option, Some, None, Result, Ok, Err, length, refl, sym, ap, ◌∙◌, subst, append_assoc, append-nil}
-use Rattle.lfs_model.specs.Call.{Answer, Call, Close, Count, Create, Done, Handle, Refuse}
+use Rattle.std.proofs.Common.{◌≡◌, ◌≢◌, ◌⊎◌, inl, inr, ⊎_elim, ◌<◌, ◌≤◌, ℕ, ◌+◌, true, false, List, [], ◌∷◌, ◌++◌, Option, Some, None, Result, Ok, Err, length, refl, sym, ap, ◌∙◌, subst, append_assoc, append-nil, arith}
+use Rattle.lfs_model.specs.Call.{Answer, Call, Close, Count, Create, Done, Handle, Refuse, Sync}
 use Rattle.lfs_model.specs.Device.{DeviceState}
 use Rattle.lfs_fs.specs.Refusals.{refusal_of}
 use Rattle.lfs_fs.specs.Seen.{answer_by}
@@ -8,10 +8,10 @@ use Rattle.lfs_fs.specs.Volume.{Mounted, Serves}
 use Rattle.lfs_fs.specs.declared.error.FsError.{FsError}
 use Rattle.lfs_fs.specs.declared.error.FsError.TheVariants as error
 use Rattle.lfs_record.specs.Kept.{text_of}
-use Rattle.lfs_record.specs.Moves.{Calls, IsLine, Moves, goes_on, goes_to, grown, next_path, no_more, started, starts, writes}
+use Rattle.lfs_record.specs.Moves.{Calls, IsLine, Moves, goes_on, goes_to, grown, is_refused, next_path, no_more, saves, started, starts, writes}
 use Rattle.lfs_record.specs.Names.{is_day}
-use Rattle.lfs_record.specs.Recording.{CallsWithRoom, Closes, EndsClose, EndsFull, EndsRefused, IsAtLast, IsNoLine, IsUnfit, KeepsFew, ServesCalls, Stops}
-use Rattle.lfs_record.specs.Recording.{Takes, TakesLine, Turns, WritesNone, writing}
+use Rattle.lfs_record.specs.Recording.{CallsAreJoined, CallsWithRoom, Closes, EndsClose, EndsFull, EndsRefused, IsAtLast, IsNoLine, IsUnfit, KeepsFew, ServesCalls, Stops}
+use Rattle.lfs_record.specs.Recording.{Saves, Takes, TakesLine, Turns, WritesNone, writing}
 use Rattle.lfs_record.specs.declared.names.TheConstants.{LAST}
 use Rattle.lfs_record.specs.declared.recorder.Present.{Present}
 use Rattle.lfs_record.specs.declared.recorder.Recorder.{Recorder}
@@ -97,7 +97,7 @@ module _ {D : Type 0} (state : D → DeviceState) where
           moves = moves_append r new new opened keeps.calls (moves_all (Ok done) closes) keeps.makes.moves;
         };
         quiet = quiet_append opened keeps.calls (quiet_all (Ok done) closes) keeps.quiet;
-        ends = record { is = refl; same_day = refl; short = inl refl };
+        ends = record { is = refl; same_day = refl; short = inl refl; low = omega arith };
       }
 
       pub turn_many : {Y : Type 0} (d : Mounted D) (fault : FsError) → KeepsFew state {X = Y} c d new (Err fault) → Turns state a d r new day (Err fault)
@@ -225,3 +225,25 @@ module _ {D : Type 0} (state : D → DeviceState) where
             now,
           );
         }
+
+  -- ---- a save
+
+  pub saved : {X : Type 0} (a b : Mounted D) (r : Recorder) (result : Result X FsError)
+      → Serves state a b Sync (answer_by (λ done. Done) result) → Saves state a b r result
+  saved a b r (Ok done) serves = record {
+    serves = serves;
+    makes = record { served = serves_one state a b Sync Done serves; moves = saves no_more };
+  }
+  saved a b r (Err fault) serves = record {
+    serves = serves;
+    makes = record {
+      served = serves_one state a b Sync (Refuse (refusal_of fault)) serves;
+      moves = is_refused Sync (refusal_of fault) tt no_more;
+    };
+  }
+
+  pub calls_joined : CallsAreJoined state
+  calls_joined a b c r m r' xs ys first second = record {
+    served = serves_append state a b c xs ys first.served second.served;
+    moves = moves_append r m r' xs ys first.moves second.moves;
+  }

@@ -1,3 +1,5 @@
+pub mod Asking
+pub mod Beginning
 pub mod Files
 pub mod Keeping
 pub mod Kept

@@ -1,11 +1,11 @@
 -- What a recorder's functions ask of a volume, by their results.
-use Rattle.std.specs.Prelude.{◌≡◌, ◌⊎◌, ◌<◌, ◌≤◌, ℕ, ◌+◌, Bool, true, false, List, [], ◌∷◌, ◌++◌, Option, Some, None, Result, Ok, Err, length, map}
-use Rattle.lfs_model.specs.Call.{Answer, Call, Close, Count, Create, DirectoryEntry, Done, Entries, Handle, Pwrite, Readdir, Refuse, Unlink}
+use Rattle.std.specs.Prelude.{◌≡◌, ◌⊎◌, ◌<◌, ◌≤◌, ℕ, ◌+◌, ◌^◌, Bool, true, false, List, [], ◌∷◌, ◌++◌, Option, Some, None, Result, Ok, Err, length, map}
+use Rattle.lfs_model.specs.Call.{Answer, Call, Close, Count, Create, DirectoryEntry, Done, Entries, Handle, Pwrite, Readdir, Refuse, Sync, Unlink}
 use Rattle.lfs_model.specs.Device.{DeviceState}
 use Rattle.lfs_fs.specs.InARow.{ServesInARow}
 use Rattle.lfs_fs.specs.Refusals.{refusal_of}
 use Rattle.lfs_fs.specs.Seen.{answer_by}
-use Rattle.lfs_fs.specs.Volume.{Mounted}
+use Rattle.lfs_fs.specs.Volume.{Mounted, Serves}
 use Rattle.lfs_fs.specs.declared.error.FsError.{FsError}
 use Rattle.lfs_fs.specs.declared.error.FsError.TheVariants as error
 use Rattle.lfs_record.specs.Files.{count_files, oldest}
@@ -56,6 +56,7 @@ pub record Takes (r : Recorder) (day : List ℕ) (p : Present) : Type 0 where
   pub is : r.present ≡ Some p
   pub same_day : p.day ≡ day
   pub short : (p.end ≡ 0) ⊎ (p.end < r.bytes)
+  pub low : p.end < 2 ^ 32
 
 -- ---- what comes of calls, by a result
 
@@ -176,3 +177,12 @@ module _ {D : Type 0} (state : D → DeviceState) where
     pub calls : Calls
     pub makes : Makes old new r calls r'
     pub ends : EndsLine r' day line calls result
+
+  -- All lines so far are saved, or the call is refused.
+  pub record Saves {X : Type 0} (old new : Mounted D) (r : Recorder) (result : Result X FsError) : Type 0 where
+    pub serves : Serves state old new Sync (answer_by (λ done. Done) result)
+    pub makes : Makes old new r ((Sync, answer_by (λ done. Done) result) ∷ []) r
+
+  -- What is made of a volume leads a recorder on, in one row.
+  abbrev pub CallsAreJoined : Type 0
+  CallsAreJoined = (a b c : Mounted D) (r m r' : Recorder) (xs ys : Calls) → Makes a b r xs m → Makes b c m ys r' → Makes a c r (xs ++ ys) r'

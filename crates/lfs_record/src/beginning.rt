@@ -1,53 +1,56 @@
 //! How a recorder begins: by the files that are there.
-ghost use Rattle.std.specs.Prelude.{◌≡◌, ◌<◌, ◌≤◌, IfOk, true};
+ghost use Rattle.std.specs.Prelude.{◌≡◌, true};
+ghost use Rattle.std.specs.Ordering.{nat_min};
+ghost use Rattle.lfs_fs.specs.Answers.{status_of};
 ghost use Rattle.lfs_fs.specs.Seen.{seen};
-ghost use Rattle.lfs_record.specs.Names.{day_of, is_name};
+ghost use Rattle.lfs_record.specs.Asking.{BeginsOn, KeepsOpen, TakesFile};
+ghost use Rattle.lfs_record.specs.Beginning.{is_own};
+ghost use Rattle.lfs_record.specs.Names.{is_name};
+ghost use Rattle.lfs_record.specs.declared.recorder.TheConstants.{MOST_BYTES};
 
-use crate::files::newest;
+use crate::files::{is_file, newest};
 use crate::names::{DAY_LEN, day_of, in_root, number_of};
 use crate::recorder::{MOST_BYTES, Present, Recorder};
 use lfs_device::SectorDevice;
 use lfs_fs::{Fs, FsError, Stat};
-use lfs_model::Kind;
 use std::alloc::Global;
 
 // Whether lines may go on in what stands at a name: a file that no other name gives.
-fn is_own(stat: &Stat) -> bool {
-    match stat.kind {
-        Kind::File => stat.links == 1,
-        Kind::Directory | Kind::Link => false,
-    }
+fn is_own(stat: &Stat) -> bool
+    ensures { result ≡ is_own (status_of stat.now) }
+{
+    is_file(stat.kind) && stat.links == 1
 }
 
-// Whether a file of so many bytes ends with a newline, or is empty.
-fn ends_whole<D: SectorDevice>(fs: &mut Fs<D>, handle: u32, size: u64) -> Result<bool, FsError> {
-    if size == 0 {
-        return Ok(true);
-    }
-    let last = fs.pread(handle, size - 1, 1)?;
-    Ok(last.as_slice() == b"\n".as_slice())
-}
-
-// Goes on in a file that is open, or closes it.
+// Goes on in a file that is open, where it ends with a newline or is empty; and else closes it.
 fn keep_open<D: SectorDevice>(
     fs: &mut Fs<D>,
     handle: u32,
     day: [u8; DAY_LEN],
     size: u64,
-) -> Result<Option<Present>, FsError> {
-    let whole = ends_whole(fs, handle, size);
-    if let Ok(true) = whole {
-        return Ok(Some(Present {
-            handle,
-            day,
-            end: size,
-        }));
+) -> Result<Option<Present>, FsError>
+    ensures { KeepsOpen D.SectorDevice.state (seen fs.old) (seen fs.new) handle day size result }
+{
+    let present = Present {
+        handle,
+        day,
+        end: size,
+    };
+    if size == 0 {
+        return Ok(Some(present));
+    }
+    let last = match fs.pread(handle, size - 1, 1) {
+        Ok(last) => last,
+        Err(fault) => {
+            let _closed = fs.close(handle);
+            return Err(fault);
+        }
+    };
+    if last.as_slice() == b"\n".as_slice() {
+        return Ok(Some(present));
     }
     fs.close(handle)?;
-    match whole {
-        Ok(_) => Ok(None),
-        Err(fault) => Err(fault),
-    }
+    Ok(None)
 }
 
 // Goes on in the file of a name, where that can be.
@@ -57,6 +60,7 @@ fn take_up<D: SectorDevice>(
     name: &[u8],
 ) -> Result<Option<Present>, FsError>
     requires { is_name name.now ≡ true }
+    ensures { TakesFile D.SectorDevice.state (seen fs.old) (seen fs.new) name.now result }
 {
     let Ok(path) = in_root(alloc, name) else {
         return Err(FsError::NoMemory);
@@ -72,7 +76,7 @@ fn take_up<D: SectorDevice>(
 impl Recorder {
     /// Begins to record: a file goes on until it has so many bytes, and so many files are kept at
     /// most, or as many as there is space for where that is 0. The newest file goes on where no
-    /// other name gives it, and it ends with a newline or is empty.
+    /// other name gives it, and it ends with a newline or is empty. Nothing is changed yet.
     ///
     /// # Errors
     ///
@@ -83,18 +87,27 @@ impl Recorder {
         fs: &mut Fs<D>,
         bytes: u32,
         files: u32,
-    ) -> Result<Recorder, FsError> {
+    ) -> Result<Recorder, FsError>
+        ensures { BeginsOn D.SectorDevice.state (seen fs.old) (seen fs.new)
+            (nat_min bytes MOST_BYTES) files result }
+    {
         let entries = fs.readdir(b"/")?;
-        let mut recorder = Recorder {
-            bytes: bytes.min(MOST_BYTES),
-            files,
-            number: 0,
-            present: None,
+        let bytes = bytes.min(MOST_BYTES);
+        let Some(entry) = newest(entries.as_slice()) else {
+            return Ok(Recorder {
+                bytes,
+                files,
+                number: 0,
+                present: None,
+            });
         };
-        if let Some(entry) = newest(entries.as_slice()) {
-            recorder.number = number_of(entry.name.as_slice());
-            recorder.present = take_up(alloc, fs, entry.name.as_slice())?;
-        }
-        Ok(recorder)
+        let number = number_of(entry.name.as_slice());
+        let present = take_up(alloc, fs, entry.name.as_slice())?;
+        Ok(Recorder {
+            bytes,
+            files,
+            number,
+            present,
+        })
     }
 }

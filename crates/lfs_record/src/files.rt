@@ -1,16 +1,15 @@
 //! Which entries of the root are a recorder's.
-ghost use Rattle.std.specs.Prelude.{◌≡◌, ◌<◌, IfSome, MatchOption, Some, None, map, true};
+ghost use Rattle.std.specs.Prelude.{◌≡◌, ◌<◌, MatchOption, Some, None, map};
 ghost use Rattle.std.specs.Bool.{OnTrue};
 ghost use Rattle.lfs_fs.specs.Answers.{entry_of};
-ghost use Rattle.lfs_record.specs.Names.{is_name};
-ghost use Rattle.lfs_record.specs.Files.{count_files, is_file, is_older, is_recorded, oldest};
+ghost use Rattle.lfs_record.specs.Files.{count_files, is_file, is_older, is_recorded, newest, oldest};
 
 use crate::names::{is_name, number_of};
 use lfs_fs::Entry;
 use lfs_model::Kind;
 
-// Whether it is a file.
-fn is_file(kind: Kind) -> bool
+/// Whether it is a file.
+pub fn is_file(kind: Kind) -> bool
     ensures { result ≡ is_file kind }
 {
     match kind {
@@ -65,7 +64,8 @@ pub fn oldest(entries: &[Entry], number: u32) -> Option<&Entry>
 
 /// The newest entry that has a name of a recorder's.
 pub fn newest(entries: &[Entry]) -> Option<&Entry>
-    ensures { IfSome result (λ entry. is_name entry.now.name.items ≡ true) }
+    ensures { MatchOption result (newest (map entry_of entries.now) ≡ None)
+        (λ entry. newest (map entry_of entries.now) ≡ Some (entry_of entry.now)) }
 {
     for behind in 0..entries.len() {
         let entry = &entries[entries.len() - 1 - behind];

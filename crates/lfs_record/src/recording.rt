@@ -1,5 +1,4 @@
 //! What a recorder does with a line.
-#![tactic(none)]
 ghost use Rattle.std.specs.Prelude.{◌≡◌, ◌⊎◌, ◌<◌, ◌≤◌, ◌^◌, ◌∷◌, [], ℕ, List, length, Some, Err, false, true, IfErr, IfOk, IfSome, OnOk};
 ghost use Rattle.std.specs.Bool.{OnFalse, OnTrue};
 ghost use Rattle.lfs_model.specs.Call.{Count, Create, Done, Handle, Sync};
@@ -9,7 +8,7 @@ ghost use Rattle.lfs_fs.specs.Volume.{Serves};
 ghost use Rattle.lfs_record.specs.Kept.{text_of};
 ghost use Rattle.lfs_record.specs.Moves.{IsForRoom, IsLine, goes_to, started};
 ghost use Rattle.lfs_record.specs.Names.{is_day};
-ghost use Rattle.lfs_record.specs.Recording.{CallsWithRoom, Closes, DropsOldest, IsNoLine, KeepsFew, MakesRoom, Removes, Takes, TakesLine, Turns, writing};
+ghost use Rattle.lfs_record.specs.Recording.{CallsWithRoom, Closes, DropsOldest, IsNoLine, KeepsFew, MakesRoom, Removes, Saves, Takes, TakesLine, Turns, writing};
 
 use crate::files::{are_more, oldest};
 use crate::names::{DAY_LEN, LAST, in_root, is_day, path_of};
@@ -266,8 +265,7 @@ impl Recorder {
     ///
     /// `Halted` where a call of the device failed.
     pub fn save<D: SectorDevice>(&self, fs: &mut Fs<D>) -> Result<(), FsError>
-        ensures { Serves D.SectorDevice.state (seen fs.old) (seen fs.new) Sync
-            (answer_by (λ _. Done) result) }
+        ensures { Saves D.SectorDevice.state (seen fs.old) (seen fs.new) self.now result }
     {
         fs.sync()
     }
