@@ -1,6 +1,5 @@
 //! How a recorder begins: by the files that are there.
-ghost use Rattle.std.specs.Prelude.{◌≡◌, true};
-ghost use Rattle.std.specs.Ordering.{nat_min};
+ghost use Rattle.std.specs.Prelude.{◌≡◌, min, true};
 ghost use Rattle.lfs_fs.specs.Answers.{status_of};
 ghost use Rattle.lfs_fs.specs.Seen.{seen};
 ghost use Rattle.lfs_record.specs.Asking.{BeginsOn, KeepsOpen, TakesFile};
@@ -89,7 +88,7 @@ impl Recorder {
         files: u32,
     ) -> Result<Recorder, FsError>
         ensures { BeginsOn D.SectorDevice.state (seen fs.old) (seen fs.new)
-            (nat_min bytes MOST_BYTES) files result }
+            (min bytes MOST_BYTES) files result }
     {
         let entries = fs.readdir(b"/")?;
         let bytes = bytes.min(MOST_BYTES);
