@@ -1,21 +1,23 @@
 -- The calls of a recorder that begins, one behind the other.
-use Rattle.std.proofs.Common.{◌≡◌, ⊎_elim, inl, inr, ℕ, ◌-◌, true, false, List, [], ◌∷◌, ◌++◌, Option, Some, None, Ok, Err, Result, refl, sym, ap}
+use Rattle.std.proofs.Common.{◌≡◌, inl, inr, ℕ, ◌-◌, true, false, List, [], ◌∷◌, ◌++◌, Option, Some, None, Ok, Err, Result, refl, sym, ap}
 use Rattle.std.proofs.Common.{◌∙◌, append_assoc, subst}
-use Rattle.lfs_model.specs.Call.{Answer, Close, Data, DirectoryEntry, Done, Entries, Handle, LstatOf, Open, Pread, Readdir, Refuse, Stat, Status}
+use Rattle.lfs_model.specs.Call.{Answer, Close, Data, DirectoryEntry, Done, Entries, Handle, LstatOf, Open, Pread, Readdir, Refuse, Stat}
+use Rattle.lfs_model.specs.Call.{Status}
 use Rattle.lfs_model.specs.Device.{DeviceState}
 use Rattle.lfs_fs.specs.Refusals.{refusal_of}
 use Rattle.lfs_fs.specs.Volume.{Mounted, Serves}
 use Rattle.lfs_fs.specs.declared.error.FsError.{FsError}
 use Rattle.lfs_fs.specs.declared.error.FsError.TheVariants as error
 use Rattle.lfs_record.specs.Asking.{BeginsOn, EndsEarly, EndsOpen, EndsTaking, KeepsOpen, TakesFile, WasRefused}
-use Rattle.lfs_record.specs.Beginning.{Begins, begun, behind, has_newest, has_none, is_empty, is_opened, is_own, is_whole, isn't_own, isn't_whole}
+use Rattle.lfs_record.specs.Beginning.{Begins, begun, behind, has_newest, has_none, is_empty, is_opened, is_own, is_whole, isn't_own}
+use Rattle.lfs_record.specs.Beginning.{isn't_whole}
 use Rattle.lfs_record.specs.Files.{newest}
 use Rattle.lfs_record.specs.Moves.{Calls, root}
 use Rattle.lfs_record.specs.Names.{day_of, number_of, path_of}
 use Rattle.lfs_record.specs.declared.recorder.Present.{Present}
 use Rattle.lfs_record.specs.declared.recorder.Recorder.{Recorder}
 use Rattle.lfs_record.proofs.Finding.{finds_files}
-use Rattle.lfs_record.proofs.Recorded.{serves_append, serves_none, serves_one}
+use Rattle.lfs_record.proofs.Recorded.{listing, serves_append, serves_none, serves_one}
 
 -- a refusal behind another call
 refused_later : (xs ys : Calls) (fault : FsError) → WasRefused ys fault → WasRefused (xs ++ ys) fault
@@ -106,7 +108,8 @@ module _ {D : Type 0} (state : D → DeviceState) where
               ends = inl ((LstatOf (path_of name), Status stat) ∷ [], Open (path_of name), [], refl);
             }
 
-        module _ (c d : Mounted D) (handle : ℕ) (own : is_own stat ≡ true) (opens : Serves state b c (Open (path_of name)) (Handle handle)) where
+        module _ (c d : Mounted D) (handle : ℕ) (own : is_own stat ≡ true) (opens : Serves state b c (Open (path_of name))
+            (Handle handle)) where
           abbrev two : Calls
           two = (LstatOf (path_of name), Status stat) ∷ (Open (path_of name), Handle handle) ∷ []
 
@@ -129,7 +132,8 @@ module _ {D : Type 0} (state : D → DeviceState) where
   -- ---- all of them
 
   module _ (a b : Mounted D) (bytes files : ℕ) where
-    pub not_listed : (fault : FsError) → Serves state a b (Readdir root) (Refuse (refusal_of fault)) → BeginsOn state a b bytes files (Err fault)
+    pub not_listed : (fault : FsError) → Serves state a b (Readdir root) (Refuse (refusal_of fault))
+        → BeginsOn state a b bytes files (Err fault)
     not_listed fault serves = record {
       calls = (Readdir root, Refuse (refusal_of fault)) ∷ [];
       served = serves_one state a b (Readdir root) (Refuse (refusal_of fault)) serves;
@@ -139,7 +143,7 @@ module _ {D : Type 0} (state : D → DeviceState) where
     module _ (entries : List DirectoryEntry) (lists : Serves state a b (Readdir root) (Entries entries)) where
       pub begins_anew : newest entries ≡ None → BeginsOn state a b bytes files (Ok (begun bytes files 0 None))
       begins_anew none =
-          let calls : Calls = (Readdir root, Entries entries) ∷ [] in
+          let calls : Calls = listing entries ∷ [] in
           let begins : Begins bytes files calls (begun bytes files 0 None) = has_none entries none in record {
             calls = calls;
             served = serves_one state a b (Readdir root) (Entries entries) lists;
@@ -150,19 +154,19 @@ module _ {D : Type 0} (state : D → DeviceState) where
         pub begins_by : (present : Option Present) → TakesFile state b c entry.name (Ok present)
             → BeginsOn state a c bytes files (Ok (begun bytes files (number_of entry.name) present))
         begins_by present takes =
-            let calls : Calls = (Readdir root, Entries entries) ∷ takes.calls in
+            let calls : Calls = listing entries ∷ takes.calls in
             let r : Recorder = begun bytes files (number_of entry.name) present in
             let begins : Begins bytes files calls r = has_newest entries entry is takes.ends in record {
               calls = calls;
-              served = serves_append state a b c ((Readdir root, Entries entries) ∷ []) takes.calls
+              served = serves_append state a b c (listing entries ∷ []) takes.calls
                   (serves_one state a b (Readdir root) (Entries entries) lists) takes.served;
               ends = (begins, finds_files bytes files calls r begins);
             }
 
         pub begins_not : (fault : FsError) → TakesFile state b c entry.name (Err fault) → BeginsOn state a c bytes files (Err fault)
         begins_not fault takes = record {
-          calls = (Readdir root, Entries entries) ∷ takes.calls;
-          served = serves_append state a b c ((Readdir root, Entries entries) ∷ []) takes.calls
+          calls = listing entries ∷ takes.calls;
+          served = serves_append state a b c (listing entries ∷ []) takes.calls
               (serves_one state a b (Readdir root) (Entries entries) lists) takes.served;
-          ends = early_later ((Readdir root, Entries entries) ∷ []) takes.calls fault takes.ends;
+          ends = early_later (listing entries ∷ []) takes.calls fault takes.ends;
         }

@@ -16,14 +16,16 @@ use Rattle.lfs_model.specs.Run.{Answers, Point, Run, final}
 use Rattle.lfs_model.specs.Sound.{Sound}
 use Rattle.lfs_model.specs.Step.{Step, bad_handle, entry_of, file_at, file_bytes, no_handle, opens as opens_at}
 use Rattle.lfs_model.specs.Step.{let_go, reached, size_of, stat_of, the_node, when}
-use Rattle.lfs_model.specs.Tree.{File, Handles, Names, Node, State, Tree, byte_cmp, entry, is_dir, least_handle, links, links_at, names, node}
+use Rattle.lfs_model.specs.Tree.{File, Handles, Names, Node, State, Tree, byte_cmp, entry, is_dir, least_handle, links, links_at, names}
+use Rattle.lfs_model.specs.Tree.{node}
 use Rattle.lfs_model.specs.Tree.{opened, without}
 use Rattle.lfs_model.specs.Walk.{At, End, Refused}
 use Rattle.lfs_model.proofs.Pendings.{reads_leave}
 use Rattle.lfs_model.proofs.Shrinking.{after, at_dir, named_counts, names_after}
 use Rattle.lfs_model.proofs.Sums.{T_left, T_right, find_without}
 use Rattle.lfs_model.proofs.Trees.{find_here}
-use Rattle.lfs_record.specs.Beginning.{AreWhole, Begins, FindsFiles, GoesOn, IsButHandles, TakesUp, begun, behind, has_newest, has_none, is_empty}
+use Rattle.lfs_record.specs.Beginning.{AreWhole, Begins, FindsFiles, GoesOn, IsButHandles, TakesUp, begun, behind, has_newest, has_none}
+use Rattle.lfs_record.specs.Beginning.{is_empty}
 use Rattle.lfs_record.specs.Beginning.{is_own, is_whole, is_opened, isn't_own, isn't_whole}
 use Rattle.lfs_record.specs.Files.{is_file, newest, or_this}
 use Rattle.lfs_record.specs.Keeping.{GoesBy, IsOpen}
@@ -51,10 +53,13 @@ none_named t (e ∷ m) is =
     elim (newest (map (entry_of t) m)) as (λ o. newest (map (entry_of t) m) ≡ o → or_this o (entry_of t e) ≡ None
     → AllByRecursion (λ e. is_name e.0 ≡ false) (e ∷ m)) [
       | Some g ↦ λ p is. cc
-      | None ↦ λ p is. (elim (is_name e.0) as (λ b. cond b (Some (entry_of t e)) None ≡ None → b ≡ false) [
+      | None ↦ λ p is. (
+        elim (is_name e.0) as (λ b. cond b (Some (entry_of t e)) None ≡ None → b ≡ false) [
           | true ↦ λ is. cc
           | false ↦ λ is. refl
-        ] is, none_named t m p)
+        ] is,
+        none_named t m p,
+      )
     ] refl is
 
 -- a name that is the newest, or before it
@@ -81,7 +86,7 @@ newest_at t f (e ∷ m) sorted is =
       | Some g ↦ λ p is. (
           let rest = newest_at t f m (T_right _ _ sorted) (p ∙ is) in
           let less : byte_cmp e.0 f.name ≡ Less = all_at (λ x. byte_cmp e.0 x.0 ≡ Less) rest.before (f.name, f.number) rest.after
-              (subst (AreBehind e.0) rest.whole (behind_is e.0 m (T_left _ _ sorted))) in
+          (subst (AreBehind e.0) rest.whole (behind_is e.0 m (T_left _ _ sorted))) in
           record {
             before = e ∷ rest.before;
             after = rest.after;
@@ -92,7 +97,8 @@ newest_at t f (e ∷ m) sorted is =
       | None ↦ λ p is. here (is_name e.0) refl p is
     ] refl is
   where
-    here : (b : Bool) → is_name e.0 ≡ b → newest (map (entry_of t) m) ≡ None → cond b (Some (entry_of t e)) None ≡ Some f → NewestAt f (e ∷ m)
+    here : (b : Bool) → is_name e.0 ≡ b → newest (map (entry_of t) m) ≡ None → cond b (Some (entry_of t e)) None ≡ Some f
+        → NewestAt f (e ∷ m)
     here true named none is =
         let same : entry_of t e ≡ f = ap (λ (o : Option DirectoryEntry). unwrap_or o f) is in
         subst (λ (g : DirectoryEntry). NewestAt g (e ∷ m)) same (record {
@@ -112,10 +118,10 @@ other_name : (t : Tree) (n form : ℕ) (m : Names) (x y : List ℕ) → T (is_so
 other_name t n form m x y sorted root here there other one =
     let d : eq_by_cmp byte_cmp y x ≡ false = apart (byte_cmp y x) refl in
     let left : find byte_cmp y (without byte_cmp x m) ≡ Some n =
-        find_without nat_list_cmp_total x y m ∙ ap (λ (b : Bool). cond b None (find byte_cmp y m)) d ∙ there in
+    find_without nat_list_cmp_total x y m ∙ ap (λ (b : Bool). cond b None (find byte_cmp y m)) d ∙ there in
     let shrunk : Tree = after t 1 n form m x sorted root.is root.sorted here in
     let counts : 1 ≤ names shrunk n = named_counts shrunk 1 y n (ap (find byte_cmp y)
-        (names_are shrunk form (without byte_cmp x m) (at_dir t 1 n form m x sorted root.is root.sorted here)) ∙ left) in
+    (names_are shrunk form (without byte_cmp x m) (at_dir t 1 n form m x sorted root.is root.sorted here)) ∙ left) in
     let less = names_after t 1 n form m x sorted root.is root.sorted here n in
     let same : (n == n) ≡ true = itself n in
     let e : ◌≡◌ {A = ℕ} (if n == n then 1 else 0) 1 = ap (λ (b : Bool). if b then 1 else 0) same in
@@ -157,7 +163,7 @@ opens_is : (s s' : State) (n h : ℕ) (e : End) → IsAtOr n e → (reached s e 
 opens_is s s' n h (At k) at is state =
     let least : ℕ = least_handle s.handles in
     let pass = passed s (when (is_dir (node s.tree k)) IsDir ∷ no_handle s ∷ []) (Handle least, with_open s least k)
-        (λ _. refl, (λ _. refl, tt)) (ap is_ok is) in
+    (λ _. refl, (λ _. refl, tt)) (ap is_ok is) in
     let same : least ≡ h = sym (ap (λ (r : Answer × State). handle_in r.0) pass.1) ∙ ap handle_in is in
     sym state ∙ ap (λ (r : Answer × State). r.1) pass.1 ∙ ap₂ (λ (x : ℕ) (y : ℕ). with_open s x y) same at
 opens_is s s' n h (Refused r) at is state = cc
@@ -170,7 +176,7 @@ reads_is N s s' h off count n b bytes opens is st =
     let pass = passed s (bad_handle s h ∷ when (nat_lt 65536 count) Inval ∷ []) told (λ _. refl, (λ _. refl, tt)) (ap is_ok st.answer) in
     let at : file_at s h ≡ n = ap (λ (o : Option ℕ). unwrap_or o 0) opens in
     let was : file_bytes (the_node s.tree (file_at s h)) ≡ b =
-        ap (λ (k : ℕ). file_bytes (the_node s.tree k)) at ∙ ap (λ (o : Option Node). file_bytes (unwrap_or o (File []))) is in
+    ap (λ (k : ℕ). file_bytes (the_node s.tree k)) at ∙ ap (λ (o : Option Node). file_bytes (unwrap_or o (File []))) is in
     sym (ap bytes_told st.answer) ∙ ap (λ (r : Answer × State). bytes_told r.0) pass.1 ∙ ap (λ (x : List ℕ). part x off count) was
 
 -- the last byte is a newline
@@ -195,13 +201,13 @@ closes_named N s s' h n a opens one st =
     ⊎_elim (λ (same : s' ≡ s). subst (λ (x : State). x ≡ record s { handles = x.handles }) (sym same) refl)
     (λ (shut : (s' ≡ (close_done s h).1) × (find nat_cmp h s.handles ≢ None)).
     (let at : file_at s h ≡ n = ap (λ (o : Option ℕ). unwrap_or o 0) opens in
-      let some : (names s.tree (file_at s h) == 0) ≡ false = (let e : names s.tree (file_at s h) ≡ 1 = ap (names s.tree) at ∙ one in
-        grind (arith, nat_tests)) in
-      let rest : Handles = without nat_cmp h s.handles in
-      let kept : let_go s.tree rest (file_at s h) ≡ s.tree =
-        ap (λ (b : Bool). if b && opened rest (file_at s h) == 0 then without nat_cmp (file_at s h) s.tree else s.tree) some in
-      let is : s' ≡ record s { handles = rest } = shut.0 ∙ ap (λ (t : Tree). record s { tree = t; handles = rest }) kept in
-      subst (λ (x : State). x ≡ record s { handles = x.handles }) (sym is) refl))
+    let some : (names s.tree (file_at s h) == 0) ≡ false = (let e : names s.tree (file_at s h) ≡ 1 = ap (names s.tree) at ∙ one in
+    grind (arith, nat_tests)) in
+    let rest : Handles = without nat_cmp h s.handles in
+    let kept : let_go s.tree rest (file_at s h) ≡ s.tree =
+    ap (λ (b : Bool). if b && opened rest (file_at s h) == 0 then without nat_cmp (file_at s h) s.tree else s.tree) some in
+    let is : s' ≡ record s { handles = rest } = shut.0 ∙ ap (λ (t : Tree). record s { tree = t; handles = rest }) kept in
+    subst (λ (x : State). x ≡ record s { handles = x.handles }) (sym is) refl))
     (closes_or N s s' h a st)
 
 but_tree : (s s' : State) → IsButHandles s s' → s'.tree ≡ s.tree
@@ -295,23 +301,26 @@ module _ (N : ℕ) (s : State) (sound : Sound N s) (f : DirectoryEntry) (at : Ne
 
     is_good : (s' : State) (h : ℕ) → s'.tree ≡ s.tree → find nat_cmp h s'.handles ≡ Some f.number → AreWhole has.0
         → IsGood (number_of f.name) s' (behind h (day_of f.name) stat.size)
-    is_good s' h same opens whole = (record {
-      name = f.name;
-      n = f.number;
-      bytes = has.0;
-      is_there = subst (λ (t : Tree). entry t 1 f.name ≡ Some f.number) (sym same) there;
-      named = at.named;
-      numbered = refl;
-      is_file = subst (λ (t : Tree). node t f.number ≡ Some (File has.0)) (sym same) is_node;
-      opens = opens;
-      long = size;
-      last = λ other k is named ne. (
-        let was = subst (λ (t : Tree). entry t 1 other ≡ Some k) same is in (
-          ⊎_elim (λ (e : other ≡ f.name). absurd (ne e)) (λ (less : byte_cmp other f.name ≡ Less). less) (up_to other k was named),
-          λ e. other_name s.tree f.number form m f.name other sound.in_order there_root found
-              (entry_in other k was ∙ ap Some e) ne once,
-        ));
-    }, whole)
+    is_good s' h same opens whole = (
+      record {
+        name = f.name;
+        n = f.number;
+        bytes = has.0;
+        is_there = subst (λ (t : Tree). entry t 1 f.name ≡ Some f.number) (sym same) there;
+        named = at.named;
+        numbered = refl;
+        is_file = subst (λ (t : Tree). node t f.number ≡ Some (File has.0)) (sym same) is_node;
+        opens = opens;
+        long = size;
+        last = λ other k is named ne. (
+            let was = subst (λ (t : Tree). entry t 1 other ≡ Some k) same is in (
+              ⊎_elim (λ (e : other ≡ f.name). absurd (ne e)) (λ (less : byte_cmp other f.name ≡ Less). less) (up_to other k was named),
+              λ e. other_name s.tree f.number form m f.name other sound.in_order there_root found
+                  (entry_in other k was ∙ ap Some e) ne once,
+            ));
+      },
+      whole,
+    )
 
   -- ---- calls of it, from a point of this state
 
@@ -379,7 +388,7 @@ module _ (N : ℕ) (s : State) (sound : Sound N s) (f : DirectoryEntry) (at : Ne
     goes_on calls present (isn't_whole bytes) p at (q ∷ o ∷ []) run =
         let read = last_read p q bytes at run.0 in
         let shut = closes_named N now o.state h f.number Done is_found (once stat told own)
-            (step_from (Close h) Done q o now read.0 run.1.0 refl) in record {
+        (step_from (Close h) Done q o now read.0 run.1.0 refl) in record {
           open_file = λ x is. none_open o.state x is;
           same = (subst (IsButHandles s) (sym read.0) refl, (but_more s now o.state refl shut, tt));
           tree = but_tree now o.state shut;
@@ -391,7 +400,7 @@ module _ (N : ℕ) (s : State) (sound : Sound N s) (f : DirectoryEntry) (at : Ne
   takes_up calls present (isn't_own stat other) p at [] run = absurd run
   takes_up calls present (isn't_own stat other) p at (q ∷ []) run =
       let same = reads_leave N s q.state (LstatOf (path_of f.name)) (Status stat) refl
-          (step_from (LstatOf (path_of f.name)) (Status stat) p q s at run.0 refl) in record {
+      (step_from (LstatOf (path_of f.name)) (Status stat) p q s at run.0 refl) in record {
         open_file = λ x is. none_open q.state x is;
         same = (but_same s q.state same, tt);
         tree = ap (λ (x : State). x.tree) same;
@@ -404,7 +413,7 @@ module _ (N : ℕ) (s : State) (sound : Sound N s) (f : DirectoryEntry) (at : Ne
       let same = reads_leave N s q.state (LstatOf (path_of f.name)) (Status stat) refl first in
       let told = status stat q.state first in
       let now = opened_is stat told own handle o.state
-          (step_from (Open (path_of f.name)) (Handle handle) q o s same run.1.0 refl) in
+      (step_from (Open (path_of f.name)) (Handle handle) q o s same run.1.0 refl) in
       let rest = goes_on stat told own handle calls' present goes o now points run.1.1 in record {
         open_file = rest.open_file;
         same = (but_same s q.state same, (subst (IsButHandles s) (sym now) refl, rest.same));
@@ -430,6 +439,14 @@ whole_in number s p n bytes good at is =
     let b : open_file.bytes ≡ bytes = cc in
     subst AreWhole b good.1
 
+-- a name that is there isn't a recorder's
+unnamed_is : (m : Names) (name : List ℕ) (n : ℕ) → T (is_sorted byte_cmp m) → AllByRecursion (λ e. is_name e.0 ≡ false) m
+    → find byte_cmp name m ≡ Some n → is_name name ≡ false
+unnamed_is m name n sorted none is =
+    let place = found_at name n m sorted is in
+    all_at (λ e. is_name e.0 ≡ false) place.before (name, n) place.after
+    (subst (AllByRecursion (λ e. is_name e.0 ≡ false)) place.order none)
+
 pub finds_files : (bytes files : ℕ) (calls : Calls) (r : Recorder) → Begins bytes files calls r → FindsFiles calls r
 finds_files bytes files calls r (has_none entries none) N first [] run sound = absurd run
 finds_files bytes files calls r (has_none entries none) N first (q ∷ []) run sound =
@@ -439,9 +456,9 @@ finds_files bytes files calls r (has_none entries none) N first (q ∷ []) run s
       goes_by = record {
         newest = λ name n is named. (
             let was = subst (λ (x : State). entry x.tree 1 name ≡ Some n) told.0 is in
-            let place = found_at name n top.1 top.2.sorted (ap (find byte_cmp name) (sym (names_are first.state.tree top.0 top.1 top.2.is)) ∙ was) in
-            absurd (false≢true (sym (all_at (λ e. is_name e.0 ≡ false) place.before (name, n) place.after
-                (subst (AllByRecursion (λ e. is_name e.0 ≡ false)) place.order unnamed)) ∙ named)));
+            let none_is = unnamed_is top.1 name n top.2.sorted unnamed
+            (ap (find byte_cmp name) (sym (names_are first.state.tree top.0 top.1 top.2.is)) ∙ was) in
+            absurd (false≢true (sym none_is ∙ named)));
         present = λ p is. cc;
       };
       whole = λ p n b is at there. cc;

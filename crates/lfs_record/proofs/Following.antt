@@ -12,15 +12,18 @@ use Rattle.lfs_model.specs.Run.{Answers, Point, Run, final}
 use Rattle.lfs_model.specs.Tree.{State, drop_nameless}
 use Rattle.lfs_model.specs.TreeOf.{Stands}
 use Rattle.lfs_model.proofs.Pendings.{at_final}
-use Rattle.lfs_fs.specs.InARow.{CallsAreKept}
-use Rattle.lfs_fs.specs.Volume.{segments_of}
-use Rattle.lfs_record.specs.Asking.{BeginsAreSaved}
-use Rattle.lfs_record.specs.Beginning.{Begins, GoesOn, IsButHandles, TakesUp, has_newest, has_none, is_empty, is_opened, is_whole, isn't_own}
+use Rattle.lfs_fs.specs.InARow.{CallsAreKept, ServesInARow, is_served, is_tended, no_more}
+use Rattle.lfs_fs.specs.Volume.{Mounted, segments_of}
+use Rattle.lfs_record.specs.Beginning.{Begins, GoesOn, IsButHandles, TakesUp, has_newest, has_none, is_empty, is_opened, is_whole}
+use Rattle.lfs_record.specs.Beginning.{isn't_own}
 use Rattle.lfs_record.specs.Beginning.{isn't_whole}
-use Rattle.lfs_record.specs.Kept.{files_in}
+use Rattle.lfs_record.specs.Keeping.{LeavesFiles}
+use Rattle.lfs_record.specs.Kept.{RecordFile, files_in}
 use Rattle.lfs_record.specs.Moves.{Calls}
+use Rattle.lfs_record.specs.Saving.{BeginsAreSaved, SessionsAreSaved}
 use Rattle.lfs_record.specs.declared.recorder.Present.{Present}
 use Rattle.lfs_record.specs.declared.recorder.Recorder.{Recorder}
+use Rattle.lfs_record.proofs.Saved.{lines_are_saved}
 
 -- none of these calls was refused
 abbrev AreDone : Calls → Type 0
@@ -71,6 +74,14 @@ was_running N p bytes files calls r (q ∷ points) (has_newest entries entry is 
 same_dropped : (s a b : State) → IsButHandles s a → IsButHandles s b → drop_nameless a ≡ drop_nameless b
 same_dropped s a b first second = ap drop_nameless first ∙ sym (ap drop_nameless second)
 
+-- what kept the model at the end kept it before
+kept_before : {D : Type 0} {state : D → DeviceState} (new : Mounted D) {old : Mounted D} {calls : List Call} {answers : List Answer}
+    {clocks : List ℕ} → ServesInARow state new old calls answers clocks → (state new.log.device).keeps_model
+    → (state old.log.device).keeps_model
+kept_before new no_more keeps = keeps
+kept_before new (is_served mid call a does rest) keeps = does.carries.kept_before (kept_before new rest keeps)
+kept_before new (is_tended mid is rest) keeps = is.still.reads.looks.carries.kept_before (kept_before new rest keeps)
+
 module _ {D : Type 0} (state : D → DeviceState) where
   pub begins_are_saved : CallsAreKept state → BeginsAreSaved state
   begins_are_saved kept old new bytes files r begins keeps first saved =
@@ -88,10 +99,23 @@ module _ {D : Type 0} (state : D → DeviceState) where
               let pending = row.pending c left in
               let at = finds.same pending.1.n pending.1.point pending.1.at in
               subst (Stands c) (ap drop_nameless (sym pending.1.is)
-                ∙ same_dropped first.state pending.1.point.state (final first row.points).state at last) pending.2);
+              ∙ same_dropped first.state pending.1.point.state (final first row.points).state at last) pending.2);
         };
         running = sym row.at.halted
             ∙ still_running (segments_of old) first calls row.points row.run (begins_done bytes files calls r begins.ends.0) runs;
         goes_by = finds.goes_by;
         same_files = ap (λ (s : State). files_in s.tree) last;
       }
+
+  pub sessions_are_saved : CallsAreKept state → SessionsAreSaved state
+  sessions_are_saved kept old mid new bytes files r r' calls begins makes keeps first saved i t at c left =
+      let is_begun = begins_are_saved kept old mid bytes files r begins (kept_before new makes.served.1 keeps) first saved in
+      subst (λ (start : List RecordFile). LeavesFiles start calls i c) is_begun.same_files
+      (lines_are_saved state kept mid new calls makes.served.0 is_begun.next r r' (record {
+        served = makes.served.1;
+        keeps = keeps;
+        saved = is_begun.saved;
+        running = is_begun.running;
+        goes_by = is_begun.goes_by;
+        moves = makes.moves;
+      }) i t at c left)

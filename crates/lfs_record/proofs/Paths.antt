@@ -1,5 +1,6 @@
 -- The path of a recorder's name in the root.
-use Rattle.std.proofs.Common.{◌≡◌, ◌≢◌, ◌<◌, ◌≤◌, ℕ, Bool, true, false, cond, List, [], ◌∷◌, Option, Some, None, refl, sym, ap, ap₂, ◌∙◌, subst}
+use Rattle.std.proofs.Common.{◌≡◌, ◌≢◌, ◌<◌, ◌≤◌, ℕ, Bool, true, false, cond, List, [], ◌∷◌, Option, Some, None, refl, sym, ap, ap₂, ◌∙◌}
+use Rattle.std.proofs.Common.{subst}
 use Rattle.std.proofs.Common.{length, arith}
 use Rattle.std.specs.Prelude.{MatchOption, unwrap_or, ◌==◌, ◌||◌, if◌then◌else◌, nat_lt, filter}
 use Rattle.std.specs.List.{AllByRecursion, list_any}

@@ -1,8 +1,8 @@
 -- The calls of a recorder's functions, one behind the other.
-use Rattle.std.proofs.Common.{◌≡◌, ◌≢◌, ◌⊎◌, inl, inr, ⊎_elim, ◌<◌, ◌≤◌, ℕ, ◌+◌, Bool, true, false, List, [], ◌∷◌, ◌++◌, Option, Some, None, Result, Ok, Err, length, map, refl, sym, ap, ◌∙◌, subst, append_assoc, append-nil, arith}
-use Rattle.lfs_model.specs.Call.{Answer, Call, Close, Count, Create, DirectoryEntry, Done, Entries, Handle, Pwrite, Readdir, Refuse, Unlink}
+use Rattle.std.proofs.Common.{◌≡◌, ◌⊎◌, inl, inr, ⊎_elim, ◌<◌, ℕ, true, false, List, [], ◌∷◌, ◌++◌, Some, None, Result, Ok, Err, map}
+use Rattle.std.proofs.Common.{refl, sym, ap, ◌∙◌, subst, append_assoc, append-nil}
+use Rattle.lfs_model.specs.Call.{Answer, Call, DirectoryEntry, Done, Entries, Readdir, Refuse, Unlink}
 use Rattle.lfs_model.specs.Device.{DeviceState}
-use Rattle.lfs_model.specs.Refusal.{Refusal}
 use Rattle.lfs_fs.specs.InARow.{ServesInARow, is_served, is_tended, no_more as row_ends}
 use Rattle.lfs_fs.specs.Refusals.{refusal_of}
 use Rattle.lfs_fs.specs.Seen.{answer_by}
@@ -10,16 +10,18 @@ use Rattle.lfs_fs.specs.Volume.{Mounted, Serves}
 use Rattle.lfs_fs.specs.declared.error.FsError.{FsError}
 use Rattle.lfs_fs.specs.declared.error.FsError.TheVariants as error
 use Rattle.lfs_record.specs.Files.{count_files, oldest}
-use Rattle.lfs_record.specs.Kept.{IsOwn, text_of}
-use Rattle.lfs_record.specs.Moves.{Calls, Drops, IsForRoom, IsLine, Moves, goes_on, goes_to, grown, is_refused, keeps_few, lists, makes_room, more_texts}
-use Rattle.lfs_record.specs.Moves.{next_path, no_more, root, saves, started, starts, texts_behind, writes}
-use Rattle.lfs_record.specs.Names.{is_day, path_of}
-use Rattle.lfs_record.specs.Recording.{CallsWithRoom, Closes, DropsOldest, EndsFull, EndsRefused, Fails, HasNoRoom, IsAtLast, IsUnfit, KeepsFew, Makes}
-use Rattle.lfs_record.specs.Recording.{MakesRoom, Removes, ServesCalls, Stops, Takes, TakesLine, Turns, WritesNone, writing}
-use Rattle.lfs_record.specs.declared.names.TheConstants.{LAST}
-use Rattle.lfs_record.specs.declared.recorder.Present.{Present}
+use Rattle.lfs_record.specs.Kept.{IsOwn}
+use Rattle.lfs_record.specs.Moves.{Calls, Drops, IsForRoom, Moves, goes_on, goes_to, grown, is_refused, keeps_few, lists, makes_room}
+use Rattle.lfs_record.specs.Moves.{more_texts}
+use Rattle.lfs_record.specs.Moves.{no_more, root, saves, started, starts, texts_behind, writes}
+use Rattle.lfs_record.specs.Names.{path_of}
+use Rattle.lfs_record.specs.Recording.{CallsWithRoom, DropsOldest, EndsRefused, Fails, HasNoRoom, KeepsFew}
+use Rattle.lfs_record.specs.Recording.{MakesRoom, Removes, ServesCalls, Stops, WritesNone}
 use Rattle.lfs_record.specs.declared.recorder.Recorder.{Recorder}
-use Rattle.lfs_record.proofs.Running.{no_text}
+
+-- the root, listed
+abbrev pub listing : List DirectoryEntry → Call × Answer
+listing entries = (Readdir root, Entries entries)
 
 -- ---- lists of calls
 
@@ -37,7 +39,8 @@ quiet_append xs ys quiet quiet' texts =
 
 pub moves_append : (r m r' : Recorder) (xs ys : Calls) → Moves r xs m → Moves m ys r' → Moves r (xs ++ ys) r'
 moves_append r m r' xs ys no_more behind = behind
-moves_append r m r' xs ys (is_refused {calls = calls} call refusal own moves) behind = is_refused call refusal own (moves_append r m r' calls ys moves behind)
+moves_append r m r' xs ys (is_refused {calls = calls} call refusal own moves) behind = is_refused call refusal own
+    (moves_append r m r' calls ys moves behind)
 moves_append r m r' xs ys (lists {calls = calls} entries moves) behind = lists entries (moves_append r m r' calls ys moves behind)
 moves_append r m r' xs ys (saves {calls = calls} moves) behind = saves (moves_append r m r' calls ys moves behind)
 moves_append r m r' xs ys (starts {calls = calls} day handle is few none moves) behind =
@@ -60,10 +63,12 @@ module _ {D : Type 0} (state : D → DeviceState) where
   row_append b a c (is_served mid call answer serves rest) second = is_served mid call answer serves (row_append b mid c rest second)
   row_append b a c (is_tended mid tended rest) second = is_tended mid tended (row_append b mid c rest second)
 
-  pub serves_append : (a b c : Mounted D) (xs ys : Calls) → ServesCalls state a b xs → ServesCalls state b c ys → ServesCalls state a c (xs ++ ys)
+  pub serves_append : (a b c : Mounted D) (xs ys : Calls) → ServesCalls state a b xs → ServesCalls state b c ys
+      → ServesCalls state a c (xs ++ ys)
   serves_append a b c xs ys first second = (
     first.0 ++ second.0,
-    subst (λ (l : List Call). ServesInARow state c a l (map (λ x. x.1) (xs ++ ys)) (first.0 ++ second.0)) (sym (map_append (λ x. x.0) xs ys))
+    subst (λ (l : List Call). ServesInARow state c a l (map (λ x. x.1) (xs ++ ys)) (first.0 ++ second.0))
+        (sym (map_append (λ x. x.0) xs ys))
         (subst (λ (l : List Answer). ServesInARow state c a (map (λ x. x.0) xs ++ map (λ x. x.0) ys) l (first.0 ++ second.0))
         (sym (map_append (λ x. x.1) xs ys)) (row_append b a c first.1 second.1)),
   )
@@ -71,7 +76,8 @@ module _ {D : Type 0} (state : D → DeviceState) where
   pub serves_none : (v : Mounted D) → ServesCalls state v v []
   serves_none v = ([], row_ends)
 
-  pub serves_one : (a b : Mounted D) (call : Call) (answer : Answer) → Serves state a b call answer → ServesCalls state a b ((call, answer) ∷ [])
+  pub serves_one : (a b : Mounted D) (call : Call) (answer : Answer) → Serves state a b call answer
+      → ServesCalls state a b ((call, answer) ∷ [])
   serves_one a b call answer serves = ((state b.log.device).moment ∷ [], is_served b call answer serves row_ends)
 
   -- ---- a name that goes
@@ -103,16 +109,21 @@ module _ {D : Type 0} (state : D → DeviceState) where
 
   -- a listing before it
   listed_first : (r : Recorder) (entries : List DirectoryEntry) (calls : Calls) (fault : FsError) → Fails r calls fault
-      → Fails r ((Readdir root, Entries entries) ∷ calls) fault
+      → Fails r (listing entries ∷ calls) fault
   listed_first r entries calls fault fails = record {
     moves = lists entries fails.moves;
     quiet = λ texts. fails.quiet texts;
-    cause = ⊎_elim (λ (e : EndsRefused calls fault). inl ((Readdir root, Entries entries) ∷ e.0, e.1, ap (λ (l : Calls). (Readdir root, Entries entries) ∷ l) e.2))
+    cause = ⊎_elim (λ (e : EndsRefused calls fault). inl (
+      listing entries ∷ e.0,
+      e.1,
+      ap (λ (l : Calls). listing entries ∷ l) e.2,
+    ))
         (λ (e : fault ≡ error.NoMemory). inr e) fails.cause;
   }
 
   removal_fails : (r : Recorder) (name : List ℕ) (calls : Calls) (fault : FsError)
-      → ((calls ≡ (Unlink (path_of name), Refuse (refusal_of fault)) ∷ []) ⊎ ((calls ≡ []) × (fault ≡ error.NoMemory))) → Fails r calls fault
+      → ((calls ≡ (Unlink (path_of name), Refuse (refusal_of fault)) ∷ []) ⊎ ((calls ≡ []) × (fault ≡ error.NoMemory)))
+      → Fails r calls fault
   removal_fails r name calls fault (inl is) =
       subst (λ (l : Calls). Fails r l fault) (sym is) (fails_refused r (Unlink (path_of name)) fault tt)
   removal_fails r name calls fault (inr is) =
@@ -135,7 +146,7 @@ module _ {D : Type 0} (state : D → DeviceState) where
       → Serves state a b (Readdir root) (Entries entries) → IsForRoom (refusal_of fault) → oldest r.number entries ≡ None
       → MakesRoom state {X = X} a b r fault (Err fault)
   none_older a b r fault entries serves room none = record {
-    calls = (Readdir root, Entries entries) ∷ [];
+    calls = listing entries ∷ [];
     served = serves_one a b (Readdir root) (Entries entries) serves;
     ends = inl (refl, inr (entries, refl, room, none));
   }
@@ -144,14 +155,22 @@ module _ {D : Type 0} (state : D → DeviceState) where
       (result : Result X FsError) → Serves state a b (Readdir root) (Entries entries) → IsForRoom (refusal_of fault)
       → oldest r.number entries ≡ Some file → Removes state b c file.name result → MakesRoom state a c r fault result
   room_made a b c r fault entries file (Ok done) serves room is removes = record {
-    calls = (Readdir root, Entries entries) ∷ removes.calls;
-    served = serves_append a b c ((Readdir root, Entries entries) ∷ []) removes.calls (serves_one a b (Readdir root) (Entries entries) serves)
+    calls = listing entries ∷ removes.calls;
+    served = serves_append a b c (listing entries ∷ []) removes.calls (serves_one a b (Readdir root) (Entries entries) serves)
         removes.served;
-    ends = (room, record { entries = entries; file = file; is = is; order = ap (λ (l : Calls). (Readdir root, Entries entries) ∷ l) removes.ends });
+    ends = (
+      room,
+      record {
+        entries = entries;
+        file = file;
+        is = is;
+        order = ap (λ (l : Calls). listing entries ∷ l) removes.ends;
+      },
+    );
   }
   room_made a b c r fault entries file (Err cause) serves room is removes = record {
-    calls = (Readdir root, Entries entries) ∷ removes.calls;
-    served = serves_append a b c ((Readdir root, Entries entries) ∷ []) removes.calls (serves_one a b (Readdir root) (Entries entries) serves)
+    calls = listing entries ∷ removes.calls;
+    served = serves_append a b c (listing entries ∷ []) removes.calls (serves_one a b (Readdir root) (Entries entries) serves)
         removes.served;
     ends = inr (listed_first r entries removes.calls cause (removal_fails r file.name removes.calls cause removes.ends));
   }
@@ -169,7 +188,7 @@ module _ {D : Type 0} (state : D → DeviceState) where
   pub none_dropped : (a b : Mounted D) (r : Recorder) (entries : List DirectoryEntry) → Serves state a b (Readdir root) (Entries entries)
       → DropsOldest state a b r (Ok false)
   none_dropped a b r entries serves = record {
-    calls = (Readdir root, Entries entries) ∷ [];
+    calls = listing entries ∷ [];
     served = serves_one a b (Readdir root) (Entries entries) serves;
     ends = (entries, refl);
   }
@@ -178,19 +197,19 @@ module _ {D : Type 0} (state : D → DeviceState) where
       (serves : Serves state a b (Readdir root) (Entries entries)) (is : oldest r.number entries ≡ Some file) where
     pub dropped : (done : X) → r.files < count_files entries → Removes state b c file.name (Ok done) → DropsOldest state a c r (Ok true)
     dropped done many removes = record {
-      calls = (Readdir root, Entries entries) ∷ removes.calls;
-      served = serves_append a b c ((Readdir root, Entries entries) ∷ []) removes.calls (serves_one a b (Readdir root) (Entries entries) serves)
+      calls = listing entries ∷ removes.calls;
+      served = serves_append a b c (listing entries ∷ []) removes.calls (serves_one a b (Readdir root) (Entries entries) serves)
           removes.served;
       ends = (
-        record { entries = entries; file = file; is = is; order = ap (λ (l : Calls). (Readdir root, Entries entries) ∷ l) removes.ends },
+        record { entries = entries; file = file; is = is; order = ap (λ (l : Calls). listing entries ∷ l) removes.ends },
         many,
       );
     }
 
     pub not_dropped : (cause : FsError) → Removes state {X = X} b c file.name (Err cause) → DropsOldest state a c r (Err cause)
     not_dropped cause removes = record {
-      calls = (Readdir root, Entries entries) ∷ removes.calls;
-      served = serves_append a b c ((Readdir root, Entries entries) ∷ []) removes.calls (serves_one a b (Readdir root) (Entries entries) serves)
+      calls = listing entries ∷ removes.calls;
+      served = serves_append a b c (listing entries ∷ []) removes.calls (serves_one a b (Readdir root) (Entries entries) serves)
           removes.served;
       ends = listed_first r entries removes.calls cause (removal_fails r file.name removes.calls cause removes.ends);
     }
@@ -242,7 +261,12 @@ module _ {D : Type 0} (state : D → DeviceState) where
 
   -- an end behind others is theirs
   refused_behind : (xs ys : Calls) (fault : FsError) → EndsRefused ys fault → EndsRefused (xs ++ ys) fault
-  refused_behind xs ys fault e = (xs ++ e.0, e.1, ap (λ (l : Calls). xs ++ l) e.2 ∙ sym (append_assoc xs e.0 ((e.1, Refuse (refusal_of fault)) ∷ [])))
+  refused_behind xs ys fault e = (
+    xs ++ e.0,
+    e.1,
+    ap (λ (l : Calls). xs ++ l) e.2
+        ∙ sym (append_assoc xs e.0 ((e.1, Refuse (refusal_of fault)) ∷ [])),
+  )
 
   cause_behind : (xs ys : Calls) (fault : FsError) → (EndsRefused ys fault ⊎ (fault ≡ error.NoMemory))
       → (EndsRefused (xs ++ ys) fault ⊎ (fault ≡ error.NoMemory))
@@ -311,14 +335,16 @@ module _ {D : Type 0} (state : D → DeviceState) where
       call_ends cause room =
           let first : Calls = (call, Refuse (refusal_of fault)) ∷ [] in
           let rest : Calls = (call, Refuse (refusal_of fault)) ∷ room.calls in
-          let by : (HasNoRoom r room.calls fault cause ⊎ Fails r room.calls cause) → Moves r rest r × WritesNone rest × Stops r (so_far.calls ++ rest) cause =
-              λ (e : HasNoRoom r room.calls fault cause ⊎ Fails r room.calls cause).
-              ⊎_elim (λ (none : HasNoRoom r room.calls fault cause). without room.calls none)
-              (λ (fails : Fails r room.calls cause). (
-                is_refused call (refusal_of fault) own fails.moves,
-                λ (texts : List (List ℕ)). fails.quiet texts,
-                stops_by r (so_far.calls ++ rest) cause (cause_behind so_far.calls rest cause (cause_behind first room.calls cause fails.cause)),
-              )) e in
+          let by : (HasNoRoom r room.calls fault cause ⊎ Fails r room.calls cause)
+          → Moves r rest r × WritesNone rest × Stops r (so_far.calls ++ rest) cause =
+          λ (e : HasNoRoom r room.calls fault cause ⊎ Fails r room.calls cause).
+          ⊎_elim (λ (none : HasNoRoom r room.calls fault cause). without room.calls none)
+          (λ (fails : Fails r room.calls cause). (
+            is_refused call (refusal_of fault) own fails.moves,
+            λ (texts : List (List ℕ)). fails.quiet texts,
+            stops_by r (so_far.calls ++ rest) cause (cause_behind so_far.calls rest cause
+                (cause_behind first room.calls cause fails.cause)),
+          )) e in
           let ends = by room.ends in record {
             calls = so_far.calls ++ rest;
             served = serves_append a b d so_far.calls (first ++ room.calls) so_far.served
@@ -335,15 +361,18 @@ module _ {D : Type 0} (state : D → DeviceState) where
               × Stops r (so_far.calls ++ (call, Refuse (refusal_of fault)) ∷ calls) cause
           without calls (same, inl is) =
               subst (λ (l : Calls). Moves r ((call, Refuse (refusal_of fault)) ∷ l) r × WritesNone ((call, Refuse (refusal_of fault)) ∷ l)
-                × Stops r (so_far.calls ++ (call, Refuse (refusal_of fault)) ∷ l) cause) (sym is)
-              (subst (λ (g : FsError). Moves r ((call, Refuse (refusal_of fault)) ∷ []) r × WritesNone ((call, Refuse (refusal_of fault)) ∷ [])
-                × Stops r (so_far.calls ++ (call, Refuse (refusal_of fault)) ∷ []) g) (sym same)
+              × Stops r (so_far.calls ++ (call, Refuse (refusal_of fault)) ∷ l) cause) (sym is)
+              (subst (λ (g : FsError). Moves r ((call, Refuse (refusal_of fault)) ∷ []) r
+              × WritesNone ((call, Refuse (refusal_of fault)) ∷ [])
+              × Stops r (so_far.calls ++ (call, Refuse (refusal_of fault)) ∷ []) g) (sym same)
               (is_refused call (refusal_of fault) own no_more, λ texts. refl, inl (so_far.calls, call, refl)))
           without calls (same, inr is) =
               subst (λ (l : Calls). Moves r ((call, Refuse (refusal_of fault)) ∷ l) r × WritesNone ((call, Refuse (refusal_of fault)) ∷ l)
-                × Stops r (so_far.calls ++ (call, Refuse (refusal_of fault)) ∷ l) cause) (sym is.1)
-              (subst (λ (g : FsError). Moves r ((call, Refuse (refusal_of fault)) ∷ (Readdir root, Entries is.0) ∷ []) r
-                × WritesNone ((call, Refuse (refusal_of fault)) ∷ (Readdir root, Entries is.0) ∷ [])
-                × Stops r (so_far.calls ++ (call, Refuse (refusal_of fault)) ∷ (Readdir root, Entries is.0) ∷ []) g) (sym same)
-              (is_refused call (refusal_of fault) own (lists is.0 no_more), λ texts. refl,
-              inr (inl (record { before = so_far.calls; call = call; entries = is.0; order = refl; room = is.2; none = is.3 }))))
+              × Stops r (so_far.calls ++ (call, Refuse (refusal_of fault)) ∷ l) cause) (sym is.1)
+              (subst (λ (g : FsError). Moves r ((call, Refuse (refusal_of fault)) ∷ listing is.0 ∷ []) r
+              × WritesNone ((call, Refuse (refusal_of fault)) ∷ listing is.0 ∷ [])
+              × Stops r (so_far.calls ++ (call, Refuse (refusal_of fault)) ∷ listing is.0 ∷ []) g) (sym same) (
+                is_refused call (refusal_of fault) own (lists is.0 no_more),
+                λ texts. refl,
+                inr (inl (record { before = so_far.calls; call = call; entries = is.0; order = refl; room = is.2; none = is.3 })),
+              ))

@@ -1,5 +1,7 @@
 -- Listed entries, one after the other.
-use Rattle.std.proofs.Common.{◌≡◌, ◌<◌, ◌≤◌, ℕ, zero, suc, ◌+◌, Bool, true, false, cond, List, [], ◌∷◌, Option, Some, None, refl, sym, ap, ◌∙◌, length, drop, get_or, map, add-one, drop-cons}
+use Rattle.std.proofs.Common.{◌≡◌, ◌<◌, ◌≤◌, ℕ, zero, suc, ◌+◌, Bool, true, false, cond, List, [], ◌∷◌, Option, Some, None, refl, sym, ap}
+use Rattle.std.proofs.Common.{◌∙◌, length, drop, get_or, map, add-one, drop-cons}
+use Rattle.std.specs.Prelude.{unwrap_or}
 use Rattle.std.proofs.lemmas.List.{drop_all}
 use Rattle.std.proofs.lemmas.List.Sums.{sum_by-cons}
 use Rattle.lfs_model.specs.Call.{DirectoryEntry}
@@ -37,7 +39,7 @@ pub newest_back : (xs : List ListedEntry) (i j : ℕ) (x : ListedEntry) → x �
 newest_back xs i j x is low at none b same =
     ap (λ (l : List ListedEntry). newest (map entry_of l)) (next xs i x is low)
     ∙ ap (λ (o : Option DirectoryEntry). or_this o (entry_of x))
-      (ap (λ (k : ℕ). newest (map entry_of (drop k xs))) (sym at) ∙ none)
+    (ap (λ (k : ℕ). newest (map entry_of (drop k xs))) (sym at) ∙ none)
     ∙ ap (λ (c : Bool). cond c (Some (entry_of x)) None) same
 
 -- the newest of the last ones is the newest of all
@@ -50,3 +52,16 @@ newest_of (x ∷ xs) (suc i) e is = ap (λ (o : Option DirectoryEntry). or_this 
 
 pub newest_end : (xs : List ListedEntry) (j : ℕ) → length xs ≤ j → newest (map entry_of (drop j xs)) ≡ None
 newest_end xs j high = ap (λ (l : List ListedEntry). newest (map entry_of l)) (drop_all j xs high)
+
+-- it has a name of a recorder's
+pub newest_named : (entries : List DirectoryEntry) (e : DirectoryEntry) → newest entries ≡ Some e → is_name e.name ≡ true
+newest_named [] e is = cc
+newest_named (x ∷ entries) e is =
+    elim (newest entries) as (λ o. newest entries ≡ o → or_this o x ≡ Some e → is_name e.name ≡ true) [
+      | Some g ↦ λ p is. newest_named entries e (p ∙ is)
+      | None ↦ λ p is. here (is_name x.name) refl is
+    ] refl is
+  where
+    here : (b : Bool) → is_name x.name ≡ b → cond b (Some x) None ≡ Some e → is_name e.name ≡ true
+    here true named is = ap (λ (o : Option DirectoryEntry). is_name (unwrap_or o e).name) (sym is) ∙ named
+    here false named is = cc

@@ -1,5 +1,6 @@
 -- The file that a line goes to, and the line.
-use Rattle.std.proofs.Common.{◌≡◌, ◌≢◌, ◌⊎◌, inl, inr, ⊎_elim, ◌<◌, ◌≤◌, ℕ, ◌+◌, true, false, List, [], ◌∷◌, ◌++◌, Option, Some, None, Result, Ok, Err, length, refl, sym, ap, ◌∙◌, subst, append_assoc, append-nil, arith}
+use Rattle.std.proofs.Common.{◌≡◌, ◌⊎◌, inl, inr, ◌<◌, ℕ, true, false, List, [], ◌∷◌, ◌++◌, Option, Some, None, Result, Ok, Err, refl}
+use Rattle.std.proofs.Common.{sym, ap, ◌∙◌, subst, append_assoc, arith}
 use Rattle.lfs_model.specs.Call.{Answer, Call, Close, Count, Create, Done, Handle, Refuse, Sync}
 use Rattle.lfs_model.specs.Device.{DeviceState}
 use Rattle.lfs_fs.specs.Refusals.{refusal_of}
@@ -8,9 +9,11 @@ use Rattle.lfs_fs.specs.Volume.{Mounted, Serves}
 use Rattle.lfs_fs.specs.declared.error.FsError.{FsError}
 use Rattle.lfs_fs.specs.declared.error.FsError.TheVariants as error
 use Rattle.lfs_record.specs.Kept.{text_of}
-use Rattle.lfs_record.specs.Moves.{Calls, IsLine, Moves, goes_on, goes_to, grown, is_refused, next_path, no_more, saves, started, starts, writes}
+use Rattle.lfs_record.specs.Moves.{Calls, IsLine, Moves, goes_on, goes_to, grown, is_refused, next_path, no_more, saves, started, starts}
+use Rattle.lfs_record.specs.Moves.{writes}
 use Rattle.lfs_record.specs.Names.{is_day}
-use Rattle.lfs_record.specs.Recording.{CallsAreJoined, CallsWithRoom, Closes, EndsClose, EndsFull, EndsRefused, IsAtLast, IsNoLine, IsUnfit, KeepsFew, ServesCalls, Stops}
+use Rattle.lfs_record.specs.Recording.{CallsAreJoined, CallsWithRoom, Closes, EndsClose, EndsRefused, IsAtLast, IsNoLine, IsUnfit}
+use Rattle.lfs_record.specs.Recording.{KeepsFew, ServesCalls, Stops}
 use Rattle.lfs_record.specs.Recording.{Saves, Takes, TakesLine, Turns, WritesNone, writing}
 use Rattle.lfs_record.specs.declared.names.TheConstants.{LAST}
 use Rattle.lfs_record.specs.declared.recorder.Present.{Present}
@@ -64,10 +67,12 @@ module _ {D : Type 0} (state : D → DeviceState) where
           (behind r.present result closes.calls refl closes.ends).0
 
       quiet_all : WritesNone all
-      quiet_all = quiet_append creates.ends.0 (first ∷ closes.calls) creates.ends.2 (behind r.present result closes.calls refl closes.ends).1
+      quiet_all = quiet_append creates.ends.0 (first ∷ closes.calls) creates.ends.2
+          (behind r.present result closes.calls refl closes.ends).1
 
     -- the file before isn't closed
-    pub turn_unclosed : {X : Type 0} (fault : FsError) → Closes state {X = X} b c r.present (Err fault) → Turns state a c r new day (Err fault)
+    pub turn_unclosed : {X : Type 0} (fault : FsError) → Closes state {X = X} b c r.present (Err fault)
+        → Turns state a c r new day (Err fault)
     turn_unclosed {X} fault closes = record {
       calls = all {X = X} (Err fault) closes;
       makes = record { served = served_all (Err fault) closes; moves = moves_all (Err fault) closes };
@@ -75,7 +80,8 @@ module _ {D : Type 0} (state : D → DeviceState) where
       ends = inl (last r.present closes.calls closes.ends);
     }
       where
-        last : (o : Option Present) (calls : Calls) → EndsClose {X = X} o calls (Err fault) → EndsRefused (creates.ends.0 ++ first ∷ calls) fault
+        last : (o : Option Present) (calls : Calls) → EndsClose {X = X} o calls (Err fault)
+            → EndsRefused (creates.ends.0 ++ first ∷ calls) fault
         last None calls ends = absurd ends
         last (Some p) calls ends = (
           creates.ends.0 ++ first ∷ [],
@@ -100,7 +106,8 @@ module _ {D : Type 0} (state : D → DeviceState) where
         ends = record { is = refl; same_day = refl; short = inl refl; low = omega arith };
       }
 
-      pub turn_many : {Y : Type 0} (d : Mounted D) (fault : FsError) → KeepsFew state {X = Y} c d new (Err fault) → Turns state a d r new day (Err fault)
+      pub turn_many : {Y : Type 0} (d : Mounted D) (fault : FsError) → KeepsFew state {X = Y} c d new (Err fault)
+          → Turns state a d r new day (Err fault)
       turn_many d fault keeps = record {
         calls = opened ++ keeps.calls;
         makes = record {
@@ -112,8 +119,12 @@ module _ {D : Type 0} (state : D → DeviceState) where
       }
         where
           by : (EndsRefused keeps.calls fault ⊎ (fault ≡ error.NoMemory)) → Stops new (opened ++ keeps.calls) fault
-          by (inl e) = inl (opened ++ e.0, e.1, ap (λ (l : Calls). opened ++ l) e.2
-              ∙ sym (append_assoc opened e.0 ((e.1, Refuse (refusal_of fault)) ∷ [])))
+          by (inl e) = inl (
+            opened ++ e.0,
+            e.1,
+            ap (λ (l : Calls). opened ++ l) e.2
+                ∙ sym (append_assoc opened e.0 ((e.1, Refuse (refusal_of fault)) ∷ [])),
+          )
           by (inr e) = inr (inr (inr e))
 
   pub turn_uncreated : {X : Type 0} (a b : Mounted D) (r : Recorder) (day : List ℕ) (call : Call) (f : X → Answer) (fault : FsError)
@@ -164,7 +175,8 @@ module _ {D : Type 0} (state : D → DeviceState) where
       by (inl unfit) = inr (refl, unfit.0, inr unfit.1)
       by (inr memory) = inl (inr (inr (inr memory)))
 
-  pub line_unturned : {X : Type 0} (a b : Mounted D) (r m : Recorder) (day line : List ℕ) (fault : FsError) → Turns state a b r m day (Err fault)
+  pub line_unturned : {X : Type 0} (a b : Mounted D) (r m : Recorder) (day line : List ℕ) (fault : FsError)
+      → Turns state a b r m day (Err fault)
       → TakesLine state {X = X} a b r m day line (Err fault)
   line_unturned a b r m day line fault turns = record {
     calls = turns.calls;
@@ -185,8 +197,12 @@ module _ {D : Type 0} (state : D → DeviceState) where
     }
       where
         by : Stops m with_room.calls fault → Stops m (turns.calls ++ with_room.calls) fault
-        by (inl e) = inl (turns.calls ++ e.0, e.1, ap (λ (l : Calls). turns.calls ++ l) e.2
-            ∙ sym (append_assoc turns.calls e.0 ((e.1, Refuse (refusal_of fault)) ∷ [])))
+        by (inl e) = inl (
+          turns.calls ++ e.0,
+          e.1,
+          ap (λ (l : Calls). turns.calls ++ l) e.2
+              ∙ sym (append_assoc turns.calls e.0 ((e.1, Refuse (refusal_of fault)) ∷ [])),
+        )
         by (inr (inl full)) = inr (inl (record {
           before = turns.calls ++ full.before;
           call = full.call;
@@ -204,7 +220,7 @@ module _ {D : Type 0} (state : D → DeviceState) where
         let takes : Takes m day p = turns.ends in
         let last : Call × Answer = (writing p (text_of line), Count count) in
         let order : with_room.calls ≡ with_room.ends.0 ++ last ∷ [] =
-            with_room.ends.3 ∙ ap (λ (t : List ℕ). with_room.ends.0 ++ (writing p t, Count count) ∷ []) same in
+        with_room.ends.3 ∙ ap (λ (t : List ℕ). with_room.ends.0 ++ (writing p t, Count count) ∷ []) same in
         record {
           calls = turns.calls ++ with_room.calls;
           makes = record {

@@ -1,16 +1,12 @@
 -- What a recorder that begins asks of a volume, by its results.
-use Rattle.std.specs.Prelude.{◌≡◌, ◌⊎◌, ℕ, false, List, ◌∷◌, ◌++◌, Option, Result, Ok, Err}
+use Rattle.std.specs.Prelude.{◌≡◌, ◌⊎◌, ℕ, List, ◌∷◌, ◌++◌, Option, Result, Ok, Err}
 use Rattle.lfs_model.specs.Call.{Call, Refuse}
 use Rattle.lfs_model.specs.Device.{DeviceState}
-use Rattle.lfs_model.specs.Run.{Point}
-use Rattle.lfs_fs.specs.InARow.{IsSavedAt}
 use Rattle.lfs_fs.specs.Refusals.{refusal_of}
 use Rattle.lfs_fs.specs.Volume.{Mounted}
 use Rattle.lfs_fs.specs.declared.error.FsError.{FsError}
 use Rattle.lfs_fs.specs.declared.error.FsError.TheVariants as error
 use Rattle.lfs_record.specs.Beginning.{Begins, FindsFiles, GoesOn, TakesUp}
-use Rattle.lfs_record.specs.Keeping.{GoesBy}
-use Rattle.lfs_record.specs.Kept.{files_in}
 use Rattle.lfs_record.specs.Moves.{Calls}
 use Rattle.lfs_record.specs.Recording.{ServesCalls}
 use Rattle.lfs_record.specs.declared.recorder.Present.{Present}
@@ -40,7 +36,8 @@ EndsBegun bytes files calls (Ok r) = Begins bytes files calls r × FindsFiles ca
 EndsBegun bytes files calls (Err fault) = EndsEarly calls fault
 
 module _ {D : Type 0} (state : D → DeviceState) where
-  pub record KeepsOpen (old new : Mounted D) (handle : ℕ) (day : List ℕ) (size : ℕ) (result : Result (Option Present) FsError) : Type 0 where
+  pub record KeepsOpen (old new : Mounted D) (handle : ℕ) (day : List ℕ) (size : ℕ) (result : Result
+      (Option Present) FsError) : Type 0 where
     pub calls : Calls
     pub served : ServesCalls state old new calls
     pub ends : EndsOpen handle day size calls result
@@ -55,16 +52,3 @@ module _ {D : Type 0} (state : D → DeviceState) where
     pub calls : Calls
     pub served : ServesCalls state old new calls
     pub ends : EndsBegun bytes files calls result
-
-  -- A recorder that began on a volume that is saved: it is saved still, with the same files, and the recorder goes by its state.
-  pub record IsBegun (new : Mounted D) (first : Point) (r : Recorder) : Type 0 where
-    pub next : Point
-    pub saved : IsSavedAt state new next
-    pub running : new.log.halted ≡ false
-    pub goes_by : GoesBy r next.state
-    pub same_files : files_in next.state.tree ≡ files_in first.state.tree
-
-  -- So it is over a device that keeps the device model.
-  abbrev pub BeginsAreSaved : Type 0
-  BeginsAreSaved = (old new : Mounted D) (bytes files : ℕ) (r : Recorder) → BeginsOn old new bytes files (Ok r)
-      → (state new.log.device).keeps_model → (first : Point) → IsSavedAt state old first → IsBegun new first r

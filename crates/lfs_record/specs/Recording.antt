@@ -1,6 +1,6 @@
 -- What a recorder's functions ask of a volume, by their results.
-use Rattle.std.specs.Prelude.{◌≡◌, ◌⊎◌, ◌<◌, ◌≤◌, ℕ, ◌+◌, ◌^◌, Bool, true, false, List, [], ◌∷◌, ◌++◌, Option, Some, None, Result, Ok, Err, length, map}
-use Rattle.lfs_model.specs.Call.{Answer, Call, Close, Count, Create, DirectoryEntry, Done, Entries, Handle, Pwrite, Readdir, Refuse, Sync, Unlink}
+use Rattle.std.specs.Prelude.{◌≡◌, ◌⊎◌, ◌<◌, ◌≤◌, ℕ, ◌^◌, Bool, true, false, List, [], ◌∷◌, ◌++◌, Option, Some, None, Result, Ok, Err, map}
+use Rattle.lfs_model.specs.Call.{Answer, Call, Close, Count, DirectoryEntry, Done, Entries, Pwrite, Readdir, Refuse, Sync, Unlink}
 use Rattle.lfs_model.specs.Device.{DeviceState}
 use Rattle.lfs_fs.specs.InARow.{ServesInARow}
 use Rattle.lfs_fs.specs.Refusals.{refusal_of}
@@ -185,4 +185,5 @@ module _ {D : Type 0} (state : D → DeviceState) where
 
   -- What is made of a volume leads a recorder on, in one row.
   abbrev pub CallsAreJoined : Type 0
-  CallsAreJoined = (a b c : Mounted D) (r m r' : Recorder) (xs ys : Calls) → Makes a b r xs m → Makes b c m ys r' → Makes a c r (xs ++ ys) r'
+  CallsAreJoined = (a b c : Mounted D) (r m r' : Recorder) (xs ys : Calls) → Makes a b r xs m → Makes b c m ys r'
+      → Makes a c r (xs ++ ys) r'

@@ -1,10 +1,9 @@
 //! What a recorder's calls come to, as laws: each is the contract of a function that does nothing.
-ghost use Rattle.lfs_record.specs.Asking.{BeginsAreSaved};
 ghost use Rattle.lfs_record.specs.Keeping.{LinesAreKept};
 ghost use Rattle.lfs_record.specs.Kept.{HoldsAllElse};
 ghost use Rattle.lfs_record.specs.Names.{NamesAreNumbered, NamesAreOrdered};
 ghost use Rattle.lfs_record.specs.Recording.{CallsAreJoined};
-ghost use Rattle.lfs_record.specs.Saving.{LinesAreSaved};
+ghost use Rattle.lfs_record.specs.Saving.{BeginsAreSaved, LinesAreSaved, SessionsAreSaved};
 
 use lfs_device::SectorDevice;
 use lfs_fs::laws::calls_are_kept;
@@ -43,6 +42,14 @@ pub fn lines_are_saved<D: SectorDevice>()
 /// volume is saved still, with the same files, and the recorder goes by its state.
 pub fn begins_are_saved<D: SectorDevice>()
     ensures { BeginsAreSaved D.SectorDevice.state }
+{
+    calls_are_kept::<D>();
+}
+
+/// And a stop at any moment since a call of such a recorder was answered leaves all lines that were
+/// saved by then, behind what the files held before it began, but for whole files that went.
+pub fn sessions_are_saved<D: SectorDevice>()
+    ensures { SessionsAreSaved D.SectorDevice.state }
 {
     calls_are_kept::<D>();
 }

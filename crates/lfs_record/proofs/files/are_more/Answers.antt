@@ -1,4 +1,4 @@
-use Rattle.std.proofs.Common.{◌≡◌, ◌+◌, sym, ◌∙◌, true, false, arith, drop, map, cond}
+use Rattle.std.proofs.Common.{◌≡◌, ◌+◌, sym, ◌∙◌, true, false, arith, drop, map}
 use Rattle.lfs_fs.specs.Answers.{entry_of}
 use Rattle.lfs_record.specs.Files.{count_files}
 use Rattle.lfs_record.proofs.Scanning.{count_step}
@@ -10,7 +10,7 @@ returns-then-left-eq0 c =
     let e = c.index-entries-place in
     let xs = c.args.entries.now in
     let at : count_files (map entry_of (drop c.loop-place.place xs)) ≡ 1 + count_files (map entry_of (drop (c.loop-place.place + 1) xs)) =
-        count_step xs c.loop-place.place e.result e.is c.loop-place-test.true true (sym c.is_recorded.ensures ∙ c.if-is_recorded.true) in
+    count_step xs c.loop-place.place e.result e.is c.loop-place-test.true true (sym c.is_recorded.ensures ∙ c.if-is_recorded.true) in
     let so = c.loop-place.invariant in
     let none = c.if-left-eq0.true in
     omega (arith, at, so, none)
@@ -22,14 +22,17 @@ loop-place-preserved c =
     let so = c.loop-place.invariant in
     elim c.if-is_recorded.branch [
       | then-is_recorded+else-left-eq0 w ↦ (
-          let at : count_files (map entry_of (drop c.loop-place.place xs)) ≡ 1 + count_files (map entry_of (drop (c.loop-place.place + 1) xs)) =
-              count_step xs c.loop-place.place e.result e.is c.loop-place-test.true true (sym c.is_recorded.ensures ∙ w.if-is_recorded.true) in
+          let at : count_files (map entry_of (drop c.loop-place.place xs)) ≡ 1 + count_files (map entry_of (drop
+          (c.loop-place.place + 1) xs)) =
+          count_step xs c.loop-place.place e.result e.is c.loop-place-test.true true (sym c.is_recorded.ensures ∙ w.if-is_recorded.true) in
           let some = w.if-left-eq0.false in
           let is = w.left-is in
           omega (arith, at, so, some, is))
       | else-is_recorded w ↦ (
-          let at : count_files (map entry_of (drop c.loop-place.place xs)) ≡ 0 + count_files (map entry_of (drop (c.loop-place.place + 1) xs)) =
-              count_step xs c.loop-place.place e.result e.is c.loop-place-test.true false (sym c.is_recorded.ensures ∙ w.if-is_recorded.false) in
+          let at : count_files (map entry_of (drop c.loop-place.place xs)) ≡ 0 + count_files (map entry_of (drop
+          (c.loop-place.place + 1) xs)) =
+          count_step xs c.loop-place.place e.result e.is c.loop-place-test.true false (sym c.is_recorded.ensures
+          ∙ w.if-is_recorded.false) in
           let is = w.left-is in
           omega (arith, at, so, is))
     ]

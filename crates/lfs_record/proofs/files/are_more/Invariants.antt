@@ -1,4 +1,4 @@
-use Rattle.std.proofs.Common.{◌≡◌, ◌≤◌, ◌+◌, drop, map}
+use Rattle.std.proofs.Common.{◌≡◌, ◌+◌, drop, map}
 use Rattle.lfs_fs.specs.Answers.{entry_of}
 use Rattle.lfs_record.specs.Files.{count_files}
 use Rattle.lfs_record.proofs.files.are_more.Given as goal

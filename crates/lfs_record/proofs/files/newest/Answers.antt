@@ -11,5 +11,5 @@ returns-then-is_name c =
     let low = c.loop-behind-test.true in
     newest_of xs (length xs - 1 - c.loop-behind.behind) (entry_of e.result)
     (newest_back xs (length xs - 1 - c.loop-behind.behind) (length xs - c.loop-behind.behind) e.result e.is (omega (arith, low))
-      (omega (arith, low)) c.loop-behind.invariant true
-      (sym (ap is_name c.as_slice.ensures.value) ∙ sym c.is_name.ensures ∙ c.if-is_name.true))
+    (omega (arith, low)) c.loop-behind.invariant true
+    (sym (ap is_name c.as_slice.ensures.value) ∙ sym c.is_name.ensures ∙ c.if-is_name.true))

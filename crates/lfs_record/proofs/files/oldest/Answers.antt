@@ -7,13 +7,13 @@ returns-then-is_older c =
     let e = c.index-entries-place in
     sym c.loop-place.invariant
     ∙ oldest_step c.args.entries.now c.loop-place.place e.result e.is c.loop-place-test.true c.args.number true
-      (sym c.is_older.ensures ∙ c.if-is_older.true)
+    (sym c.is_older.ensures ∙ c.if-is_older.true)
 
 pub loop-place-preserved : goal.loop-place-preserved
 loop-place-preserved c =
     let e = c.index-entries-place in
     sym (oldest_step c.args.entries.now c.loop-place.place e.result e.is c.loop-place-test.true c.args.number false
-      (sym c.is_older.ensures ∙ c.if-is_older.false))
+    (sym c.is_older.ensures ∙ c.if-is_older.false))
     ∙ c.loop-place.invariant
 
 pub returns : goal.returns

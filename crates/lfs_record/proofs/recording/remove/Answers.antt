@@ -1,4 +1,4 @@
-use Rattle.std.proofs.Common.{◌≡◌, ◌∙◌, ℕ, List, subst}
+use Rattle.std.proofs.Common.{◌∙◌, ℕ, List, subst}
 use Rattle.lfs_model.specs.Call.{Done, Unlink}
 use Rattle.lfs_fs.specs.Seen.{answer_by, seen}
 use Rattle.lfs_fs.specs.Volume.{Serves}
@@ -12,4 +12,4 @@ pub returns : goal.returns
 returns g c =
     removed g.D.SectorDevice.state _ _ _ c.args.name.now c.unlink.result
     (subst (λ (p : List ℕ). Serves g.D.SectorDevice.state (seen c.args.fs.now) (seen c.unlink.new.self) (Unlink p)
-      (answer_by (λ done. Done) c.unlink.result)) (c.as_slice.ensures.value ∙ c.in-Ok.ensures) c.unlink.ensures)
+    (answer_by (λ done. Done) c.unlink.result)) (c.as_slice.ensures.value ∙ c.in-Ok.ensures) c.unlink.ensures)

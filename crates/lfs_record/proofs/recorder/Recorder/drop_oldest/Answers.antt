@@ -1,4 +1,4 @@
-use Rattle.std.proofs.Common.{◌≡◌, ◌<◌, ℕ, List, None, Some, Ok, Err, map, subst}
+use Rattle.std.proofs.Common.{◌≡◌, ◌<◌, ℕ, List, Some, Ok, Err, map, subst}
 use Rattle.std.proofs.lemmas.Result.{err_from_is_err_and}
 use Rattle.lfs_fs.specs.Answers.{entry_of}
 use Rattle.lfs_fs.specs.Seen.{seen}
@@ -26,18 +26,20 @@ returns-in-Ok g c =
     dropped g.D.SectorDevice.state _ _ _ c.args.self.now (map entry_of c.in_ok-entries.entries.items) (entry_of c.in-Some.file.now)
     c.in_ok-entries.ensures
     (subst (λ (l : List ListedEntry). oldest c.args.self.now.number (map entry_of l) ≡ Some (entry_of c.in-Some.file.now))
-      c.as_slice-2.ensures.value c.in-Some.ensures)
+    c.as_slice-2.ensures.value c.in-Some.ensures)
     c.in-Ok.field-0
-    (subst (λ (l : List ListedEntry). c.args.self.now.files < count_files (map entry_of l)) c.as_slice.ensures.value c.if-not-are_more.ensures)
+    (subst (λ (l : List ListedEntry). c.args.self.now.files < count_files
+    (map entry_of l)) c.as_slice.ensures.value c.if-not-are_more.ensures)
     (subst (λ (n : List ℕ). Removes g.D.SectorDevice.state (seen c.readdir.new.self) (seen c.remove.new.fs) n (Ok c.in-Ok.field-0))
-      c.as_slice-3.ensures.value c.in-Ok.ensures)
+    c.as_slice-3.ensures.value c.in-Ok.ensures)
 
 pub returns : goal.returns
 returns g c =
     not_dropped g.D.SectorDevice.state _ _ _ c.args.self.now (map entry_of c.in_ok-entries.entries.items) (entry_of c.in-Some.file.now)
     c.in_ok-entries.ensures
     (subst (λ (l : List ListedEntry). oldest c.args.self.now.number (map entry_of l) ≡ Some (entry_of c.in-Some.file.now))
-      c.as_slice-2.ensures.value c.in-Some.ensures)
+    c.as_slice-2.ensures.value c.in-Some.ensures)
     c.in-Err.fault
-    (subst (λ (n : List ℕ). Removes g.D.SectorDevice.state {X = Unit {0}} (seen c.readdir.new.self) (seen c.remove.new.fs) n (Err c.in-Err.fault))
-      c.as_slice-3.ensures.value c.in-Err.ensures)
+    (subst (λ (n : List ℕ). Removes g.D.SectorDevice.state {X = Unit {0}} (seen c.readdir.new.self) (seen c.remove.new.fs) n
+    (Err c.in-Err.fault))
+    c.as_slice-3.ensures.value c.in-Err.ensures)

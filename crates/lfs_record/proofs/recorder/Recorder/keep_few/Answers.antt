@@ -20,7 +20,7 @@ pub returns-then-not-branch : goal.returns-then-not-branch
 returns-then-not-branch g c =
     few_now g.D.SectorDevice.state _ _ _ c.args.self.now tt c.loop.invariant.1
     (subst (λ (b : Bool). DropsOldest g.D.SectorDevice.state (seen c.loop.fs) (seen c.drop_oldest.new.fs) c.args.self.now (Ok b))
-      c.if-not-branch.true c.in_ok-drop_oldest.ensures)
+    c.if-not-branch.true c.in_ok-drop_oldest.ensures)
 
 pub loop-preserved : goal.loop-preserved
 loop-preserved g c = (

@@ -19,7 +19,7 @@ pub returns-in_err-write : goal.returns-in_err-write
 returns-in_err-write g c =
     let p = err_from_is_err_and c.from_residual-in_err-write.result c.from_residual-in_err-write.ensures.1 in rw (p.1, p.2)
     (line_unwritten g.D.SectorDevice.state _ _ _ c.args.self.now c.turn.new.self c.args.day.now c.args.line.now c.in_ok-present.present
-      c.in_ok-present.ensures (writing c.in_ok-present.present c.as_slice.result.now) Count c.in_err-write.field-0.0 c.in_err-write.ensures)
+    c.in_ok-present.ensures (writing c.in_ok-present.present c.as_slice.result.now) Count c.in_err-write.field-0.0 c.in_err-write.ensures)
 
 pub returns : goal.returns
 returns g c =

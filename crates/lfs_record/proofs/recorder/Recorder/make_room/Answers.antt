@@ -27,6 +27,6 @@ returns g c =
     room_made g.D.SectorDevice.state _ _ _ c.args.self.now c.args.fault (map entry_of c.in_ok-entries.entries.items)
     (entry_of c.in-Some.file.now) c.remove.result c.in_ok-entries.ensures c.if-not-is_for_room.ensures
     (subst (λ (l : List ListedEntry). oldest c.args.self.now.number (map entry_of l) ≡ Some (entry_of c.in-Some.file.now))
-      c.as_slice.ensures.value c.in-Some.ensures)
+    c.as_slice.ensures.value c.in-Some.ensures)
     (subst (λ (n : List ℕ). Removes g.D.SectorDevice.state (seen c.readdir.new.self) (seen c.remove.new.fs) n c.remove.result)
-      c.as_slice-2.ensures.value c.remove.ensures)
+    c.as_slice-2.ensures.value c.remove.ensures)
