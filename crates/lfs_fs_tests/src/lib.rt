@@ -16,6 +16,8 @@ mod path;
 #[cfg(test)]
 mod record;
 #[cfg(test)]
+mod record_stops;
+#[cfg(test)]
 mod remaking;
 #[cfg(test)]
 mod steps;
