@@ -47,6 +47,16 @@ fn joined(alloc: Global, fs: &mut Fs<InVolume<MemDevice>>) -> Result<Vec<u8>, Fa
     Ok(all)
 }
 
+/// Whether a recorder that begins on what was left goes on behind it.
+fn goes_on(alloc: Global, fs: &mut Fs<InVolume<MemDevice>>, before: &[u8]) -> Result<bool, Fail> {
+    let mut recorder = Recorder::begin(alloc, fs, 4, 0)?;
+    recorder.line(alloc, fs, b"2026-01-02", b"d")?;
+    recorder.save(fs)?;
+    let bytes = joined(alloc, fs)?;
+    let (was, more) = bytes.as_slice().split_at(before.len().min(bytes.len()));
+    Ok(was == before && more == b"d\n".as_slice())
+}
+
 /// What is left of the lines on a device that stops within this write, whose unsynced sectors are
 /// then left so: how many were saved, the bytes of all files, and how many writes were begun.
 fn left_after_stop(alloc: Global, write: u64, left: Left) -> Result<(usize, Vec<u8>, u64), Fail> {
@@ -59,6 +69,9 @@ fn left_after_stop(alloc: Global, write: u64, left: Left) -> Result<(usize, Vec<
     device.crash(left);
     let mut fs = mounted(alloc, device)?;
     let bytes = joined(alloc, &mut fs)?;
+    if !goes_on(alloc, &mut fs, bytes.as_slice())? {
+        return Err(Fail::from("a recorder didn't go on behind what was left"));
+    }
     Ok((saved, bytes, writes))
 }
 
