@@ -9,8 +9,8 @@ use Rattle.lfs_fs.specs.Volume.{Mounted, Serves}
 use Rattle.lfs_fs.specs.declared.error.FsError.{FsError}
 use Rattle.lfs_fs.specs.declared.error.FsError.TheVariants as error
 use Rattle.lfs_record.specs.Asking.{BeginsOn, EndsEarly, EndsOpen, EndsTaking, KeepsOpen, TakesFile, WasRefused}
-use Rattle.lfs_record.specs.Beginning.{Begins, begun, behind, has_newest, has_none, is_empty, is_opened, is_own, is_whole, isn't_own}
-use Rattle.lfs_record.specs.Beginning.{isn't_whole}
+use Rattle.lfs_record.specs.Beginning.{Begins, begun, behind, has_newest, has_none, is_empty, is_opened, is_own, is_whole, not_own}
+use Rattle.lfs_record.specs.Beginning.{not_whole}
 use Rattle.lfs_record.specs.Files.{newest}
 use Rattle.lfs_record.specs.Moves.{Calls, root}
 use Rattle.lfs_record.specs.Names.{day_of, number_of, path_of}
@@ -51,7 +51,7 @@ module _ {D : Type 0} (state : D → DeviceState) where
         calls = (Pread handle (size - 1) 1, Data bytes) ∷ (Close handle, Done) ∷ [];
         served = serves_append state a b c ((Pread handle (size - 1) 1, Data bytes) ∷ []) ((Close handle, Done) ∷ [])
             (serves_one state a b (Pread handle (size - 1) 1) (Data bytes) first) (serves_one state b c (Close handle) Done second);
-        ends = isn't_whole bytes;
+        ends = not_whole bytes;
       }
 
       pub kept_unclosed : (bytes : List ℕ) (fault : FsError) → Serves state a b (Pread handle (size - 1) 1) (Data bytes)
@@ -90,11 +90,11 @@ module _ {D : Type 0} (state : D → DeviceState) where
       }
 
       module _ (stat : Stat) (tells : Serves state a b (LstatOf (path_of name)) (Status stat)) where
-        pub not_own : is_own stat ≡ false → TakesFile state a b name (Ok None)
-        not_own other = record {
+        pub passed_by : is_own stat ≡ false → TakesFile state a b name (Ok None)
+        passed_by other = record {
           calls = (LstatOf (path_of name), Status stat) ∷ [];
           served = serves_one state a b (LstatOf (path_of name)) (Status stat) tells;
-          ends = isn't_own stat other;
+          ends = not_own stat other;
         }
 
         pub not_opened : (c : Mounted D) (fault : FsError) → Serves state b c (Open (path_of name)) (Refuse (refusal_of fault))

@@ -26,7 +26,7 @@ use Rattle.lfs_model.proofs.Sums.{T_left, T_right, find_without}
 use Rattle.lfs_model.proofs.Trees.{find_here}
 use Rattle.lfs_record.specs.Beginning.{AreWhole, Begins, FindsFiles, GoesOn, IsButHandles, TakesUp, begun, behind, has_newest, has_none}
 use Rattle.lfs_record.specs.Beginning.{is_empty}
-use Rattle.lfs_record.specs.Beginning.{is_own, is_whole, is_opened, isn't_own, isn't_whole}
+use Rattle.lfs_record.specs.Beginning.{is_own, is_whole, is_opened, not_own, not_whole}
 use Rattle.lfs_record.specs.Files.{is_file, newest, or_this}
 use Rattle.lfs_record.specs.Keeping.{GoesBy, IsOpen}
 use Rattle.lfs_record.specs.Kept.{bytes_in}
@@ -383,9 +383,9 @@ module _ (N : ℕ) (s : State) (sound : Sound N s) (f : DirectoryEntry) (at : Ne
           tree = ap (λ (x : State). x.tree) read.0;
         }
     goes_on calls present is_whole p at (q ∷ o ∷ points) run = absurd run.1
-    goes_on calls present (isn't_whole bytes) p at [] run = absurd run
-    goes_on calls present (isn't_whole bytes) p at (q ∷ []) run = absurd run.1
-    goes_on calls present (isn't_whole bytes) p at (q ∷ o ∷ []) run =
+    goes_on calls present (not_whole bytes) p at [] run = absurd run
+    goes_on calls present (not_whole bytes) p at (q ∷ []) run = absurd run.1
+    goes_on calls present (not_whole bytes) p at (q ∷ o ∷ []) run =
         let read = last_read p q bytes at run.0 in
         let shut = closes_named N now o.state h f.number Done is_found (once stat told own)
         (step_from (Close h) Done q o now read.0 run.1.0 refl) in record {
@@ -393,19 +393,19 @@ module _ (N : ℕ) (s : State) (sound : Sound N s) (f : DirectoryEntry) (at : Ne
           same = (subst (IsButHandles s) (sym read.0) refl, (but_more s now o.state refl shut, tt));
           tree = but_tree now o.state shut;
         }
-    goes_on calls present (isn't_whole bytes) p at (q ∷ o ∷ r ∷ points) run = absurd run.1.1
+    goes_on calls present (not_whole bytes) p at (q ∷ o ∷ r ∷ points) run = absurd run.1.1
 
   takes_up : (calls : Calls) (present : Option Present) → TakesUp f.name calls present → (p : Point) → p.state ≡ s
       → (points : List Point) → Run N p (map (λ c. c.0) calls) (map (λ c. c.1) calls) points → Left present p points
-  takes_up calls present (isn't_own stat other) p at [] run = absurd run
-  takes_up calls present (isn't_own stat other) p at (q ∷ []) run =
+  takes_up calls present (not_own stat other) p at [] run = absurd run
+  takes_up calls present (not_own stat other) p at (q ∷ []) run =
       let same = reads_leave N s q.state (LstatOf (path_of f.name)) (Status stat) refl
       (step_from (LstatOf (path_of f.name)) (Status stat) p q s at run.0 refl) in record {
         open_file = λ x is. none_open q.state x is;
         same = (but_same s q.state same, tt);
         tree = ap (λ (x : State). x.tree) same;
       }
-  takes_up calls present (isn't_own stat other) p at (q ∷ o ∷ points) run = absurd run.1
+  takes_up calls present (not_own stat other) p at (q ∷ o ∷ points) run = absurd run.1
   takes_up calls present (is_opened stat handle own goes) p at [] run = absurd run
   takes_up calls present (is_opened stat handle own goes) p at (q ∷ []) run = absurd run.1
   takes_up calls present (is_opened {calls = calls'} stat handle own goes) p at (q ∷ o ∷ points) run =

@@ -15,8 +15,7 @@ use Rattle.lfs_model.proofs.Pendings.{at_final}
 use Rattle.lfs_fs.specs.InARow.{CallsAreKept, ServesInARow, is_served, is_tended, no_more}
 use Rattle.lfs_fs.specs.Volume.{Mounted, segments_of}
 use Rattle.lfs_record.specs.Beginning.{Begins, GoesOn, IsButHandles, TakesUp, has_newest, has_none, is_empty, is_opened, is_whole}
-use Rattle.lfs_record.specs.Beginning.{isn't_own}
-use Rattle.lfs_record.specs.Beginning.{isn't_whole}
+use Rattle.lfs_record.specs.Beginning.{not_own, not_whole}
 use Rattle.lfs_record.specs.Keeping.{LeavesFiles}
 use Rattle.lfs_record.specs.Kept.{RecordFile, files_in}
 use Rattle.lfs_record.specs.Moves.{Calls}
@@ -32,10 +31,10 @@ AreDone = AllByRecursion (λ c. is_ok c.1 ≡ true)
 goes_done : (h : ℕ) (day : List ℕ) (size : ℕ) (calls : Calls) (present : Option Present) → GoesOn h day size calls present → AreDone calls
 goes_done h day size calls present (is_empty none) = tt
 goes_done h day size calls present is_whole = (refl, tt)
-goes_done h day size calls present (isn't_whole bytes) = (refl, (refl, tt))
+goes_done h day size calls present (not_whole bytes) = (refl, (refl, tt))
 
 takes_done : (name : List ℕ) (calls : Calls) (present : Option Present) → TakesUp name calls present → AreDone calls
-takes_done name calls present (isn't_own stat other) = (refl, tt)
+takes_done name calls present (not_own stat other) = (refl, tt)
 takes_done name calls present (is_opened {calls = rest} stat handle own goes) =
     (refl, (refl, goes_done handle _ stat.size rest present goes))
 

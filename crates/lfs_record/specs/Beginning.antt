@@ -25,12 +25,12 @@ behind handle day size = record { handle = handle; day = day; end = size }
 pub data GoesOn (handle : ℕ) (day : List ℕ) (size : ℕ) : Calls → Option Present → Type 0 where
   is_empty : size ≡ 0 → GoesOn handle day size [] (Some (behind handle day size))
   is_whole : GoesOn handle day size ((Pread handle (size - 1) 1, Data (10 ∷ [])) ∷ []) (Some (behind handle day size))
-  isn't_whole : (bytes : List ℕ)
+  not_whole : (bytes : List ℕ)
       → GoesOn handle day size ((Pread handle (size - 1) 1, Data bytes) ∷ (Close handle, Done) ∷ []) None
 
 -- The file of a name is opened, where no other name gives it: one rule a case.
 pub data TakesUp (name : List ℕ) : Calls → Option Present → Type 0 where
-  isn't_own : (stat : Stat) → is_own stat ≡ false → TakesUp name ((LstatOf (path_of name), Status stat) ∷ []) None
+  not_own : (stat : Stat) → is_own stat ≡ false → TakesUp name ((LstatOf (path_of name), Status stat) ∷ []) None
   is_opened : {calls : Calls} {present : Option Present} (stat : Stat) (handle : ℕ) → is_own stat ≡ true
       → GoesOn handle (day_of name) stat.size calls present
       → TakesUp name ((LstatOf (path_of name), Status stat) ∷ (Open (path_of name), Handle handle) ∷ calls) present

@@ -6,7 +6,7 @@ use Rattle.lfs_fs.specs.Refusals.{refusal_of}
 use Rattle.lfs_fs.specs.Seen.{seen}
 use Rattle.lfs_fs.specs.Volume.{Serves}
 use Rattle.lfs_record.specs.Asking.{KeepsOpen}
-use Rattle.lfs_record.proofs.Begun.{no_path, not_opened, not_own, not_told, taken}
+use Rattle.lfs_record.proofs.Begun.{no_path, not_opened, passed_by, not_told, taken}
 use Rattle.lfs_record.proofs.beginning.take_up.Goals as goal
 
 pub returns-in_default : goal.returns-in_default
@@ -21,7 +21,7 @@ returns-in_err-stat g c =
 
 pub returns-then-not-is_own : goal.returns-then-not-is_own
 returns-then-not-is_own g c =
-    not_own g.D.SectorDevice.state c.args.name.now _ _ (status_of c.in_ok-stat.stat)
+    passed_by g.D.SectorDevice.state c.args.name.now _ _ (status_of c.in_ok-stat.stat)
     (subst (λ (p : List ℕ). Serves g.D.SectorDevice.state (seen c.args.fs.now) (seen c.lstat.new.self) (LstatOf p)
     (Status (status_of c.in_ok-stat.stat))) (c.as_slice.ensures.value ∙ c.in-Ok.ensures) c.in_ok-stat.ensures)
     (sym c.is_own.ensures ∙ c.if-not-is_own.true)
