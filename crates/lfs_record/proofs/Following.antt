@@ -45,8 +45,8 @@ begins_done bytes files calls r (has_newest {calls = rest} {present = present} e
 
 -- a volume that wasn't halted isn't behind calls that were done
 true_or_false : (b : Bool) → (IsTrue b → ⊥) → b ≡ false
-true_or_false true no = absurd (no tt)
-true_or_false false no = refl
+true_or_false true never = absurd (never refl)
+true_or_false false never = refl
 
 done_running : (N : ℕ) (call : Call) (a : Answer) (p q : Point) → is_ok a ≡ true → Answers N call p a q → q.halted ≡ false
 done_running N call a p q ok does =

@@ -1,8 +1,9 @@
 -- The calls of a recorder's functions, one behind the other.
 use Rattle.std.proofs.Common.{◌≡◌, ◌⊎◌, inl, inr, ⊎_elim, ◌<◌, ℕ, true, false, List, [], ◌∷◌, ◌++◌, Some, None, Result, Ok, Err, map}
-use Rattle.std.proofs.Common.{refl, sym, ap, ◌∙◌, subst, append_assoc, append-nil}
+use Rattle.std.proofs.Common.{refl, sym, ap, ◌∙◌, subst, append_assoc, append-nil, arith, zero-add, ◌+◌}
 use Rattle.lfs_model.specs.Call.{Answer, Call, DirectoryEntry, Done, Entries, Readdir, Refuse, Unlink}
 use Rattle.lfs_model.specs.Device.{DeviceState}
+use Rattle.lfs_model.specs.declared.limits.TheConstants.{MOST_ENTRIES}
 use Rattle.lfs_fs.specs.InARow.{ServesInARow, is_served, is_tended, no_more as row_ends}
 use Rattle.lfs_fs.specs.Refusals.{refusal_of}
 use Rattle.lfs_fs.specs.Seen.{answer_by}
@@ -15,7 +16,7 @@ use Rattle.lfs_record.specs.Moves.{Calls, Drops, IsForRoom, Moves, goes_on, goes
 use Rattle.lfs_record.specs.Moves.{more_texts}
 use Rattle.lfs_record.specs.Moves.{no_more, root, saves, started, starts, texts_behind, writes}
 use Rattle.lfs_record.specs.Names.{path_of}
-use Rattle.lfs_record.specs.Recording.{CallsWithRoom, DropsOldest, EndsRefused, Fails, HasNoRoom, KeepsFew}
+use Rattle.lfs_record.specs.Recording.{CallsWithRoom, DropsOldest, EndsRefused, Fails, HasFew, HasNoRoom, IsFew, KeepsFew, gone_in}
 use Rattle.lfs_record.specs.Recording.{MakesRoom, Removes, ServesCalls, Stops, WritesNone}
 use Rattle.lfs_record.specs.declared.recorder.Recorder.{Recorder}
 
@@ -36,6 +37,10 @@ texts_append texts (x ∷ xs) ys = texts_append (more_texts texts x.1 x.0) xs ys
 pub quiet_append : (xs ys : Calls) → WritesNone xs → WritesNone ys → WritesNone (xs ++ ys)
 quiet_append xs ys quiet quiet' texts =
     texts_append texts xs ys ∙ ap (λ (t : List (List ℕ)). texts_behind t ys) (quiet texts) ∙ quiet' texts
+
+gone_append : (xs ys : Calls) → gone_in (xs ++ ys) ≡ gone_in xs + gone_in ys
+gone_append [] ys = sym (zero-add (gone_in ys))
+gone_append (x ∷ xs) ys = (let rest = gone_append xs ys in omega (arith, rest))
 
 pub moves_append : (r m r' : Recorder) (xs ys : Calls) → Moves r xs m → Moves m ys r' → Moves r (xs ++ ys) r'
 moves_append r m r' xs ys no_more behind = behind
@@ -186,11 +191,11 @@ module _ {D : Type 0} (state : D → DeviceState) where
   }
 
   pub none_dropped : (a b : Mounted D) (r : Recorder) (entries : List DirectoryEntry) → Serves state a b (Readdir root) (Entries entries)
-      → DropsOldest state a b r (Ok false)
-  none_dropped a b r entries serves = record {
+      → IsFew r entries → DropsOldest state a b r (Ok false)
+  none_dropped a b r entries serves few = record {
     calls = listing entries ∷ [];
     served = serves_one a b (Readdir root) (Entries entries) serves;
-    ends = (entries, refl);
+    ends = (entries, refl, few);
   }
 
   module _ {X : Type 0} (a b c : Mounted D) (r : Recorder) (entries : List DirectoryEntry) (file : DirectoryEntry)
@@ -222,14 +227,14 @@ module _ {D : Type 0} (state : D → DeviceState) where
     pub moves : Moves r calls r
     pub quiet : WritesNone calls
 
-  pub none_yet : (v : Mounted D) (r : Recorder) → SoFar v v r
+  abbrev pub none_yet : (v : Mounted D) (r : Recorder) → SoFar v v r
   none_yet v r = record { calls = []; served = serves_none v; moves = no_more; quiet = λ texts. refl }
 
   -- refused calls and files that went change no text
-  drops_quiet : (r : Recorder) (calls : Calls) → Drops r calls → WritesNone calls
+  pub drops_quiet : (r : Recorder) (calls : Calls) → Drops r calls → WritesNone calls
   drops_quiet r calls drops = subst WritesNone (sym drops.order) (λ texts. refl)
 
-  pub drop_more : (a b c : Mounted D) (r : Recorder) → 0 < r.files → SoFar a b r → DropsOldest state b c r (Ok true) → SoFar a c r
+  abbrev pub drop_more : (a b c : Mounted D) (r : Recorder) → 0 < r.files → SoFar a b r → DropsOldest state b c r (Ok true) → SoFar a c r
   drop_more a b c r some so_far drops = record {
     calls = so_far.calls ++ drops.calls;
     served = serves_append a b c so_far.calls drops.calls so_far.served drops.served;
@@ -238,13 +243,41 @@ module _ {D : Type 0} (state : D → DeviceState) where
     quiet = quiet_append so_far.calls drops.calls so_far.quiet (drops_quiet r drops.calls drops.ends.0);
   }
 
-  pub few_left : {X : Type 0} (a b : Mounted D) (r : Recorder) (done : X) → SoFar a b r → KeepsFew state a b r (Ok done)
-  few_left a b r done so_far = record {
+  few_left : {X : Type 0} (a b : Mounted D) (r : Recorder) (done : X) (so_far : SoFar a b r) → HasFew r so_far.calls
+      → KeepsFew state a b r (Ok done)
+  few_left a b r done so_far few = record {
     calls = so_far.calls;
     makes = record { served = so_far.served; moves = so_far.moves };
     quiet = so_far.quiet;
-    ends = tt;
+    ends = few;
   }
+
+  pub few_all : {X : Type 0} (v : Mounted D) (r : Recorder) (done : X) → r.files ≡ 0 → KeepsFew state v v r (Ok done)
+  few_all v r done all = few_left v v r done (none_yet v r) (inl all)
+
+  -- files that went, each by one drop
+  pub record Dropped (a b : Mounted D) (r : Recorder) (rounds : ℕ) : Type 0 where
+    pub so_far : SoFar a b r
+    pub gone : gone_in so_far.calls ≡ rounds
+
+  pub none_went : (v : Mounted D) (r : Recorder) → Dropped v v r 0
+  none_went v r = record { so_far = none_yet v r; gone = refl }
+
+  pub one_went : (a b c : Mounted D) (r : Recorder) (rounds : ℕ) → 0 < r.files → Dropped a b r rounds → DropsOldest state b c r (Ok true)
+      → Dropped a c r (rounds + 1)
+  one_went a b c r rounds some dropped drops = record {
+    so_far = drop_more a b c r some dropped.so_far drops;
+    gone = (
+        let all = gone_append dropped.so_far.calls drops.calls in
+        let one : gone_in drops.calls ≡ 1 = ap gone_in drops.ends.0.order in
+        let was = dropped.gone in
+        omega (arith, all, one, was));
+  }
+
+  pub few_gone : {X : Type 0} (a b : Mounted D) (r : Recorder) (done : X) (rounds : ℕ) → MOST_ENTRIES < rounds → Dropped a b r rounds
+      → KeepsFew state a b r (Ok done)
+  few_gone a b r done rounds many dropped =
+      few_left a b r done dropped.so_far (inr (inr (subst (λ (n : ℕ). MOST_ENTRIES < n) (sym dropped.gone) many)))
 
   pub few_now : {X : Type 0} (a b c : Mounted D) (r : Recorder) (done : X) → SoFar a b r → DropsOldest state b c r (Ok false)
       → KeepsFew state a c r (Ok done)
@@ -256,7 +289,7 @@ module _ {D : Type 0} (state : D → DeviceState) where
           (subst (λ (l : Calls). Moves r l r) (sym drops.ends.1) (lists drops.ends.0 no_more));
     };
     quiet = quiet_append so_far.calls drops.calls so_far.quiet (subst WritesNone (sym drops.ends.1) (λ texts. refl));
-    ends = tt;
+    ends = inr (inl (so_far.calls, drops.ends.0, ap (λ (l : Calls). so_far.calls ++ l) drops.ends.1, drops.ends.2));
   }
 
   -- an end behind others is theirs

@@ -28,6 +28,9 @@ module _ (xs : List ListedEntry) (i : ℕ) (x : ListedEntry) (is : x ≡ get_or 
       ap (λ (l : List ListedEntry). oldest number (map entry_of l)) (next xs i x is low)
       ∙ ap (λ (c : Bool). cond c (Some (entry_of x)) (oldest number (map entry_of (drop (i + 1) xs)))) same
 
+pub count_end : (xs : List ListedEntry) (i : ℕ) → length xs ≤ i → count_files (map entry_of (drop i xs)) ≡ 0
+count_end xs i high = ap (λ (l : List ListedEntry). count_files (map entry_of l)) (drop_all i xs high)
+
 pub oldest_none : (xs : List ListedEntry) (i number : ℕ) → length xs ≤ i → oldest number (map entry_of (drop i xs)) ≡ None
 oldest_none xs i number high = ap (λ (l : List ListedEntry). oldest number (map entry_of l)) (drop_all i xs high)
 

@@ -1,6 +1,6 @@
 -- The file that a line goes to, and the line.
 use Rattle.std.proofs.Common.{◌≡◌, ◌⊎◌, inl, inr, ◌<◌, ℕ, true, false, List, [], ◌∷◌, ◌++◌, Option, Some, None, Result, Ok, Err, refl}
-use Rattle.std.proofs.Common.{sym, ap, ◌∙◌, subst, append_assoc, arith}
+use Rattle.std.proofs.Common.{sym, ap, ◌∙◌, subst, append_assoc, append-nil, arith}
 use Rattle.lfs_model.specs.Call.{Answer, Call, Close, Count, Create, Done, Handle, Refuse, Sync}
 use Rattle.lfs_model.specs.Device.{DeviceState}
 use Rattle.lfs_fs.specs.Refusals.{refusal_of}
@@ -12,14 +12,20 @@ use Rattle.lfs_record.specs.Kept.{text_of}
 use Rattle.lfs_record.specs.Moves.{Calls, IsLine, Moves, goes_on, goes_to, grown, is_refused, next_path, no_more, saves, started, starts}
 use Rattle.lfs_record.specs.Moves.{writes}
 use Rattle.lfs_record.specs.Names.{is_day}
-use Rattle.lfs_record.specs.Recording.{CallsAreJoined, CallsWithRoom, Closes, EndsClose, EndsRefused, IsAtLast, IsNoLine, IsUnfit}
-use Rattle.lfs_record.specs.Recording.{KeepsFew, ServesCalls, Stops}
+use Rattle.lfs_record.specs.Recording.{CallsAreJoined, CallsWithRoom, Closes, EndsClose, EndsRefused, IsAtLast, IsKeptFew, IsNoLine}
+use Rattle.lfs_record.specs.Recording.{IsUnfit, KeepsFew, ServesCalls, Stops}
 use Rattle.lfs_record.specs.Recording.{Saves, Takes, TakesLine, Turns, WritesNone, writing}
 use Rattle.lfs_record.specs.declared.names.TheConstants.{LAST}
 use Rattle.lfs_record.specs.declared.recorder.Present.{Present}
 use Rattle.lfs_record.specs.declared.recorder.Recorder.{Recorder}
 use Rattle.lfs_record.proofs.Recorded.{moves_append, quiet_append, serves_append, serves_none, serves_one}
 use Rattle.lfs_record.proofs.Running.{no_text}
+
+-- behind more calls it stays so
+few_more : (old r : Recorder) (calls more : Calls) → IsKeptFew old r calls → IsKeptFew old r (calls ++ more)
+few_more old r calls more (inl same) = inl same
+few_more old r calls more (inr is) =
+    inr (is.0, is.1, is.2 ++ more, ap (λ (l : Calls). l ++ more) is.3 ∙ append_assoc (is.0 ++ is.1) is.2 more, is.4)
 
 module _ {D : Type 0} (state : D → DeviceState) where
   pub closed_none : {X : Type 0} (v : Mounted D) (done : X) → Closes state v v None (Ok done)
@@ -103,7 +109,10 @@ module _ {D : Type 0} (state : D → DeviceState) where
           moves = moves_append r new new opened keeps.calls (moves_all (Ok done) closes) keeps.makes.moves;
         };
         quiet = quiet_append opened keeps.calls (quiet_all (Ok done) closes) keeps.quiet;
-        ends = record { is = refl; same_day = refl; short = inl refl; low = omega arith };
+        ends = (
+          record { is = refl; same_day = refl; short = inl refl; low = omega arith },
+          inr (opened, keeps.calls, [], sym (append-nil (opened ++ keeps.calls)), keeps.ends),
+        );
       }
 
       pub turn_many : {Y : Type 0} (d : Mounted D) (fault : FsError) → KeepsFew state {X = Y} c d new (Err fault)
@@ -150,7 +159,7 @@ module _ {D : Type 0} (state : D → DeviceState) where
     calls = [];
     makes = record { served = serves_none state v; moves = no_more };
     quiet = λ texts. refl;
-    ends = takes;
+    ends = (takes, inl refl);
   }
 
   -- ---- the line
@@ -217,7 +226,7 @@ module _ {D : Type 0} (state : D → DeviceState) where
         → CallsWithRoom state b c m (writing p text) Count (Ok count) → r' ≡ goes_to m (grown p line)
         → TakesLine state a c r r' day line (Ok done)
     line_written done text count r' is same with_room now =
-        let takes : Takes m day p = turns.ends in
+        let takes : Takes m day p = turns.ends.0 in
         let last : Call × Answer = (writing p (text_of line), Count count) in
         let order : with_room.calls ≡ with_room.ends.0 ++ last ∷ [] =
         with_room.ends.3 ∙ ap (λ (t : List ℕ). with_room.ends.0 ++ (writing p t, Count count) ∷ []) same in
@@ -239,6 +248,7 @@ module _ {D : Type 0} (state : D → DeviceState) where
             quiet_append turns.calls with_room.ends.0 turns.quiet with_room.ends.2,
             ap (λ (l : Calls). turns.calls ++ l) order ∙ sym (append_assoc turns.calls with_room.ends.0 (last ∷ [])),
             now,
+            few_more r m turns.calls with_room.ends.0 turns.ends.1,
           );
         }
 

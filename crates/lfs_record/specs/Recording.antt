@@ -1,7 +1,9 @@
 -- What a recorder's functions ask of a volume, by their results.
-use Rattle.std.specs.Prelude.{◌≡◌, ◌⊎◌, ◌<◌, ◌≤◌, ℕ, ◌^◌, Bool, true, false, List, [], ◌∷◌, ◌++◌, Option, Some, None, Result, Ok, Err, map}
+use Rattle.std.specs.Prelude.{◌≡◌, ◌⊎◌, ◌<◌, ◌≤◌, ℕ, ◌+◌, ◌^◌, Bool, true, false, cond, List, [], ◌∷◌, ◌++◌, Option, Some, None, Result}
+use Rattle.std.specs.Prelude.{Ok, Err, map}
 use Rattle.lfs_model.specs.Call.{Answer, Call, Close, Count, DirectoryEntry, Done, Entries, Pwrite, Readdir, Refuse, Sync, Unlink}
 use Rattle.lfs_model.specs.Device.{DeviceState}
+use Rattle.lfs_model.specs.declared.limits.TheConstants.{MOST_ENTRIES}
 use Rattle.lfs_fs.specs.InARow.{ServesInARow}
 use Rattle.lfs_fs.specs.Refusals.{refusal_of}
 use Rattle.lfs_fs.specs.Seen.{answer_by}
@@ -82,16 +84,44 @@ abbrev pub EndsRoom : {X : Type 0} → Recorder → Calls → FsError → Result
 EndsRoom r calls fault (Ok done) = IsForRoom (refusal_of fault) × Drops r calls
 EndsRoom r calls fault (Err cause) = HasNoRoom r calls fault cause ⊎ Fails r calls cause
 
+-- these entries have no more of a recorder's files than are to be kept, or none that is older than the newest
+abbrev pub IsFew : Recorder → List DirectoryEntry → Type 0
+IsFew r entries = (count_files entries ≤ r.files) ⊎ (oldest r.number entries ≡ None)
+
 -- the oldest file goes, where there are more than are kept; or none does
 abbrev pub EndsDrop : Recorder → Calls → Result Bool FsError → Type 0
 EndsDrop r calls (Ok true) = (drops : Drops r calls) × (r.files < count_files drops.entries)
-EndsDrop r calls (Ok false) = (entries : List DirectoryEntry) × (calls ≡ (Readdir root, Entries entries) ∷ [])
+EndsDrop r calls (Ok false) = (entries : List DirectoryEntry) × (calls ≡ (Readdir root, Entries entries) ∷ []) × IsFew r entries
 EndsDrop r calls (Err fault) = Fails r calls fault
 
--- nothing is left to do, or the calls end for a fault
-abbrev pub EndsWell : {X : Type 0} → Calls → Result X FsError → Type 0
-EndsWell calls (Ok done) = Unit {0}
-EndsWell calls (Err fault) = EndsRefused calls fault ⊎ (fault ≡ error.NoMemory)
+-- a file went in this call
+abbrev pub goes : Call → Answer → Bool
+goes (Unlink path) Done = true
+goes _ _ = false
+
+-- how many files went in these calls
+abbrev pub gone_in : Calls → ℕ
+gone_in [] = 0
+gone_in (c ∷ calls) = cond (goes c.0 c.1) 1 0 + gone_in calls
+
+-- the calls end with a listing that has few files
+abbrev pub EndsFew : Recorder → Calls → Type 0
+EndsFew r calls = (before : Calls) × (entries : List DirectoryEntry) × (calls ≡ before ++ (Readdir root, Entries entries) ∷ [])
+    × IsFew r entries
+
+-- no file is left that is one too many: all are kept, a listing says so, or more went than the root has entries
+abbrev pub HasFew : Recorder → Calls → Type 0
+HasFew r calls = (r.files ≡ 0) ⊎ EndsFew r calls ⊎ (MOST_ENTRIES < gone_in calls)
+
+-- no file began in these calls, or none is left behind it that is one too many
+abbrev pub IsKeptFew : Recorder → Recorder → Calls → Type 0
+IsKeptFew old r calls = (r.number ≡ old.number)
+    ⊎ ((before : Calls) × (few : Calls) × (later : Calls) × (calls ≡ before ++ few ++ later) × HasFew r few)
+
+-- none is left that is one too many, or the calls end for a fault
+abbrev pub EndsKept : {X : Type 0} → Recorder → Calls → Result X FsError → Type 0
+EndsKept r calls (Ok done) = HasFew r calls
+EndsKept r calls (Err fault) = EndsRefused calls fault ⊎ (fault ≡ error.NoMemory)
 
 -- the file before is closed, and nothing is done where there is none
 abbrev pub EndsClose : {X : Type 0} → Option Present → Calls → Result X FsError → Type 0
@@ -105,19 +135,20 @@ EndsCall call f r calls (Ok x) = (before : Calls) × Moves r before r × WritesN
 EndsCall call f r calls (Err fault) = Moves r calls r × WritesNone calls × Stops r calls fault
 
 -- the calls come to a present file that takes a line of this day, or they stop
-abbrev pub EndsTurn : Recorder → List ℕ → Calls → Result Present FsError → Type 0
-EndsTurn r day calls (Ok p) = Takes r day p
-EndsTurn r day calls (Err fault) = Stops r calls fault
+abbrev pub EndsTurn : Recorder → Recorder → List ℕ → Calls → Result Present FsError → Type 0
+EndsTurn old r day calls (Ok p) = Takes r day p × IsKeptFew old r calls
+EndsTurn old r day calls (Err fault) = Stops r calls fault
 
 -- the write of a text to this file
 abbrev pub writing : Present → List ℕ → Call
 writing p text = Pwrite p.handle p.end text
 
 -- the calls end with the write of this line, to a file that takes it; or they stop before it, or none is made
-abbrev pub EndsLine : {X : Type 0} → Recorder → List ℕ → List ℕ → Calls → Result X FsError → Type 0
-EndsLine r' day line calls (Ok done) = (before : Calls) × (r : Recorder) × (p : Present) × (count : ℕ) × Takes r day p × WritesNone before
-    × (calls ≡ before ++ (writing p (text_of line), Count count) ∷ []) × (r' ≡ goes_to r (grown p line))
-EndsLine r' day line calls (Err fault) = WritesNone calls × (Stops r' calls fault ⊎ IsUnfit day line calls fault)
+abbrev pub EndsLine : {X : Type 0} → Recorder → Recorder → List ℕ → List ℕ → Calls → Result X FsError → Type 0
+EndsLine old r' day line calls (Ok done) = (before : Calls) × (r : Recorder) × (p : Present) × (count : ℕ) × Takes r day p
+    × WritesNone before × (calls ≡ before ++ (writing p (text_of line), Count count) ∷ []) × (r' ≡ goes_to r (grown p line))
+    × IsKeptFew old r before
+EndsLine old r' day line calls (Err fault) = WritesNone calls × (Stops r' calls fault ⊎ IsUnfit day line calls fault)
 
 module _ {D : Type 0} (state : D → DeviceState) where
   -- A volume serves these calls in a row, with these answers.
@@ -150,7 +181,7 @@ module _ {D : Type 0} (state : D → DeviceState) where
     pub calls : Calls
     pub makes : Makes old new r calls r
     pub quiet : WritesNone calls
-    pub ends : EndsWell calls result
+    pub ends : EndsKept r calls result
 
   -- A call is made until it isn't refused for want of room.
   pub record CallsWithRoom {X : Type 0} (old new : Mounted D) (r : Recorder) (call : Call) (f : X → Answer) (result : Result X FsError)
@@ -170,13 +201,13 @@ module _ {D : Type 0} (state : D → DeviceState) where
     pub calls : Calls
     pub makes : Makes old new r calls r'
     pub quiet : WritesNone calls
-    pub ends : EndsTurn r' day calls result
+    pub ends : EndsTurn r r' day calls result
 
   -- A line: it is written by one write, behind all calls that it takes; or it isn't.
   pub record TakesLine {X : Type 0} (old new : Mounted D) (r r' : Recorder) (day line : List ℕ) (result : Result X FsError) : Type 0 where
     pub calls : Calls
     pub makes : Makes old new r calls r'
-    pub ends : EndsLine r' day line calls result
+    pub ends : EndsLine r r' day line calls result
 
   -- All lines so far are saved, or the call is refused.
   pub record Saves {X : Type 0} (old new : Mounted D) (r : Recorder) (result : Result X FsError) : Type 0 where

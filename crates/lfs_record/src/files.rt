@@ -1,6 +1,6 @@
 //! Which entries of the root are a recorder's.
-ghost use Rattle.std.specs.Prelude.{◌≡◌, ◌<◌, MatchOption, Some, None, map};
-ghost use Rattle.std.specs.Bool.{OnTrue};
+ghost use Rattle.std.specs.Prelude.{◌≡◌, ◌<◌, ◌≤◌, MatchOption, Some, None, map};
+ghost use Rattle.std.specs.Bool.{MatchBool};
 ghost use Rattle.lfs_fs.specs.Answers.{entry_of};
 ghost use Rattle.lfs_record.specs.Files.{count_files, is_file, is_older, is_recorded, newest, oldest};
 
@@ -34,7 +34,8 @@ fn is_older(entry: &Entry, number: u32) -> bool
 
 /// Whether more of these entries are a recorder's files than are to be kept.
 pub fn are_more(entries: &[Entry], kept: u32) -> bool
-    ensures { OnTrue result (kept < count_files (map entry_of entries.now)) }
+    ensures { MatchBool result (kept < count_files (map entry_of entries.now))
+        (count_files (map entry_of entries.now) ≤ kept) }
 {
     let mut left = kept;
     for place in 0..entries.len() {

@@ -117,7 +117,7 @@ impl Recorder {
         if self.files == 0 {
             return Ok(());
         }
-        for _ in 0..ROUNDS {
+        for _round in 0..ROUNDS {
             if !self.drop_oldest(alloc, fs)? {
                 return Ok(());
             }

@@ -1,7 +1,7 @@
 use Rattle.std.proofs.Common.{◌≡◌, ◌+◌, sym, ◌∙◌, true, false, arith, drop, map}
 use Rattle.lfs_fs.specs.Answers.{entry_of}
 use Rattle.lfs_record.specs.Files.{count_files}
-use Rattle.lfs_record.proofs.Scanning.{count_step}
+use Rattle.lfs_record.proofs.Scanning.{count_end, count_step}
 use Rattle.lfs_record.proofs.files.are_more.Goals.{else-is_recorded, then-is_recorded+else-left-eq0}
 use Rattle.lfs_record.proofs.files.are_more.Goals as goal
 
@@ -14,6 +14,12 @@ returns-then-left-eq0 c =
     let so = c.loop-place.invariant in
     let none = c.if-left-eq0.true in
     omega (arith, at, so, none)
+
+pub returns : goal.returns
+returns c =
+    let none = count_end c.args.entries.now c.loop-place.place c.loop-place-test.false in
+    let so = c.loop-place.invariant in
+    omega (arith, none, so)
 
 pub loop-place-preserved : goal.loop-place-preserved
 loop-place-preserved c =

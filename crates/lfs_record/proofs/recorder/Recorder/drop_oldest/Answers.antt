@@ -1,4 +1,4 @@
-use Rattle.std.proofs.Common.{◌≡◌, ◌<◌, ℕ, List, Some, Ok, Err, map, subst}
+use Rattle.std.proofs.Common.{◌≡◌, ◌<◌, ℕ, List, Some, Ok, Err, map, subst, ◌≤◌, None, inl, inr}
 use Rattle.std.proofs.lemmas.Result.{err_from_is_err_and}
 use Rattle.lfs_fs.specs.Answers.{entry_of}
 use Rattle.lfs_fs.specs.Seen.{seen}
@@ -16,10 +16,14 @@ returns-in_err-entries g c =
 pub returns-then-not-are_more : goal.returns-then-not-are_more
 returns-then-not-are_more g c =
     none_dropped g.D.SectorDevice.state _ _ c.args.self.now (map entry_of c.in_ok-entries.entries.items) c.in_ok-entries.ensures
+    (inl (subst (λ (l : List ListedEntry). count_files (map entry_of l) ≤ c.args.self.now.files) c.as_slice.ensures.value
+    c.if-not-are_more.ensures))
 
 pub returns-in_default : goal.returns-in_default
 returns-in_default g c =
     none_dropped g.D.SectorDevice.state _ _ c.args.self.now (map entry_of c.in_ok-entries.entries.items) c.in_ok-entries.ensures
+    (inr (subst (λ (l : List ListedEntry). oldest c.args.self.now.number (map entry_of l) ≡ None) c.as_slice-2.ensures.value
+    c.in_default.ensures))
 
 pub returns-in-Ok : goal.returns-in-Ok
 returns-in-Ok g c =
