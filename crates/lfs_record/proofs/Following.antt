@@ -1,13 +1,9 @@
 -- A recorder that began on a volume that is saved goes by its state.
-use Rattle.std.proofs.Common.{◌≡◌, ℕ, true, false, Bool, IsTrue, List, [], ◌∷◌, Option, Some, None, Ok, map, refl, sym, ap, ◌∙◌, subst}
-use Rattle.std.specs.Prelude.{slice_get}
+use Rattle.std.proofs.Common.{◌≡◌, ℕ, true, false, Bool, IsTrue, List, [], ◌∷◌, Option, map, refl, sym, ap, ◌∙◌, subst}
 use Rattle.std.specs.List.{AllByRecursion}
 use Rattle.std.proofs.lemmas.Bool.{false≢true}
 use Rattle.lfs_model.specs.Call.{Answer, Call, is_ok}
-use Rattle.lfs_model.specs.Content.{Content}
 use Rattle.lfs_model.specs.Device.{DeviceState}
-use Rattle.lfs_model.specs.Refusal.{Halted}
-use Rattle.lfs_model.specs.Call.{Refuse}
 use Rattle.lfs_model.specs.Run.{Answers, Point, Run, final}
 use Rattle.lfs_model.specs.Tree.{State, drop_nameless}
 use Rattle.lfs_model.specs.TreeOf.{Stands}
