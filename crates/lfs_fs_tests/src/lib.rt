@@ -14,6 +14,10 @@ mod long_names;
 #[cfg(test)]
 mod path;
 #[cfg(test)]
+mod record;
+#[cfg(test)]
+mod record_stops;
+#[cfg(test)]
 mod remaking;
 #[cfg(test)]
 mod steps;

@@ -28,7 +28,7 @@ abbrev pub bytes_of : Tree → ℕ → Option (List ℕ)
 bytes_of t n = bytes_in (node t n)
 
 -- what is listed as a file has bytes
-file_has : (x : Option Node) → x ≢ None → is_file (kind_of (unwrap_or x (File []))) ≡ true → (b : List ℕ) × (bytes_in x ≡ Some b)
+pub file_has : (x : Option Node) → x ≢ None → is_file (kind_of (unwrap_or x (File []))) ≡ true → (b : List ℕ) × (bytes_in x ≡ Some b)
 file_has None some is = absurd (some refl)
 file_has (Some (File b)) some is = (b, refl)
 file_has (Some (Dir form m)) some is = absurd (false≢true is)

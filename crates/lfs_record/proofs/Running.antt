@@ -44,7 +44,7 @@ text_bytes : (line : List ℕ) → AreBytes line → AreBytes (text_of line)
 text_bytes [] bytes = (omega arith, tt)
 text_bytes (b ∷ line) bytes = (bytes.0, text_bytes line bytes.1)
 
-no_text : (texts : List (List ℕ)) (a : Answer) (h : ℕ) → more_texts texts a (Close h) ≡ texts
+pub no_text : (texts : List (List ℕ)) (a : Answer) (h : ℕ) → more_texts texts a (Close h) ≡ texts
 no_text texts (Refuse r) h = refl
 no_text texts Done h = refl
 no_text texts (Handle n) h = refl

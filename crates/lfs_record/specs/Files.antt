@@ -1,5 +1,5 @@
 -- Which entries of the root are a recorder's.
-use Rattle.std.specs.Prelude.{ℕ, ◌&&◌, Bool, true, false, List, Option, nat_lt, count_by}
+use Rattle.std.specs.Prelude.{ℕ, ◌&&◌, Bool, true, false, cond, List, [], ◌∷◌, Option, Some, None, nat_lt, count_by}
 use Rattle.std.specs.List.{find}
 use Rattle.lfs_model.specs.Call.{DirectoryEntry}
 use Rattle.lfs_model.specs.declared.Kind.{Kind}
@@ -28,3 +28,13 @@ count_files = count_by is_recorded
 -- numbers
 abbrev pub oldest : ℕ → List DirectoryEntry → Option DirectoryEntry
 oldest number = find (is_older number)
+
+-- the last of these, or this entry where it has a name of a recorder's
+abbrev pub or_this : Option DirectoryEntry → DirectoryEntry → Option DirectoryEntry
+or_this (Some entry) this = Some entry
+or_this None this = cond (is_name this.name) (Some this) None
+
+-- the newest entry that has a name of a recorder's
+abbrev pub newest : List DirectoryEntry → Option DirectoryEntry
+newest [] = None
+newest (entry ∷ entries) = or_this (newest entries) entry

@@ -1,8 +1,9 @@
 //! What a recorder's calls come to, as laws: each is the contract of a function that does nothing.
 ghost use Rattle.lfs_record.specs.Keeping.{LinesAreKept};
 ghost use Rattle.lfs_record.specs.Kept.{HoldsAllElse};
-ghost use Rattle.lfs_record.specs.Saving.{LinesAreSaved};
 ghost use Rattle.lfs_record.specs.Names.{NamesAreNumbered, NamesAreOrdered};
+ghost use Rattle.lfs_record.specs.Recording.{CallsAreJoined};
+ghost use Rattle.lfs_record.specs.Saving.{BeginsAreSaved, LinesAreSaved, SessionsAreSaved};
 
 use lfs_device::SectorDevice;
 use lfs_fs::laws::calls_are_kept;
@@ -36,3 +37,24 @@ pub fn lines_are_saved<D: SectorDevice>()
 {
     calls_are_kept::<D>();
 }
+
+/// A recorder that begins on a volume that is saved, over a device that keeps the device model: the
+/// volume is saved still, with the same files, and the recorder goes by its state.
+pub fn begins_are_saved<D: SectorDevice>()
+    ensures { BeginsAreSaved D.SectorDevice.state }
+{
+    calls_are_kept::<D>();
+}
+
+/// And a stop at any moment since a call of such a recorder was answered leaves all lines that were
+/// saved by then, behind what the files held before it began, but for whole files that went.
+pub fn sessions_are_saved<D: SectorDevice>()
+    ensures { SessionsAreSaved D.SectorDevice.state }
+{
+    calls_are_kept::<D>();
+}
+
+/// Lines and saves, one after the other, are one row of a recorder's calls.
+pub fn calls_are_joined<D: SectorDevice>()
+    ensures { CallsAreJoined D.SectorDevice.state }
+{}
