@@ -158,7 +158,7 @@ pub fn run<R: Read, W: Write, D: SectorDevice>(
     let mut reads = ReadCount::new();
     let mut writes = WriteCount::new();
     let mut glances = Glances::<D, W>::new();
-    let end = run_noted(
+    match run_noted(
         alloc,
         false,
         reader,
@@ -167,8 +167,7 @@ pub fn run<R: Read, W: Write, D: SectorDevice>(
         &mut writes,
         &mut glances,
         fs,
-    );
-    match end {
+    ) {
         StrictEnd::Script(end) => end,
         StrictEnd::Refused => unreachable!(),
     }
