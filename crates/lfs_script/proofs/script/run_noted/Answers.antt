@@ -45,8 +45,8 @@ loop-count-preserved g c =
           c.loop-count.invariant.1)
           c.next_line.ensures.plain
           (line_ended _ _ c.next_line.new.line.items c.in-Ok-Newline.field-0-is c.in-Ok-Newline.ensures.bytes)
-          (turns_of g.D.SectorDevice.state c.args.strict None _ _ _ _ c.loop-count.count c.as_slice.ensures.value
-          c.in_default-turn.ensures.turns) (glances_of g.D.SectorDevice.state _ _ _ _ c.as_slice.ensures.value
+          (turns_of g.D.SectorDevice.state c.args.strict None _ _ _ _ c.loop-count.count c.as_slice-text.ensures.value
+          c.in_default-turn.ensures.turns) (glances_of g.D.SectorDevice.state _ _ _ _ c.as_slice-text.ensures.value
           c.turn.ensures.glances),
       ahead_more c.loop-count.invariant.1.texts c.next_line.new.line.items _ _ _ c.in-Ok-Newline.field-0-is c.loop-count.invariant.2
           c.in-Ok-Newline.ensures.ahead,
@@ -65,9 +65,9 @@ returns-in-Some-clause-ends g c =
     c.loop-count.invariant.1)
     c.next_line.ensures.plain
     (line_ended _ _ c.next_line.new.line.items c.in-Ok-Newline.field-0-is c.in-Ok-Newline.ensures.bytes)
-    (turns_of g.D.SectorDevice.state c.args.strict (Some c.in-Some.end) _ _ _ _ _ c.as_slice.ensures.value
+    (turns_of g.D.SectorDevice.state c.args.strict (Some c.in-Some.end) _ _ _ _ _ c.as_slice-text.ensures.value
     c.in-Some.ensures.turns)
-    (glances_of g.D.SectorDevice.state _ _ _ _ c.as_slice.ensures.value c.turn.ensures.glances)
+    (glances_of g.D.SectorDevice.state _ _ _ _ c.as_slice-text.ensures.value c.turn.ensures.glances)
 
 pub returns-in-Ok-Input-clause-ends : goal.returns-in-Ok-Input-clause-ends
 returns-in-Ok-Input-clause-ends g c =
@@ -81,7 +81,7 @@ returns-in-Ok-Input-clause-ends g c =
     c.next_line.ensures.plain
     (line_ended _ _ c.next_line.new.line.items c.in-Ok-Input.field-0-is c.in-Ok-Input.ensures.bytes) (c.next_line.ensures.end ended)
     (finishes_of g.D.SectorDevice.state c.args.strict c.finish.result _ _ _ _ c.loop-count.count _ _
-    c.as_slice-in-Ok-Input.ensures.value c.finish.ensures.finishes)
+    c.as_slice-text-in-Ok-Input.ensures.value c.finish.ensures.finishes)
 
 pub returns-in-Ok-TooLong-clause-ends : goal.returns-in-Ok-TooLong-clause-ends
 returns-in-Ok-TooLong-clause-ends g c =
@@ -173,9 +173,9 @@ returns-in-Some-clause-heard g c =
     c.loop-count.invariant.1)
     c.loop-count.invariant.4 c.next_line.ensures.plain
     (heard_ended _ _ c.next_line.new.line.items c.in-Ok-Newline.field-0-is c.in-Ok-Newline.ensures.heard) c.turn.ensures.unheard
-    (turns_of g.D.SectorDevice.state c.args.strict (Some c.in-Some.end) _ _ _ _ _ c.as_slice.ensures.value
+    (turns_of g.D.SectorDevice.state c.args.strict (Some c.in-Some.end) _ _ _ _ _ c.as_slice-text.ensures.value
     c.in-Some.ensures.turns)
-    (glances_of g.D.SectorDevice.state _ _ _ _ c.as_slice.ensures.value c.turn.ensures.glances)
+    (glances_of g.D.SectorDevice.state _ _ _ _ c.as_slice-text.ensures.value c.turn.ensures.glances)
 
 pub returns-in-Ok-Input-clause-heard : goal.returns-in-Ok-Input-clause-heard
 unfolding so_far_flushed
@@ -192,7 +192,7 @@ returns-in-Ok-Input-clause-heard g c =
     (heard_ended _ _ c.next_line.new.line.items c.in-Ok-Input.field-0-is c.in-Ok-Input.ensures.heard) (c.next_line.ensures.heard_end ended)
     c.finish.ensures.unheard
     (finishes_of g.D.SectorDevice.state c.args.strict c.finish.result _ _ _ _ c.loop-count.count _ _
-    c.as_slice-in-Ok-Input.ensures.value c.finish.ensures.finishes)
+    c.as_slice-text-in-Ok-Input.ensures.value c.finish.ensures.finishes)
 
 pub returns-in-Ok-TooLong-clause-heard : goal.returns-in-Ok-TooLong-clause-heard
 unfolding so_far_flushed
