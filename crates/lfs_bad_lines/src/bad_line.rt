@@ -1,6 +1,7 @@
 //! Why a line of a script is bad, for people.
 use lfs_lines::Command;
 use lfs_model::limits::LONGEST_LINE;
+use lfs_streams::WriteCount;
 use lfs_words::{
     Stopped, WordFault, Words, put_escaped, put_number, read_escaped, read_hex, read_u8, read_u32,
     read_u64,
@@ -165,7 +166,7 @@ fn put<W: Write>(output: &mut W, bytes: &[u8]) -> Result<(), Stopped> {
 // Writes a number behind a text.
 fn put_count<W: Write>(output: &mut W, text: &[u8], number: u64) -> Result<(), Stopped> {
     put(output, text)?;
-    put_number(output, number)
+    put_number(output, &mut WriteCount::new(), number)
 }
 
 /// The most bytes that are shown of a word.
@@ -174,7 +175,8 @@ const LONGEST_SHOWN: usize = 40;
 // Writes the beginning of a word as a word of scripts, in quotes.
 fn put_shown<W: Write>(output: &mut W, word: &[u8]) -> Result<(), Stopped> {
     put(output, b"'")?;
-    put_escaped(output, &word[..word.len().min(LONGEST_SHOWN)])?;
+    let shown = &word[..word.len().min(LONGEST_SHOWN)];
+    put_escaped(output, &mut WriteCount::new(), shown)?;
     if word.len() > LONGEST_SHOWN {
         put(output, b"..")?;
     }

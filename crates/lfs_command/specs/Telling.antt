@@ -1,5 +1,5 @@
 -- How a command ends that ran a script on a device, by the end of the script or of the mount. The command line is an own choice.
-use Rattle.std.specs.Prelude.{◌≡◌, ◌⊎◌, ℕ, List, Option, Result, Ok, Err, alloc_error}
+use Rattle.std.specs.Prelude.{◌≡◌, ◌⊎◌, ℕ, suc, List, Option, Result, Ok, Err, alloc_error}
 use Rattle.lfs_fs.specs.log.verify.declared.fault.MountFault.{MountFault}
 use Rattle.lfs_host.specs.Refusals.{refusal_of_mount}
 use Rattle.lfs_host.specs.declared.fault.Ending.{Ending}
@@ -44,3 +44,8 @@ IsToldUnmounted refused told = (told ≡ Ok (ending.Refused (refusal_of_mount re
 -- where people are told that the input can't be read, the run couldn't read on
 abbrev pub TellsInput : {X : Type 0} → Result X Fault → ℕ → ℕ → Option (List ℕ) → Option (List ℕ) → Type 0
 TellsInput told failures failures' r r' = told ≡ Err fault.Input → ReadsTo (strict.Script script.Read) failures failures' r r'
+
+-- From so many writes of replies that failed, or took nothing, to so many: none more did. Or one did, and people are told that the output
+-- can't be written.
+abbrev pub TellsOutput : {X : Type 0} → Result X Fault → ℕ → ℕ → Type 0
+TellsOutput told failures failures' = (failures' ≡ failures) ⊎ ((failures' ≡ suc failures) × (told ≡ Err fault.Output))

@@ -8,7 +8,7 @@ ghost use Rattle.lfs_volume.specs.Standing.{in_volume};
 ghost use Rattle.lfs_fs.specs.log.Mounting.{HasWholeUnits};
 ghost use Rattle.lfs_script.specs.Heard.{HearsTo};
 ghost use Rattle.lfs_command.specs.Playing.{PlaysToRefusal, Plays, PlaysStrictly, TellsSaved};
-ghost use Rattle.lfs_command.specs.Telling.{IsTold, IsToldPlainly, IsToldStrictly, TellsInput, outcome_of};
+ghost use Rattle.lfs_command.specs.Telling.{IsTold, IsToldPlainly, IsToldStrictly, TellsInput, TellsOutput, outcome_of};
 
 use crate::asked::{fault_of, left_of, look_of, patience_of};
 use crate::changing::change_volume;
@@ -29,8 +29,8 @@ use lfs_host::making::mkfs;
 use lfs_host::printing::{flush, print, put, put_count, refuse};
 use lfs_recover::{Recovery, explain, recover};
 use lfs_script::{
-    CountedWriter, CountsReads, Glances, ReadCount, Recorded, ScriptEnd, StrictEnd, Witness,
-    use_and_stop_noted, use_volume_noted,
+    CountedWriter, CountsReads, CountsWrites, Glances, ReadCount, Recorded, ScriptEnd, StrictEnd,
+    Witness, WriteCount, use_and_stop_noted, use_volume_noted,
 };
 use lfs_show::looking::{Look, end_look, show};
 use lfs_show::viewing::look;
@@ -126,20 +126,29 @@ fn end_plain<W: Write>(end: StrictEnd, output: &mut W) -> Result<Ending, Fault>
 
 // Runs a script on the volume of a device. Where it can't be mounted its line is printed, and the
 // ending is `Refused`, which no script has.
-fn play<D: SectorDevice, I: Read, W: Write, S: Witness<D, W>, C: CountsReads<I>>(
+fn play<
+    D: SectorDevice,
+    I: Read,
+    W: Write,
+    S: Witness<D, W>,
+    C: CountsReads<I>,
+    K: CountsWrites<W>,
+>(
     alloc: Global,
     device: D,
     input: &mut I,
-    counter: &mut C,
+    reads: &mut C,
     output: &mut W,
+    writes: &mut K,
     witness: &mut S,
 ) -> (Played<Ending>, D)
     requires { HasWholeUnits (D.state device) }
     ensures plays { Plays result.0.end (I.remaining input.old) (I.remaining input.new)
         (W.contents output.old) (W.contents output.new) (D.state device)
         (D.state result.1) (S.glances witness.old) (S.glances witness.new) }
-    ensures reads { TellsInput result.0.end (C.failures counter.old) (C.failures counter.new)
+    ensures reads { TellsInput result.0.end (C.failures reads.old) (C.failures reads.new)
         (I.remaining input.old) (I.remaining input.new) }
+    ensures writes { TellsOutput result.0.end (K.failures writes.old) (K.failures writes.new) }
     ensures saved { TellsSaved result.0.is_saved false (I.remaining input.old)
         (I.remaining input.new) (W.contents output.old) (D.state device)
         (D.state result.1) (S.glances witness.old) (S.glances witness.new) }
@@ -147,13 +156,13 @@ fn play<D: SectorDevice, I: Read, W: Write, S: Witness<D, W>, C: CountsReads<I>>
         Plays result.0.end r r' (W.contents output.old) (W.contents output.new)
         (D.state device) (D.state result.1)
         (S.glances witness.old) (S.glances witness.new)
-        × TellsInput result.0.end (C.failures counter.old) (C.failures counter.new) r r'
+        × TellsInput result.0.end (C.failures reads.old) (C.failures reads.new) r r'
         × TellsSaved result.0.is_saved false r r' (W.contents output.old)
         (D.state device) (D.state result.1)
         (S.glances witness.old) (S.glances witness.new)) }
     ensures carries { Carries (D.state device) (D.state result.1) }
 {
-    match use_volume_noted(alloc, false, input, counter, output, witness, device) {
+    match use_volume_noted(alloc, false, input, reads, output, writes, witness, device) {
         (Ok(used), device) => {
             let end = end_plain(used.script, output);
             let is_saved = used.is_saved;
@@ -206,9 +215,18 @@ fn run<Here: World, R: Files<File = File> + Clock, I: Read, W: Write>(
     match image::open_to_write::<Here, R>(rt, alloc, image) {
         Ok(device) => match find_volume(device) {
             Ok(found) => {
-                let mut count = ReadCount::new();
+                let mut reads = ReadCount::new();
+                let mut writes = WriteCount::new();
                 let mut glances = Glances::new();
-                let (played, used) = play(alloc, found, input, &mut count, output, &mut glances);
+                let (played, used) = play(
+                    alloc,
+                    found,
+                    input,
+                    &mut reads,
+                    output,
+                    &mut writes,
+                    &mut glances,
+                );
                 let mut device = used.into_inner();
                 Played {
                     end: explain_ending(played.end, &mut device),
@@ -254,12 +272,20 @@ fn end_strict<W: Write>(end: StrictEnd, output: &mut W) -> Result<Outcome, Fault
 }
 
 // As `play`, by a strict run of the script.
-fn play_strict<D: SectorDevice, I: Read, W: Write, S: Witness<D, W>, C: CountsReads<I>>(
+fn play_strict<
+    D: SectorDevice,
+    I: Read,
+    W: Write,
+    S: Witness<D, W>,
+    C: CountsReads<I>,
+    K: CountsWrites<W>,
+>(
     alloc: Global,
     device: D,
     input: &mut I,
-    counter: &mut C,
+    reads: &mut C,
     output: &mut W,
+    writes: &mut K,
     witness: &mut S,
 ) -> (Played<Outcome>, D)
     requires { HasWholeUnits (D.state device) }
@@ -271,8 +297,9 @@ fn play_strict<D: SectorDevice, I: Read, W: Write, S: Witness<D, W>, C: CountsRe
         (W.contents output.new) (D.state device) (D.state result.1)
         (S.glances witness.old)
         (S.glances witness.new) }
-    ensures reads { TellsInput result.0.end (C.failures counter.old) (C.failures counter.new)
+    ensures reads { TellsInput result.0.end (C.failures reads.old) (C.failures reads.new)
         (I.remaining input.old) (I.remaining input.new) }
+    ensures writes { TellsOutput result.0.end (K.failures writes.old) (K.failures writes.new) }
     ensures saved { TellsSaved result.0.is_saved true (I.remaining input.old)
         (I.remaining input.new) (W.contents output.old) (D.state device)
         (D.state result.1) (S.glances witness.old) (S.glances witness.new) }
@@ -280,13 +307,13 @@ fn play_strict<D: SectorDevice, I: Read, W: Write, S: Witness<D, W>, C: CountsRe
         PlaysStrictly result.0.end r r' (W.contents output.old) (W.contents output.new)
         (D.state device) (D.state result.1)
         (S.glances witness.old) (S.glances witness.new)
-        × TellsInput result.0.end (C.failures counter.old) (C.failures counter.new) r r'
+        × TellsInput result.0.end (C.failures reads.old) (C.failures reads.new) r r'
         × TellsSaved result.0.is_saved true r r' (W.contents output.old)
         (D.state device) (D.state result.1)
         (S.glances witness.old) (S.glances witness.new)) }
     ensures carries { Carries (D.state device) (D.state result.1) }
 {
-    match use_volume_noted(alloc, true, input, counter, output, witness, device) {
+    match use_volume_noted(alloc, true, input, reads, output, writes, witness, device) {
         (Ok(used), device) => {
             let end = end_strict(used.script, output);
             let is_saved = used.is_saved;
@@ -310,14 +337,16 @@ fn run_strict<Here: World, R: Files<File = File> + Clock, I: Read, W: Write>(
     match image::open_to_write::<Here, R>(rt, alloc, image) {
         Ok(device) => match find_volume(device) {
             Ok(found) => {
-                let mut count = ReadCount::new();
+                let mut reads = ReadCount::new();
+                let mut writes = WriteCount::new();
                 let mut glances = Glances::new();
                 let (played, used) = play_strict(
                     alloc,
                     found,
                     input,
-                    &mut count,
+                    &mut reads,
                     output,
+                    &mut writes,
                     &mut glances,
                 );
                 let mut device = used.into_inner();
@@ -342,13 +371,20 @@ fn run_strict<Here: World, R: Files<File = File> + Clock, I: Read, W: Write>(
 }
 
 // As `play` on a device in memory, which stops then.
-fn play_and_stop<I: Read, W: Write, S: Witness<InVolume<MemDevice>, W>, C: CountsReads<I>>(
+fn play_and_stop<
+    I: Read,
+    W: Write,
+    S: Witness<InVolume<MemDevice>, W>,
+    C: CountsReads<I>,
+    K: CountsWrites<W>,
+>(
     alloc: Global,
     device: MemDevice,
     left: Left,
     input: &mut I,
-    counter: &mut C,
+    reads: &mut C,
     output: &mut W,
+    writes: &mut K,
     witness: &mut S,
 ) -> (Result<Ending, Fault>, MemDevice)
     ensures plays { Plays result.0 (I.remaining input.old) (I.remaining input.new)
@@ -356,17 +392,20 @@ fn play_and_stop<I: Read, W: Write, S: Witness<InVolume<MemDevice>, W>, C: Count
         (W.contents output.new)
         (in_volume device_state device device) (in_volume device_state device result.1)
         (S.glances witness.old) (S.glances witness.new) }
-    ensures reads { TellsInput result.0 (C.failures counter.old) (C.failures counter.new)
+    ensures reads { TellsInput result.0 (C.failures reads.old) (C.failures reads.new)
         (I.remaining input.old) (I.remaining input.new) }
+    ensures writes { TellsOutput result.0 (K.failures writes.old) (K.failures writes.new) }
     ensures heard { HearsTo (S.heard witness.old) (S.heard witness.new) (λ r r'.
         Plays result.0 r r' (W.contents output.old) (W.contents output.new)
         (in_volume device_state device device) (in_volume device_state device result.1)
         (S.glances witness.old) (S.glances witness.new)
-        × TellsInput result.0 (C.failures counter.old) (C.failures counter.new) r r') }
+        × TellsInput result.0 (C.failures reads.old) (C.failures reads.new) r r') }
     ensures carries { Carries (in_volume device_state device device)
         (in_volume device_state device result.1) }
 {
-    match use_and_stop_noted(alloc, false, input, counter, output, witness, device, left) {
+    match use_and_stop_noted(
+        alloc, false, input, reads, output, writes, witness, device, left,
+    ) {
         (Ok(end), device) => (end_plain(end, output), device),
         (Err(fault), device) => (refuse(output, Refusal::from(fault)), device),
     }
@@ -419,15 +458,17 @@ fn sim<I: Read, W: Write>(
         Ok(device) => device,
         Err(refusal) => return refuse(output, refusal),
     };
-    let mut count = ReadCount::new();
+    let mut reads = ReadCount::new();
+    let mut writes = WriteCount::new();
     let mut glances = Glances::new();
     let (played, device) = play_and_stop(
         alloc,
         device,
         plan.left,
         input,
-        &mut count,
+        &mut reads,
         output,
+        &mut writes,
         &mut glances,
     );
     match played? {

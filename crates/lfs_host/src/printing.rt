@@ -3,6 +3,7 @@ ghost use Rattle.std.specs.Prelude.{◌≡◌, ◌⊎◌, Err, Ok};
 ghost use Rattle.std.specs.Io.KnownBytes.{Keeps};
 
 use crate::fault::{Ending, Fault, Refusal};
+use lfs_streams::WriteCount;
 use lfs_words::{put_escaped, put_number};
 use std::io::Write;
 
@@ -25,7 +26,7 @@ pub fn put<W: Write>(output: &mut W, bytes: &[u8]) -> Result<(), Fault> {
 /// Writes a number behind a text, in decimal digits.
 pub fn put_count<W: Write>(output: &mut W, text: &[u8], number: u64) -> Result<(), Fault> {
     put(output, text)?;
-    let Ok(()) = put_number(output, number) else {
+    let Ok(()) = put_number(output, &mut WriteCount::new(), number) else {
         return Err(Fault::Output);
     };
     Ok(())
@@ -47,7 +48,7 @@ pub fn print_copied<W: Write>(output: &mut W, bytes: u64) -> Result<(), Fault> {
 
 /// Writes bytes as a word of scripts.
 pub fn put_word<W: Write>(output: &mut W, bytes: &[u8]) -> Result<(), Fault> {
-    let Ok(()) = put_escaped(output, bytes) else {
+    let Ok(()) = put_escaped(output, &mut WriteCount::new(), bytes) else {
         return Err(Fault::Output);
     };
     Ok(())

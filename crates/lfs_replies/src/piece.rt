@@ -3,6 +3,7 @@ ghost use Rattle.std.specs.Prelude.{◌≡◌, flat_map};
 ghost use Rattle.lfs_words.specs.Bytes.{Puts};
 ghost use Rattle.lfs_replies.specs.Pieces.{piece_text};
 
+use lfs_streams::CountsWrites;
 use lfs_words::{Stopped, put, put_escaped, put_hex, put_number};
 use std::io::Write;
 
@@ -18,24 +19,34 @@ pub enum Piece<'a> {
     Escaped(&'a [u8]),
 }
 
-fn put_piece<W: Write>(writer: &mut W, piece: Piece<'_>) -> Result<(), Stopped>
-    ensures { Puts (W.contents writer.old) (W.contents writer.new) (piece_text piece.entry) result }
+fn put_piece<W: Write, C: CountsWrites<W>>(
+    writer: &mut W,
+    counter: &mut C,
+    piece: Piece<'_>,
+) -> Result<(), Stopped>
+    ensures { Puts (W.contents writer.old) (W.contents writer.new)
+        (C.failures counter.old) (C.failures counter.new) (piece_text piece.entry) result }
 {
     match piece {
-        Piece::Text(text) => put(writer, text),
-        Piece::Number(number) => put_number(writer, number),
-        Piece::Hex(bytes) => put_hex(writer, bytes),
-        Piece::Escaped(bytes) => put_escaped(writer, bytes),
+        Piece::Text(text) => put(writer, counter, text),
+        Piece::Number(number) => put_number(writer, counter, number),
+        Piece::Hex(bytes) => put_hex(writer, counter, bytes),
+        Piece::Escaped(bytes) => put_escaped(writer, counter, bytes),
     }
 }
 
 /// Writes the pieces one after the other. After an error a beginning of them went out.
-pub fn put_all<W: Write>(writer: &mut W, pieces: &[Piece<'_>]) -> Result<(), Stopped>
+pub fn put_all<W: Write, C: CountsWrites<W>>(
+    writer: &mut W,
+    counter: &mut C,
+    pieces: &[Piece<'_>],
+) -> Result<(), Stopped>
     ensures { Puts (W.contents writer.old) (W.contents writer.new)
+        (C.failures counter.old) (C.failures counter.new)
         (flat_map piece_text pieces.now) result }
 {
     for piece in pieces {
-        put_piece(writer, *piece)?;
+        put_piece(writer, counter, *piece)?;
     }
     Ok(())
 }

@@ -10,6 +10,7 @@ use crate::answer::Answer;
 use crate::piece::{Piece, put_all};
 use lfs_fs::{Entry, FsError, Space, Stat, TreeRow};
 use lfs_model::Kind;
+use lfs_streams::CountsWrites;
 use lfs_words::Stopped;
 use std::io::Write;
 
@@ -38,12 +39,18 @@ fn head_of(row: &TreeRow) -> Piece<'_>
     }
 }
 
-fn put_row<W: Write>(writer: &mut W, row: &TreeRow) -> Result<(), Stopped>
+fn put_row<W: Write, C: CountsWrites<W>>(
+    writer: &mut W,
+    counter: &mut C,
+    row: &TreeRow,
+) -> Result<(), Stopped>
     ensures { Puts (W.contents writer.old) (W.contents writer.new)
+        (C.failures counter.old) (C.failures counter.new)
         (row_line (row_of row.now)) result }
 {
     put_all(
         writer,
+        counter,
         &[
             Piece::Number(u64::from(row.directory)),
             SPACE,
@@ -63,24 +70,35 @@ fn put_row<W: Write>(writer: &mut W, row: &TreeRow) -> Result<(), Stopped>
     )
 }
 
-fn put_tree<W: Write>(writer: &mut W, rows: &[TreeRow]) -> Result<(), Stopped>
+fn put_tree<W: Write, C: CountsWrites<W>>(
+    writer: &mut W,
+    counter: &mut C,
+    rows: &[TreeRow],
+) -> Result<(), Stopped>
     ensures { Puts (W.contents writer.old) (W.contents writer.new)
+        (C.failures counter.old) (C.failures counter.new)
         (ok (decimal (length rows.now) ∷ []) ++ flat_map (λ row. row_line (row_of row)) rows.now)
         result }
 {
-    put_number_line(writer, rows.len() as u64)?;
+    put_number_line(writer, counter, rows.len() as u64)?;
     for row in rows {
-        put_row(writer, row)?;
+        put_row(writer, counter, row)?;
     }
     Ok(())
 }
 
-fn put_entry<W: Write>(writer: &mut W, entry: &Entry) -> Result<(), Stopped>
+fn put_entry<W: Write, C: CountsWrites<W>>(
+    writer: &mut W,
+    counter: &mut C,
+    entry: &Entry,
+) -> Result<(), Stopped>
     ensures { Puts (W.contents writer.old) (W.contents writer.new)
+        (C.failures counter.old) (C.failures counter.new)
         (entry_line (entry_of entry.now)) result }
 {
     put_all(
         writer,
+        counter,
         &[
             Piece::Escaped(entry.name.as_slice()),
             SPACE,
@@ -92,32 +110,52 @@ fn put_entry<W: Write>(writer: &mut W, entry: &Entry) -> Result<(), Stopped>
     )
 }
 
-fn put_entries<W: Write>(writer: &mut W, entries: &[Entry]) -> Result<(), Stopped>
+fn put_entries<W: Write, C: CountsWrites<W>>(
+    writer: &mut W,
+    counter: &mut C,
+    entries: &[Entry],
+) -> Result<(), Stopped>
     ensures { Puts (W.contents writer.old) (W.contents writer.new)
+        (C.failures counter.old) (C.failures counter.new)
         (ok (decimal (length entries.now) ∷ []) ++ flat_map (λ entry. entry_line (entry_of entry))
         entries.now) result }
 {
-    put_number_line(writer, entries.len() as u64)?;
+    put_number_line(writer, counter, entries.len() as u64)?;
     for entry in entries {
-        put_entry(writer, entry)?;
+        put_entry(writer, counter, entry)?;
     }
     Ok(())
 }
 
-fn put_number_line<W: Write>(writer: &mut W, number: u64) -> Result<(), Stopped>
+fn put_number_line<W: Write, C: CountsWrites<W>>(
+    writer: &mut W,
+    counter: &mut C,
+    number: u64,
+) -> Result<(), Stopped>
     ensures { Puts (W.contents writer.old) (W.contents writer.new)
+        (C.failures counter.old) (C.failures counter.new)
         (ok (decimal number ∷ [])) result }
 {
-    put_all(writer, &[Piece::Text(b"ok "), Piece::Number(number), END])
+    put_all(
+        writer,
+        counter,
+        &[Piece::Text(b"ok "), Piece::Number(number), END],
+    )
 }
 
-fn put_stat<W: Write>(writer: &mut W, stat: Stat) -> Result<(), Stopped>
+fn put_stat<W: Write, C: CountsWrites<W>>(
+    writer: &mut W,
+    counter: &mut C,
+    stat: Stat,
+) -> Result<(), Stopped>
     ensures { Puts (W.contents writer.old) (W.contents writer.new)
+        (C.failures counter.old) (C.failures counter.new)
         (ok (decimal stat.number ∷ kind_name stat.kind ∷ decimal stat.links ∷ decimal stat.size ∷
         [])) result }
 {
     put_all(
         writer,
+        counter,
         &[
             Piece::Text(b"ok "),
             Piece::Number(u64::from(stat.number)),
@@ -132,13 +170,19 @@ fn put_stat<W: Write>(writer: &mut W, stat: Stat) -> Result<(), Stopped>
     )
 }
 
-fn put_space<W: Write>(writer: &mut W, space: Space) -> Result<(), Stopped>
+fn put_space<W: Write, C: CountsWrites<W>>(
+    writer: &mut W,
+    counter: &mut C,
+    space: Space,
+) -> Result<(), Stopped>
     ensures { Puts (W.contents writer.old) (W.contents writer.new)
+        (C.failures counter.old) (C.failures counter.new)
         (ok (decimal space.data_blocks ∷ decimal space.meta_blocks ∷ decimal space.need ∷ decimal
         space.limit ∷ [])) result }
 {
     put_all(
         writer,
+        counter,
         &[
             Piece::Text(b"ok "),
             Piece::Number(space.data_blocks),
@@ -154,46 +198,68 @@ fn put_space<W: Write>(writer: &mut W, space: Space) -> Result<(), Stopped>
 }
 
 /// Writes the reply to a bad line of this number.
-pub fn put_bad<W: Write>(writer: &mut W, line: u64) -> Result<(), Stopped>
-    ensures { Puts (W.contents writer.old) (W.contents writer.new) (bad line) result }
+pub fn put_bad<W: Write, C: CountsWrites<W>>(
+    writer: &mut W,
+    counter: &mut C,
+    line: u64,
+) -> Result<(), Stopped>
+    ensures { Puts (W.contents writer.old) (W.contents writer.new)
+        (C.failures counter.old) (C.failures counter.new) (bad line) result }
 {
-    put_all(writer, &[Piece::Text(b"bad "), Piece::Number(line), END])
+    put_all(
+        writer,
+        counter,
+        &[Piece::Text(b"bad "), Piece::Number(line), END],
+    )
 }
 
 // Writes the reply to a call that isn't refused.
-fn put_answer<W: Write>(writer: &mut W, answer: &Answer) -> Result<(), Stopped>
+fn put_answer<W: Write, C: CountsWrites<W>>(
+    writer: &mut W,
+    counter: &mut C,
+    answer: &Answer,
+) -> Result<(), Stopped>
     ensures { Puts (W.contents writer.old) (W.contents writer.new)
+        (C.failures counter.old) (C.failures counter.new)
         (reply (answer_of answer.now)) result }
 {
     match answer {
-        Answer::Done => put_all(writer, &[Piece::Text(b"ok"), END]),
-        Answer::Handle(handle) => put_number_line(writer, u64::from(*handle)),
-        Answer::Count(count) => put_number_line(writer, u64::from(*count)),
+        Answer::Done => put_all(writer, counter, &[Piece::Text(b"ok"), END]),
+        Answer::Handle(handle) => put_number_line(writer, counter, u64::from(*handle)),
+        Answer::Count(count) => put_number_line(writer, counter, u64::from(*count)),
         Answer::Bytes(bytes) => put_all(
             writer,
+            counter,
             &[Piece::Text(b"ok "), Piece::Hex(bytes.as_slice()), END],
         ),
         Answer::Text(text) => put_all(
             writer,
+            counter,
             &[Piece::Text(b"ok "), Piece::Escaped(text.as_slice()), END],
         ),
-        Answer::Stat(stat) => put_stat(writer, *stat),
-        Answer::Entries(entries) => put_entries(writer, entries.as_slice()),
-        Answer::Space(space) => put_space(writer, *space),
-        Answer::Version(version) => put_number_line(writer, u64::from(*version)),
-        Answer::Tree(rows) => put_tree(writer, rows.as_slice()),
+        Answer::Stat(stat) => put_stat(writer, counter, *stat),
+        Answer::Entries(entries) => put_entries(writer, counter, entries.as_slice()),
+        Answer::Space(space) => put_space(writer, counter, *space),
+        Answer::Version(version) => put_number_line(writer, counter, u64::from(*version)),
+        Answer::Tree(rows) => put_tree(writer, counter, rows.as_slice()),
     }
 }
 
 /// Writes the reply, piece by piece. It takes no memory. After an error a beginning of it went out.
-pub fn put_reply<W: Write>(writer: &mut W, answer: &Result<Answer, FsError>) -> Result<(), Stopped>
+pub fn put_reply<W: Write, C: CountsWrites<W>>(
+    writer: &mut W,
+    counter: &mut C,
+    answer: &Result<Answer, FsError>,
+) -> Result<(), Stopped>
     ensures { Puts (W.contents writer.old) (W.contents writer.new)
+        (C.failures counter.old) (C.failures counter.new)
         (reply (result_of answer.now)) result }
 {
     match answer {
-        Ok(answer) => put_answer(writer, answer),
+        Ok(answer) => put_answer(writer, counter, answer),
         Err(refusal) => put_all(
             writer,
+            counter,
             &[
                 Piece::Text(b"err "),
                 Piece::Text(refusal.name().as_bytes()),

@@ -1,6 +1,7 @@
 pub mod ScriptBytes
 pub mod HeardBytes
 pub mod ScriptTurns
+pub mod Writing
 pub mod ScriptHeard
 pub mod Glancing
 pub mod Filling

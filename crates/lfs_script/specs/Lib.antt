@@ -6,9 +6,6 @@ pub mod Running
 pub mod Session
 pub mod OwnUnits
 pub mod Unused
-pub mod Counts
-pub mod Tallies
-pub mod Counted
 pub mod Seen
 pub mod Noted
 pub mod Heard

@@ -1,6 +1,7 @@
 -- Behind which answers a run goes on, and what a run says by its end: a strict
 -- run ends at the first refusal, after its reply. The language is an own choice.
-use Rattle.std.specs.Prelude.{◌≡◌, ◌⊎◌, ◌<◌, ◌≤◌, ◌-◌, ◌^◌, ℕ, length, Bool, true, false, IsTrue, Option, Some, None, List, [], ◌∷◌, ◌++◌}
+use Rattle.std.specs.Prelude.{◌≡◌, ◌⊎◌, ◌<◌, ◌≤◌, ◌-◌, ◌^◌, ℕ, suc, length, Bool, true, false, IsTrue, Option, Some, None, List, [], ◌∷◌}
+use Rattle.std.specs.Prelude.{◌++◌}
 use Rattle.std.specs.List.{AllByRecursion}
 use Rattle.std.specs.Io.KnownBytes.{Appends, Consumes}
 use Rattle.lfs_model.specs.Call.{Answer, is_ok}
@@ -59,6 +60,16 @@ abbrev pub ReadsTo : StrictEnd → ℕ → ℕ → Option (List ℕ) → Option 
 ReadsTo (Script Read) failures failures' r r' = (failures < failures')
     ⊎ ((bytes : List ℕ) × Consumes r r' bytes × (2 ^ 64 - 2 ≤ length bytes))
 ReadsTo end failures failures' r r' = Unit {0}
+
+-- by its end, from so many writes that failed, or took nothing, to so many: one did just where the run ends since it can't write
+abbrev pub WritesTo : StrictEnd → ℕ → ℕ → Type 0
+WritesTo (Script Write) failures failures' = failures' ≡ suc failures
+WritesTo end failures failures' = failures' ≡ failures
+
+-- the same of a run that may go on
+abbrev pub WritesOn : Option StrictEnd → ℕ → ℕ → Type 0
+WritesOn None failures failures' = failures' ≡ failures
+WritesOn (Some end) failures failures' = WritesTo end failures failures'
 
 -- As `Session`, by a strict run of the script.
 pub record StrictSession (end : StrictEnd) (r r' w w' : Option (List ℕ)) (d d' : DeviceState) : Type 0 where

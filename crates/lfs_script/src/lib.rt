@@ -2,8 +2,6 @@
 #![tactic(auto)]
 
 mod answer;
-mod counted;
-mod counting;
 pub mod laws;
 mod line;
 mod noted;
@@ -12,15 +10,15 @@ mod script;
 mod session;
 mod source;
 mod strict;
-mod tally;
 mod transcript;
 mod witness;
 
-pub use counted::{CountedWrite, CountedWriter};
-pub use counting::{CountsReads, ReadCount};
 pub use lfs_fs as fs;
 pub use lfs_lines::{Call, Command, parse};
 pub use lfs_replies::{Answer, put_reply};
+pub use lfs_streams::{
+    CountedWrite, CountedWriter, CountsReads, CountsWrites, ReadCount, WriteCount,
+};
 pub use lfs_words::{
     Stopped, WordFault, put_escaped, put_hex, put_number, read_escaped, read_hex, read_u8,
     read_u32, read_u64,

@@ -5,11 +5,11 @@ ghost use Rattle.lfs_script.specs.Bytes.{ahead};
 ghost use Rattle.lfs_script.specs.Heard.{HearsEnd, UsesHeard};
 ghost use Rattle.lfs_script.specs.LineEnd.{consumed_by_line, OnTooLong};
 
-use crate::counting::CountsReads;
 use crate::source::{ReadError, Source};
 use crate::witness::Witness;
 use lfs_device::SectorDevice;
 use lfs_model::limits::LONGEST_LINE;
+use lfs_streams::CountsReads;
 use std::io::{Read, Write};
 
 /// How a line ended.

@@ -10,15 +10,15 @@ ghost use Rattle.lfs_script.specs.Saved.{SessionSaved};
 ghost use Rattle.lfs_script.specs.Series.{FromAny, texts_of};
 ghost use Rattle.lfs_script.specs.SeriesNoted.{StopsAtMountNoted, UsesInTurnNoted};
 ghost use Rattle.lfs_script.specs.Session.{SessionNoted};
-ghost use Rattle.lfs_script.specs.Strict.{ReadsTo};
+ghost use Rattle.lfs_script.specs.Strict.{ReadsTo, WritesTo};
 ghost use Rattle.lfs_script.specs.Unused.{IsUnused};
 
-use crate::counting::{CountsReads, ReadCount};
 use crate::script::{StrictEnd, run_noted};
 use crate::session::StoppedScript;
 use crate::witness::Witness;
 use lfs_device::{Left, MemDevice, SectorDevice};
 use lfs_fs::{Fs, InVolume, MountFault, find_volume};
+use lfs_streams::{CountsReads, CountsWrites, ReadCount, WriteCount};
 use std::alloc::Global;
 use std::io::{Read, Write};
 
@@ -33,12 +33,20 @@ pub struct UseEnd {
 /// As `use_volume` or `use_volume_strict`, before a witness: a stop at any moment since a reply
 /// went out leaves every call that was acknowledged by then. It tells whether all is saved at the
 /// end. What the witness heard is the script in hindsight, as in `run_noted`.
-pub fn use_volume_noted<R: Read, W: Write, D: SectorDevice, S: Witness<D, W>, C: CountsReads<R>>(
+pub fn use_volume_noted<
+    R: Read,
+    W: Write,
+    D: SectorDevice,
+    S: Witness<D, W>,
+    C: CountsReads<R>,
+    K: CountsWrites<W>,
+>(
     alloc: Global,
     strict: bool,
     reader: &mut R,
-    counter: &mut C,
+    reads: &mut C,
     writer: &mut W,
+    writes: &mut K,
     witness: &mut S,
     device: D,
 ) -> (Result<UseEnd, MountFault>, D)
@@ -51,23 +59,28 @@ pub fn use_volume_noted<R: Read, W: Write, D: SectorDevice, S: Witness<D, W>, C:
         (W.contents writer.new) (D.state device) (D.state result.1)
         (S.glances witness.old)
         (S.glances witness.new)) }
-    ensures reads { IfOk result.0 (λ end. ReadsTo end.script (C.failures counter.old)
-        (C.failures counter.new) (R.remaining reader.old) (R.remaining reader.new)) }
+    ensures reads { IfOk result.0 (λ end. ReadsTo end.script (C.failures reads.old)
+        (C.failures reads.new) (R.remaining reader.old) (R.remaining reader.new)) }
+    ensures writes { IfOk result.0 (λ end. WritesTo end.script (K.failures writes.old)
+        (K.failures writes.new)) }
     ensures heard { IfOk result.0 (λ end. HearsTo (S.heard witness.old) (S.heard witness.new)
         (λ r r'. SessionSaved end.is_saved strict end.script r r' (W.contents writer.old)
         (W.contents writer.new) (D.state device) (D.state result.1)
         (S.glances witness.old) (S.glances witness.new)
-        × ReadsTo end.script (C.failures counter.old) (C.failures counter.new) r r')) }
+        × ReadsTo end.script (C.failures reads.old) (C.failures reads.new) r r')) }
     ensures refused { IfErr result.0 (IsUnused reader.old reader.new writer.old writer.new
         (D.state device) (D.state result.1)) }
     ensures untouched { OnErr result.0 (IsUntouched (D.state device) (D.state result.1)) }
     ensures unseen { OnErr result.0 (witness.new ≡ witness.old) }
+    ensures uncounted { OnErr result.0 ((reads.new ≡ reads.old) × (writes.new ≡ writes.old)) }
     ensures carries { Carries (D.state device) (D.state result.1) }
 {
     match Fs::mount(alloc, device) {
         Ok(fs) => {
             let mut fs = fs;
-            let script = run_noted(alloc, strict, reader, counter, writer, witness, &mut fs);
+            let script = run_noted(
+                alloc, strict, reader, reads, writer, writes, witness, &mut fs,
+            );
             let is_saved = fs.is_saved();
             (Ok(UseEnd { script, is_saved }), fs.into_device())
         }
@@ -77,12 +90,19 @@ pub fn use_volume_noted<R: Read, W: Write, D: SectorDevice, S: Witness<D, W>, C:
 
 /// As `use_volume_noted` on a device in memory, as its volume sees it. It stops then: `left` is what
 /// it leaves of each sector that wasn't synced.
-pub fn use_and_stop_noted<R: Read, W: Write, S: Witness<InVolume<MemDevice>, W>, C: CountsReads<R>>(
+pub fn use_and_stop_noted<
+    R: Read,
+    W: Write,
+    S: Witness<InVolume<MemDevice>, W>,
+    C: CountsReads<R>,
+    K: CountsWrites<W>,
+>(
     alloc: Global,
     strict: bool,
     reader: &mut R,
-    counter: &mut C,
+    reads: &mut C,
     writer: &mut W,
+    writes: &mut K,
     witness: &mut S,
     device: MemDevice,
     left: Left,
@@ -91,16 +111,19 @@ pub fn use_and_stop_noted<R: Read, W: Write, S: Witness<InVolume<MemDevice>, W>,
         (R.remaining reader.new) (W.contents writer.old) (W.contents writer.new)
         (in_volume device_state device device) (in_volume device_state device result.1)
         (S.glances witness.old) (S.glances witness.new)) }
-    ensures reads { IfOk result.0 (λ end. ReadsTo end (C.failures counter.old)
-        (C.failures counter.new) (R.remaining reader.old) (R.remaining reader.new)) }
+    ensures reads { IfOk result.0 (λ end. ReadsTo end (C.failures reads.old)
+        (C.failures reads.new) (R.remaining reader.old) (R.remaining reader.new)) }
+    ensures writes { IfOk result.0 (λ end. WritesTo end (K.failures writes.old)
+        (K.failures writes.new)) }
     ensures heard { IfOk result.0 (λ end. HearsTo (S.heard witness.old) (S.heard witness.new)
         (λ r r'. SessionNoted strict end r r' (W.contents writer.old) (W.contents writer.new)
         (in_volume device_state device device) (in_volume device_state device result.1)
         (S.glances witness.old) (S.glances witness.new)
-        × ReadsTo end (C.failures counter.old) (C.failures counter.new) r r')) }
+        × ReadsTo end (C.failures reads.old) (C.failures reads.new) r r')) }
     ensures refused { IfErr result.0 (IsUnused reader.old reader.new writer.old writer.new
         (in_volume device_state device device) (in_volume device_state device result.1)) }
     ensures unseen { OnErr result.0 (witness.new ≡ witness.old) }
+    ensures uncounted { OnErr result.0 ((reads.new ≡ reads.old) × (writes.new ≡ writes.old)) }
     ensures alone { Only (device_state result.1).content (device_state result.1) }
     ensures apart { OnOk result.0 (StaysApart (device_state device) (device_state result.1)) }
     ensures carries { Carries (in_volume device_state device device)
@@ -109,7 +132,7 @@ pub fn use_and_stop_noted<R: Read, W: Write, S: Witness<InVolume<MemDevice>, W>,
     match find_volume(device) {
         Ok(found) => {
             let (end, used) = use_volume_noted(
-                alloc, strict, reader, counter, writer, witness, found,
+                alloc, strict, reader, reads, writer, writes, witness, found,
             );
             let mut stopped = used.into_inner();
             stopped.crash(left);
@@ -154,6 +177,7 @@ pub fn use_each_noted<W: Write, S: Witness<InVolume<MemDevice>, W>>(
             &mut reader,
             &mut ReadCount::new(),
             writer,
+            &mut WriteCount::new(),
             witness,
             current,
             script.left,

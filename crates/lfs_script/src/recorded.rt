@@ -2,8 +2,8 @@
 ghost use Rattle.std.specs.Prelude.{◌≡◌, []};
 ghost use Rattle.lfs_script.specs.Recorded.{taken_by, writer_of};
 
-use crate::counted::CountedWrite;
 use crate::transcript::Transcript;
+use lfs_streams::CountedWrite;
 use std::io::{Result, Write};
 
 /// A writer, with all the bytes that it took since it was put here. Only clauses see them, and they
@@ -32,7 +32,7 @@ impl<W: CountedWrite> Write for Recorded<W> {
     ghost use Rattle.std.specs.Io.{WritesAtMost};
     ghost use Rattle.std.specs.Io.KnownBytes.{Keeps, WriteAppends};
     ghost use Rattle.lfs_script.specs.Recorded.{taken_by, writer_of};
-    ghost use Rattle.lfs_script.specs.Counts.{CountsWrite};
+    ghost use Rattle.lfs_streams.specs.Counts.{CountsWrite};
 
     ghost contents = { λ r. Some (taken_by r) };
 

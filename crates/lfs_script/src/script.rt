@@ -4,10 +4,9 @@ ghost use Rattle.lfs_fs.specs.Seen.{seen};
 ghost use Rattle.lfs_replies.specs.Answers.{result_of};
 ghost use Rattle.lfs_script.specs.Heard.{HearsTo};
 ghost use Rattle.lfs_script.specs.Running.{AnswersText, Ends, EndsBy, EndsNoted, Finishes, GlancesBeforeReply, RepliesBadLine, Turns};
-ghost use Rattle.lfs_script.specs.Strict.{Follows, ReadsTo};
+ghost use Rattle.lfs_script.specs.Strict.{Follows, ReadsTo, WritesOn, WritesTo};
 
 use crate::answer::make;
-use crate::counting::{CountsReads, ReadCount};
 use crate::line::{LineEnd, next_line};
 use crate::source::Source;
 use crate::witness::{Glances, Witness};
@@ -16,6 +15,7 @@ use lfs_fs::{Fs, FsError};
 use lfs_lines::parse;
 use lfs_model::limits::LONGEST_LINE;
 use lfs_replies::{Answer, put_bad, put_reply};
+use lfs_streams::{CountsReads, CountsWrites, ReadCount, WriteCount};
 use lfs_words::WordFault;
 use std::alloc::Global;
 use std::io::{Read, Write};
@@ -45,10 +45,12 @@ pub enum StrictEnd {
 }
 
 // Says that the line is bad.
-fn refuse<W: Write>(writer: &mut W, line: u64) -> ScriptEnd
-    ensures { RepliesBadLine result (W.contents writer.old) (W.contents writer.new) line }
+fn refuse<W: Write, C: CountsWrites<W>>(writer: &mut W, counter: &mut C, line: u64) -> ScriptEnd
+    ensures replies { RepliesBadLine result (W.contents writer.old) (W.contents writer.new) line }
+    ensures writes { WritesTo (StrictEnd.Script result) (C.failures counter.old)
+        (C.failures counter.new) }
 {
-    match put_bad(writer, line) {
+    match put_bad(writer, counter, line) {
         Ok(()) => ScriptEnd::BadLine(line),
         Err(_) => ScriptEnd::Write,
     }
@@ -83,10 +85,11 @@ fn decide(strict: bool, answer: &Result<Answer, FsError>) -> Option<StrictEnd>
 }
 
 // Makes a line's call and writes its reply. None where the script goes on.
-fn turn<W: Write, D: SectorDevice, S: Witness<D, W>>(
+fn turn<W: Write, D: SectorDevice, S: Witness<D, W>, C: CountsWrites<W>>(
     alloc: Global,
     strict: bool,
     writer: &mut W,
+    counter: &mut C,
     witness: &mut S,
     fs: &mut Fs<D>,
     line: &[u8],
@@ -98,23 +101,25 @@ fn turn<W: Write, D: SectorDevice, S: Witness<D, W>>(
     ensures glances { GlancesBeforeReply D.SectorDevice.state (seen fs.new)
         (W.contents writer.old)
         line.now (S.glances witness.old) (S.glances witness.new) }
+    ensures writes { WritesOn result (C.failures counter.old) (C.failures counter.new) }
     ensures unheard { S.heard witness.new ≡ S.heard witness.old }
 {
     let Some(answer) = answer_line(alloc, fs, line) else {
-        return Some(StrictEnd::Script(refuse(writer, count)));
+        return Some(StrictEnd::Script(refuse(writer, counter, count)));
     };
     witness.glance(fs.device(), writer);
-    match put_reply(writer, &answer) {
+    match put_reply(writer, counter, &answer) {
         Ok(()) => decide(strict, &answer),
         Err(_) => Some(StrictEnd::Script(ScriptEnd::Write)),
     }
 }
 
 // The last line, which may be none.
-fn finish<W: Write, D: SectorDevice, S: Witness<D, W>>(
+fn finish<W: Write, D: SectorDevice, S: Witness<D, W>, C: CountsWrites<W>>(
     alloc: Global,
     strict: bool,
     writer: &mut W,
+    counter: &mut C,
     witness: &mut S,
     fs: &mut Fs<D>,
     line: &[u8],
@@ -125,12 +130,13 @@ fn finish<W: Write, D: SectorDevice, S: Witness<D, W>>(
         (W.contents writer.old)
         (W.contents writer.new) (seen fs.old) (seen fs.new) line.now count (S.glances witness.old)
         (S.glances witness.new) }
+    ensures writes { WritesTo result (C.failures counter.old) (C.failures counter.new) }
     ensures unheard { S.heard witness.new ≡ S.heard witness.old }
 {
     if line.is_empty() {
         return StrictEnd::Script(ScriptEnd::Done);
     }
-    match turn(alloc, strict, writer, witness, fs, line, count) {
+    match turn(alloc, strict, writer, counter, witness, fs, line, count) {
         Some(end) => end,
         None => StrictEnd::Script(ScriptEnd::Done),
     }
@@ -149,9 +155,19 @@ pub fn run<R: Read, W: Write, D: SectorDevice>(
         (R.remaining reader.new)
         (W.contents writer.old) (W.contents writer.new) (seen fs.old) (seen fs.new) }
 {
-    let mut count = ReadCount::new();
+    let mut reads = ReadCount::new();
+    let mut writes = WriteCount::new();
     let mut glances = Glances::<D, W>::new();
-    match run_noted(alloc, false, reader, &mut count, writer, &mut glances, fs) {
+    match run_noted(
+        alloc,
+        false,
+        reader,
+        &mut reads,
+        writer,
+        &mut writes,
+        &mut glances,
+        fs,
+    ) {
         StrictEnd::Script(end) => end,
         StrictEnd::Refused => unreachable!(),
     }
@@ -168,34 +184,54 @@ pub fn run_strict<R: Read, W: Write, D: SectorDevice>(
         (R.remaining reader.new) (W.contents writer.old) (W.contents writer.new) (seen fs.old)
         (seen fs.new) }
 {
-    let mut count = ReadCount::new();
+    let mut reads = ReadCount::new();
+    let mut writes = WriteCount::new();
     let mut glances = Glances::<D, W>::new();
-    run_noted(alloc, true, reader, &mut count, writer, &mut glances, fs)
+    run_noted(
+        alloc,
+        true,
+        reader,
+        &mut reads,
+        writer,
+        &mut writes,
+        &mut glances,
+        fs,
+    )
 }
 
 /// As `run` or `run_strict`, before a witness, which glances at device and writer between each call
-/// and its reply, and hears the reads. The counter makes them: where the run ends since it can't
-/// read on, a read of the reader failed. What the witness heard is the script in hindsight, of a
-/// reader whose bytes aren't known too.
-pub fn run_noted<R: Read, W: Write, D: SectorDevice, S: Witness<D, W>, C: CountsReads<R>>(
+/// and its reply, and hears the reads. The counters make the reads and the writes: where the run
+/// ends since it can't read on, a read of the reader failed, and it ends as `Write` just where a
+/// write of the writer failed or took nothing. What the witness heard is the script in hindsight, of
+/// a reader whose bytes aren't known too.
+pub fn run_noted<
+    R: Read,
+    W: Write,
+    D: SectorDevice,
+    S: Witness<D, W>,
+    C: CountsReads<R>,
+    K: CountsWrites<W>,
+>(
     alloc: Global,
     strict: bool,
     reader: &mut R,
-    counter: &mut C,
+    reads: &mut C,
     writer: &mut W,
+    writes: &mut K,
     witness: &mut S,
     fs: &mut Fs<D>,
 ) -> StrictEnd
     ensures ends { EndsNoted D.SectorDevice.state strict result (R.remaining reader.old)
         (R.remaining reader.new) (W.contents writer.old) (W.contents writer.new) (seen fs.old)
         (seen fs.new) (S.glances witness.old) (S.glances witness.new) }
-    ensures reads { ReadsTo result (C.failures counter.old) (C.failures counter.new)
+    ensures reads { ReadsTo result (C.failures reads.old) (C.failures reads.new)
         (R.remaining reader.old) (R.remaining reader.new) }
+    ensures writes { WritesTo result (K.failures writes.old) (K.failures writes.new) }
     ensures heard { HearsTo (S.heard witness.old) (S.heard witness.new) (λ r r'.
         EndsNoted D.SectorDevice.state strict result r r' (W.contents writer.old)
         (W.contents writer.new) (seen fs.old) (seen fs.new) (S.glances witness.old)
         (S.glances witness.new)
-        × ReadsTo result (C.failures counter.old) (C.failures counter.new) r r') }
+        × ReadsTo result (C.failures reads.old) (C.failures reads.new) r r') }
 {
     let Ok(mut line) = Vec::with_capacity(alloc, LONGEST_LINE) else {
         return StrictEnd::Script(ScriptEnd::Memory);
@@ -204,24 +240,18 @@ pub fn run_noted<R: Read, W: Write, D: SectorDevice, S: Witness<D, W>, C: Counts
         return StrictEnd::Script(ScriptEnd::Memory);
     };
     for count in 1..u64::MAX {
-        match next_line::<R, W, D, S, C>(&mut source, reader, counter, writer, witness, &mut line) {
+        match next_line::<R, W, D, S, C>(&mut source, reader, reads, writer, witness, &mut line) {
             Ok(LineEnd::Newline) => {
-                if let Some(end) = turn(
-                    alloc,
-                    strict,
-                    writer,
-                    witness,
-                    fs,
-                    line.as_slice(),
-                    count,
-                ) {
+                let text = line.as_slice();
+                if let Some(end) = turn(alloc, strict, writer, writes, witness, fs, text, count) {
                     return end;
                 }
             }
             Ok(LineEnd::Input) => {
-                return finish(alloc, strict, writer, witness, fs, line.as_slice(), count);
+                let text = line.as_slice();
+                return finish(alloc, strict, writer, writes, witness, fs, text, count);
             }
-            Ok(LineEnd::TooLong(_)) => return StrictEnd::Script(refuse(writer, count)),
+            Ok(LineEnd::TooLong(_)) => return StrictEnd::Script(refuse(writer, writes, count)),
             Err(_) => return StrictEnd::Script(ScriptEnd::Read),
         }
     }

@@ -4,9 +4,9 @@ ghost use Rattle.std.specs.Io.KnownBytes.{Consumes, IsAtEnd, Keeps, prepend_know
 ghost use Rattle.lfs_script.specs.Bytes.{TakesByte, ahead, taken};
 ghost use Rattle.lfs_script.specs.Heard.{HearsByte, HearsRead};
 
-use crate::counting::CountsReads;
 use crate::witness::Witness;
 use lfs_device::SectorDevice;
+use lfs_streams::CountsReads;
 use std::alloc::{AllocError, Global};
 use std::io::{Read, Write};
 

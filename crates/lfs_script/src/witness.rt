@@ -2,13 +2,13 @@
 ghost use Rattle.std.specs.Prelude.{◌≡◌, List};
 ghost use Rattle.std.specs.Io.{ReadsAtMost};
 ghost use Rattle.std.specs.Io.KnownBytes.{ReadConsumes};
-ghost use Rattle.lfs_script.specs.Counts.{CountsFailure};
 ghost use Rattle.lfs_script.specs.Heard.{Heard, HearsRead};
 ghost use Rattle.lfs_script.specs.Noted.{Glance, GlancesAt};
+ghost use Rattle.lfs_streams.specs.Counts.{CountsFailure};
 
-use crate::counting::CountsReads;
 use crate::transcript::Transcript;
 use lfs_device::SectorDevice;
+use lfs_streams::CountsReads;
 use std::io::{Read, Result, Write};
 use std::mem;
 use std::snapshot::Snapshot;

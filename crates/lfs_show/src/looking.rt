@@ -12,6 +12,7 @@ use lfs_host::printing::{flush, print, put_count, refuse};
 use lfs_model::limits::NEED_OF_SEGMENT;
 use lfs_put::{GetFault, get};
 use lfs_replies::{Answer, put_reply};
+use lfs_streams::WriteCount;
 use lfs_words::{WordFault, read_escaped};
 use std::alloc::{AllocError, Global};
 use std::fs::File;
@@ -98,7 +99,7 @@ pub fn end_look<W: Write>(looked: Looked, output: &mut W) -> Result<Ending, Faul
 
 // Prints the reply that has these rows.
 fn put_rows<W: Write>(rows: Vec<TreeRow>, output: &mut W) -> Result<(), Fault> {
-    match put_reply(output, &Ok(Answer::Tree(rows))) {
+    match put_reply(output, &mut WriteCount::new(), &Ok(Answer::Tree(rows))) {
         Ok(()) => flush(output),
         Err(_) => Err(Fault::Output),
     }

@@ -1,6 +1,6 @@
 -- Bytes that go out in pieces.
-use Rattle.std.proofs.Common.{◌≢◌, ℕ, List, [], ◌∷◌, ◌++◌, Option, Some, None, Result, Ok, Err, OnOk, OnErr, append_assoc, append-nil}
-use Rattle.std.proofs.Common.{ap, sym, ◌∙◌, refl}
+use Rattle.std.proofs.Common.{◌≡◌, ◌≢◌, ℕ, suc, List, [], ◌∷◌, ◌++◌, Option, Some, None, Result, Ok, Err, OnOk, OnErr, append_assoc}
+use Rattle.std.proofs.Common.{append-nil, ap, sym, ◌∙◌, refl}
 use Rattle.std.specs.Io.KnownBytes.{Appends}
 use Rattle.std.proofs.KnownBytes.{Appends-trans}
 use Rattle.std.specs.Result.{IsErrAnd}
@@ -32,8 +32,8 @@ pub on_ok : {T E : Type 0} (r : Result T E) (P : Type 0) → P → OnOk r P
 on_ok (Ok x) P p = p
 on_ok (Err e) P p = tt
 
--- a call that failed put some of the bytes
-pub puts_some : {T E : Type 0} (Q : E → Type 0) {a b : Option (List ℕ)} {bytes : List ℕ} (r : Result T E) → IsErrAnd r Q
-    → AppendsSome a b bytes → Puts a b bytes r
-puts_some Q (Ok x) err some = absurd err
-puts_some Q (Err e) err some = record { ok = tt; err = some }
+-- a call that failed put some of the bytes, and one write failed
+pub puts_some : {T E : Type 0} (Q : E → Type 0) {a b : Option (List ℕ)} {f f' : ℕ} {bytes : List ℕ} (r : Result T E) → IsErrAnd r Q
+    → AppendsSome a b bytes → f' ≡ suc f → Puts a b f f' bytes r
+puts_some Q (Ok x) err some more = absurd err
+puts_some Q (Err e) err some more = record { ok = tt; err = some; counted = more }

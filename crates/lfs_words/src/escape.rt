@@ -8,6 +8,7 @@ ghost use Rattle.lfs_words.specs.Words.{escaped_byte, escaped_bytes, is_plain};
 
 use crate::sink::{Stopped, put};
 use crate::word::WordFault;
+use lfs_streams::CountsWrites;
 use std::alloc::Global;
 use std::io::Write;
 
@@ -147,25 +148,35 @@ pub fn read_escaped(alloc: Global, word: &[u8]) -> Result<Vec<u8>, WordFault>
     unescape(alloc, word)
 }
 
-fn put_byte<W: Write>(writer: &mut W, byte: u8) -> Result<(), Stopped>
-    ensures { Puts (W.contents writer.old) (W.contents writer.new) (script.word_byte byte) result }
+fn put_byte<W: Write, C: CountsWrites<W>>(
+    writer: &mut W,
+    counter: &mut C,
+    byte: u8,
+) -> Result<(), Stopped>
+    ensures { Puts (W.contents writer.old) (W.contents writer.new)
+        (C.failures counter.old) (C.failures counter.new) (script.word_byte byte) result }
 {
     if is_plain(byte) {
-        return put(writer, &[byte]);
+        return put(writer, counter, &[byte]);
     }
     let [high, low] = digits_of(byte);
-    put(writer, &[b'\\', high, low])
+    put(writer, counter, &[b'\\', high, low])
 }
 
 /// Writes the word of the bytes. It takes no memory.
-pub fn put_escaped<W: Write>(writer: &mut W, bytes: &[u8]) -> Result<(), Stopped>
-    ensures { Puts (W.contents writer.old) (W.contents writer.new) (script.word bytes.now) result }
+pub fn put_escaped<W: Write, C: CountsWrites<W>>(
+    writer: &mut W,
+    counter: &mut C,
+    bytes: &[u8],
+) -> Result<(), Stopped>
+    ensures { Puts (W.contents writer.old) (W.contents writer.new)
+        (C.failures counter.old) (C.failures counter.new) (script.word bytes.now) result }
 {
     if bytes.is_empty() {
-        return put(writer, b"\\");
+        return put(writer, counter, b"\\");
     }
     for byte in bytes {
-        put_byte(writer, *byte)?;
+        put_byte(writer, counter, *byte)?;
     }
     Ok(())
 }

@@ -9,6 +9,7 @@ ghost use Rattle.lfs_words.specs.Words.{is_lower_digit, is_pairs};
 
 use crate::sink::{Stopped, put};
 use crate::word::WordFault;
+use lfs_streams::CountsWrites;
 use std::alloc::Global;
 use std::io::Write;
 
@@ -56,28 +57,38 @@ fn bytes_fit(bytes: &[u8])
 const PIECE: usize = 256;
 
 // Writes the digits of a piece.
-fn put_digits<W: Write>(writer: &mut W, piece: &[u8]) -> Result<(), Stopped>
+fn put_digits<W: Write, C: CountsWrites<W>>(
+    writer: &mut W,
+    counter: &mut C,
+    piece: &[u8],
+) -> Result<(), Stopped>
     requires { length piece.now ≤ PIECE }
-    ensures { Puts (W.contents writer.old) (W.contents writer.new) (encode_lower piece.now) result }
+    ensures { Puts (W.contents writer.old) (W.contents writer.new)
+        (C.failures counter.old) (C.failures counter.new) (encode_lower piece.now) result }
 {
     let mut room = [0; 512];
     let digits = &mut room[..2 * piece.len()];
     hex::encode_to_slice(piece, digits).unwrap();
-    put(writer, digits)
+    put(writer, counter, digits)
 }
 
 /// Writes the word of the bytes. It takes no memory.
-pub fn put_hex<W: Write>(writer: &mut W, bytes: &[u8]) -> Result<(), Stopped>
-    ensures { Puts (W.contents writer.old) (W.contents writer.new) (script.hex bytes.now) result }
+pub fn put_hex<W: Write, C: CountsWrites<W>>(
+    writer: &mut W,
+    counter: &mut C,
+    bytes: &[u8],
+) -> Result<(), Stopped>
+    ensures { Puts (W.contents writer.old) (W.contents writer.new)
+        (C.failures counter.old) (C.failures counter.new) (script.hex bytes.now) result }
 {
     if bytes.is_empty() {
-        return put(writer, b"-");
+        return put(writer, counter, b"-");
     }
     bytes_fit(bytes);
     let mut at = 0;
     while at < bytes.len() {
         let n = (bytes.len() - at).min(PIECE);
-        put_digits(writer, &bytes[at..at + n])?;
+        put_digits(writer, counter, &bytes[at..at + n])?;
         at += n;
     }
     Ok(())

@@ -5,6 +5,7 @@ ghost use Rattle.lfs_words.specs.Words.{IsBare};
 
 use crate::sink::{Stopped, put};
 use itoa::Buffer;
+use lfs_streams::CountsWrites;
 use std::io::Write;
 
 // Whether the word has no sign and no leading zero, both of which `parse` takes.
@@ -56,9 +57,14 @@ pub fn read_u8(word: &[u8]) -> Option<u8>
 }
 
 /// Writes the number's word. It takes no memory.
-pub fn put_number<W: Write>(writer: &mut W, number: u64) -> Result<(), Stopped>
-    ensures { Puts (W.contents writer.old) (W.contents writer.new) (decimal number) result }
+pub fn put_number<W: Write, C: CountsWrites<W>>(
+    writer: &mut W,
+    counter: &mut C,
+    number: u64,
+) -> Result<(), Stopped>
+    ensures { Puts (W.contents writer.old) (W.contents writer.new)
+        (C.failures counter.old) (C.failures counter.new) (decimal number) result }
 {
     let mut digits = Buffer::new();
-    put(writer, digits.format(number).as_bytes())
+    put(writer, counter, digits.format(number).as_bytes())
 }

@@ -1,7 +1,7 @@
 use Rattle.std.proofs.Common.{Some, ap, inl, inr, refl}
 use Rattle.lfs_script.proofs.HeardBytes.{hears_more, hears_none, hears_still}
 use Rattle.lfs_script.proofs.Used.{err_of, ok_of, told_goes_on}
-use Rattle.lfs_command.proofs.Told.{input_told, told_unmounted, unmounted_told}
+use Rattle.lfs_command.proofs.Told.{input_told, output_told, told_unmounted, unmounted_told}
 use Rattle.lfs_command.proofs.commands.play_and_stop.Goals as goal
 
 pub returns-in-Ok-default-clause-plays : goal.returns-in-Ok-default-clause-plays
@@ -37,6 +37,14 @@ returns-in-Ok-default-clause-reads g c =
 pub returns-in-Err-default-clause-reads : goal.returns-in-Err-default-clause-reads
 returns-in-Err-default-clause-reads g c =
     unmounted_told _ _ _ _ c.in-Err-default.fault _ (told_unmounted c.in-Err-default.fault _ c.from.ensures c.refuse.ensures)
+
+pub returns-in-Ok-default-clause-writes : goal.returns-in-Ok-default-clause-writes
+returns-in-Ok-default-clause-writes g c =
+    output_told _ _ c.in-Ok-default.end _ c.end_plain.ensures.told (ok_of _ c.in-Ok-default.is-0 c.use_and_stop_noted.ensures.writes)
+
+pub returns-in-Err-default-clause-writes : goal.returns-in-Err-default-clause-writes
+returns-in-Err-default-clause-writes g c =
+    inl (ap g.K.CountsWrites.failures (err_of _ c.in-Err-default.is-0 c.use_and_stop_noted.ensures.uncounted).1)
 
 -- ---- in hindsight
 

@@ -1,7 +1,7 @@
 use Rattle.std.proofs.Common.{Some, ap, inl, inr, refl}
 use Rattle.lfs_script.proofs.HeardBytes.{hears_more, hears_none, hears_still}
 use Rattle.lfs_script.proofs.Used.{err_of, ok_of, told_of}
-use Rattle.lfs_command.proofs.Told.{outcome_told, strict_told, told_unmounted, unmounted_told}
+use Rattle.lfs_command.proofs.Told.{outcome_told, strict_output_told, strict_told, told_unmounted, unmounted_told}
 use Rattle.lfs_command.proofs.commands.play_strict.Goals as goal
 
 pub returns-in-Ok-default-clause-plays : goal.returns-in-Ok-default-clause-plays
@@ -61,6 +61,15 @@ pub returns-in-Err-default-clause-reads : goal.returns-in-Err-default-clause-rea
 returns-in-Err-default-clause-reads g c =
     outcome_told _ _ _ _ c.refuse.result _ c.outcome_of-end.ensures.same
     (unmounted_told _ _ _ _ c.in-Err-default.fault _ (told_unmounted c.in-Err-default.fault _ c.from.ensures c.refuse.ensures))
+
+pub returns-in-Ok-default-clause-writes : goal.returns-in-Ok-default-clause-writes
+returns-in-Ok-default-clause-writes g c =
+    strict_output_told _ _ c.in-Ok-default.used.script _ c.end_strict-end.ensures.told
+    (ok_of _ c.in-Ok-default.is-0 c.use_volume_noted.ensures.writes)
+
+pub returns-in-Err-default-clause-writes : goal.returns-in-Err-default-clause-writes
+returns-in-Err-default-clause-writes g c =
+    inl (ap g.K.CountsWrites.failures (err_of _ c.in-Err-default.is-0 c.use_volume_noted.ensures.uncounted).1)
 
 -- ---- in hindsight
 

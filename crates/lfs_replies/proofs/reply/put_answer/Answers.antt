@@ -10,7 +10,8 @@ use Rattle.lfs_replies.proofs.reply.put_answer.Goals as goal
 
 pub returns-in-Tree : goal.returns-in-Tree
 returns-in-Tree g c =
-    subst (λ t. Puts (g.W.Write.contents c.args.writer.now) (g.W.Write.contents c.put_tree.new.writer) t c.put_tree.result)
+    subst (λ t. Puts (g.W.Write.contents c.args.writer.now) (g.W.Write.contents c.put_tree.new.writer)
+    (g.C.CountsWrites.failures c.args.counter.now) (g.C.CountsWrites.failures c.put_tree.new.counter) t c.put_tree.result)
     (ap (λ (rows : List TreeRow). ok (decimal (length rows) ∷ []) ++ flat_map (λ row. row_line (row_of row)) rows)
     c.as_slice-in-Tree.ensures.value
     ∙ tree_reply c.in-Tree.rows.items ∙ ap (λ answer. reply (answer_of answer)) (sym c.in-Tree.is))
@@ -18,7 +19,8 @@ returns-in-Tree g c =
 
 pub returns-in-Entries : goal.returns-in-Entries
 returns-in-Entries g c =
-    subst (λ t. Puts (g.W.Write.contents c.args.writer.now) (g.W.Write.contents c.put_entries.new.writer) t c.put_entries.result)
+    subst (λ t. Puts (g.W.Write.contents c.args.writer.now) (g.W.Write.contents c.put_entries.new.writer)
+    (g.C.CountsWrites.failures c.args.counter.now) (g.C.CountsWrites.failures c.put_entries.new.counter) t c.put_entries.result)
     (ap (λ (entries : List Entry). ok (decimal (length entries) ∷ []) ++ flat_map (λ entry. entry_line (entry_of entry)) entries)
     c.as_slice-in-Entries.ensures.value
     ∙ entries_reply c.in-Entries.entries.items ∙ ap (λ answer. reply (answer_of answer)) (sym c.in-Entries.is))

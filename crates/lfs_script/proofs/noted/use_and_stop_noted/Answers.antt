@@ -11,6 +11,9 @@ returns-in-Ok-end-clause-ran g c =
 pub returns-in-Ok-end-clause-reads : goal.returns-in-Ok-end-clause-reads
 returns-in-Ok-end-clause-reads g c = ok_of _ c.in-Ok-end.is c.use_volume_noted-end.ensures.reads
 
+pub returns-in-Ok-end-clause-writes : goal.returns-in-Ok-end-clause-writes
+returns-in-Ok-end-clause-writes g c = ok_of _ c.in-Ok-end.is c.use_volume_noted-end.ensures.writes
+
 pub returns-in-Ok-end-clause-heard : goal.returns-in-Ok-end-clause-heard
 returns-in-Ok-end-clause-heard g c =
     hears_more _ _ _ _
@@ -44,6 +47,9 @@ returns-in-Err-end-clause-carries g c =
 
 pub returns-in-Err-end-clause-unseen : goal.returns-in-Err-end-clause-unseen
 returns-in-Err-end-clause-unseen g c = err_of _ c.in-Err-end.is c.use_volume_noted-end.ensures.unseen
+
+pub returns-in-Err-end-clause-uncounted : goal.returns-in-Err-end-clause-uncounted
+returns-in-Err-end-clause-uncounted g c = err_of _ c.in-Err-end.is c.use_volume_noted-end.ensures.uncounted
 
 pub returns-in-Err-clause-refused : goal.returns-in-Err-clause-refused
 returns-in-Err-clause-refused g c = unfound_behind c.args.device c.in-Err.ensures.refused c.crash-in-Err.ensures _ _

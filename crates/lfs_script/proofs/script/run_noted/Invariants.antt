@@ -1,4 +1,4 @@
-use Rattle.std.proofs.Common.{◌≤◌, ◌+◌, ◌-◌, ◌^◌, [], length, slice_range, vec_capacity}
+use Rattle.std.proofs.Common.{◌≡◌, ◌≤◌, ◌+◌, ◌-◌, ◌^◌, [], length, slice_range, vec_capacity}
 use Rattle.std.specs.Io.KnownBytes.{prepend_known}
 use Rattle.lfs_fs.specs.Seen.{seen}
 use Rattle.lfs_script.specs.Bytes.{ahead}
@@ -14,6 +14,7 @@ invariant-loop-count g l = (140000 ≤ vec_capacity l.line)
     l.fn.writer) (g.W.Write.contents l.writer) (seen l.fn.fs) (seen l.fs) (g.S.Witness.glances l.fn.witness)
     (g.S.Witness.glances l.witness))
     × (2 ^ 64 - 1 ≤ length (ended_texts so.texts) + ahead l.source.start l.source.end l.source.budget)
-    × (g.C.CountsReads.failures l.fn.counter ≤ g.C.CountsReads.failures l.counter)
+    × (g.C.CountsReads.failures l.fn.reads ≤ g.C.CountsReads.failures l.reads)
     × UsesHeard (g.S.Witness.heard l.fn.witness) (g.S.Witness.heard l.witness) []
     (slice_range l.source.chunk.items l.source.start l.source.end) (ended_texts so.texts)
+    × (g.K.CountsWrites.failures l.writes ≡ g.K.CountsWrites.failures l.fn.writes)

@@ -1,4 +1,4 @@
-use Rattle.std.proofs.Common.{◌≤◌, ◌-◌, length, take}
+use Rattle.std.proofs.Common.{◌≡◌, ◌≤◌, ◌-◌, length, take}
 use Rattle.std.specs.Io.KnownBytes.{Appends}
 use Rattle.lfs_words.proofs.sink.put.Given as goal
 
@@ -8,3 +8,4 @@ decreases-loop-at g l = length l.bytes - l.at
 abbrev pub invariant-loop-at : goal.invariant-loop-at
 invariant-loop-at g l =
     (l.at ≤ length l.bytes) × Appends (g.W.Write.contents l.initial.writer) (g.W.Write.contents l.writer) (take l.at l.bytes)
+    × (g.C.CountsWrites.failures l.counter ≡ g.C.CountsWrites.failures l.initial.counter)

@@ -2,8 +2,8 @@
 ghost use Rattle.std.specs.Prelude.{◌≡◌, ℕ, suc};
 ghost use Rattle.std.specs.Io.{WritesAtMost};
 ghost use Rattle.std.specs.Io.KnownBytes.{Keeps, WriteAppends};
-ghost use Rattle.lfs_script.specs.Counted.{counted_writer, failed_writes, flushes_of};
-ghost use Rattle.lfs_script.specs.Counts.{CountsWrite};
+ghost use Rattle.lfs_streams.specs.Counted.{counted_writer, failures_of, flushes_of};
+ghost use Rattle.lfs_streams.specs.Counts.{CountsWrite};
 
 use crate::tally::Tally;
 use std::io::{Result, Write};
@@ -43,7 +43,7 @@ impl<W: Write> CountedWriter<W> {
     /// Nothing is counted of what was asked of it before.
     pub fn new(writer: W) -> CountedWriter<W>
         ensures same { counted_writer result ≡ writer }
-        ensures failures { failed_writes result ≡ 0 }
+        ensures failures { failures_of result ≡ 0 }
         ensures flushes { flushes_of result ≡ 0 }
     {
         CountedWriter {
@@ -58,8 +58,8 @@ impl<W: Write> Write for CountedWriter<W> {
     ghost use Rattle.std.specs.Prelude.{◌≡◌, suc};
     ghost use Rattle.std.specs.Io.{WritesAtMost};
     ghost use Rattle.std.specs.Io.KnownBytes.{Keeps, WriteAppends};
-    ghost use Rattle.lfs_script.specs.Counted.{counted_writer, failed_writes, flushes_of};
-    ghost use Rattle.lfs_script.specs.Counts.{CountsWrite};
+    ghost use Rattle.lfs_streams.specs.Counted.{counted_writer, failures_of, flushes_of};
+    ghost use Rattle.lfs_streams.specs.Counts.{CountsWrite};
 
     ghost contents = { λ c. W.contents (counted_writer c) };
 
@@ -67,7 +67,7 @@ impl<W: Write> Write for CountedWriter<W> {
         ensures bound { WritesAtMost result buf.now }
         ensures bytes { WriteAppends (W.contents (counted_writer self.old))
             (W.contents (counted_writer self.new)) result buf.now }
-        ensures counted { CountsWrite (failed_writes self.old) (failed_writes self.new) result }
+        ensures counted { CountsWrite (failures_of self.old) (failures_of self.new) result }
         ensures unflushed { flushes_of self.new ≡ flushes_of self.old }
     {
         match self.writer.write(buf) {
@@ -87,7 +87,7 @@ impl<W: Write> Write for CountedWriter<W> {
         ensures bytes { Keeps (W.contents (counted_writer self.old))
             (W.contents (counted_writer self.new)) }
         ensures flushed { flushes_of self.new ≡ suc (flushes_of self.old) }
-        ensures unfailed { failed_writes self.new ≡ failed_writes self.old }
+        ensures unfailed { failures_of self.new ≡ failures_of self.old }
     {
         self.flushes.count();
         self.writer.flush()
@@ -95,9 +95,9 @@ impl<W: Write> Write for CountedWriter<W> {
 }
 
 impl<W: Write> CountedWrite for CountedWriter<W> {
-    ghost use Rattle.lfs_script.specs.Counted.{failed_writes, flushes_of};
+    ghost use Rattle.lfs_streams.specs.Counted.{failures_of, flushes_of};
 
-    ghost failures = { failed_writes };
+    ghost failures = { failures_of };
 
     ghost flushes = { flushes_of };
 

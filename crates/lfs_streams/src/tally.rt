@@ -1,6 +1,6 @@
 // A count that only clauses see.
 ghost use Rattle.std.specs.Prelude.{◌≡◌, suc};
-ghost use Rattle.lfs_script.specs.Tallies.{count_of};
+ghost use Rattle.lfs_streams.specs.Tallies.{count_of};
 
 use std::mem;
 use std::snapshot::Snapshot;

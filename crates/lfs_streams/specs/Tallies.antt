@@ -1,7 +1,7 @@
 -- The number that a tally stands for.
 use Rattle.std.specs.Prelude.{ℕ, zero, suc}
-use Rattle.lfs_script.specs.declared.tally.Tally.{Tally}
-use Rattle.lfs_script.specs.declared.tally.Times.{Times, Never, After'}
+use Rattle.lfs_streams.specs.declared.tally.Tally.{Tally}
+use Rattle.lfs_streams.specs.declared.tally.Times.{Times, Never, After'}
 
 abbrev pub times : Times → ℕ
 times Never = zero

@@ -2,7 +2,7 @@
 ghost use Rattle.std.specs.Prelude.{◌≡◌, ℕ};
 ghost use Rattle.std.specs.Io.{ReadsAtMost};
 ghost use Rattle.std.specs.Io.KnownBytes.{ReadConsumes};
-ghost use Rattle.lfs_script.specs.Counts.{CountsFailure};
+ghost use Rattle.lfs_streams.specs.Counts.{CountsFailure};
 
 use crate::tally::Tally;
 use std::io::{Read, Result};
@@ -21,14 +21,17 @@ pub trait CountsReads<R: Read> {
         ensures counted { CountsFailure (failures self.old) (failures self.new) result };
 }
 
-/// A count of failed reads that takes no memory.
+/// A count of reads that failed. It takes no memory.
 #[derive(Drop)]
 pub struct ReadCount {
     failures: Tally,
 }
 
+// It takes no memory.
+const _: () = prove!(size_of::<ReadCount>() == 0);
+
 impl ReadCount {
-    ghost use Rattle.lfs_script.specs.Counted.{failed_reads};
+    ghost use Rattle.lfs_streams.specs.Counted.{failed_reads};
 
     /// No read failed yet.
     pub fn new() -> ReadCount
@@ -41,7 +44,7 @@ impl ReadCount {
 }
 
 impl<R: Read> CountsReads<R> for ReadCount {
-    ghost use Rattle.lfs_script.specs.Counted.{failed_reads};
+    ghost use Rattle.lfs_streams.specs.Counted.{failed_reads};
 
     ghost failures = { failed_reads };
 
