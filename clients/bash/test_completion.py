@@ -50,6 +50,11 @@ LINES = [
     # The third word of put is one of the host.
     ("put disk.img /new hos\t", "ok 11\n"),
     ("rm disk.img /ne\t", "ok\n"),
+    # So are those of a put with -t, and with -r all but the last one.
+    ("put -t /deep disk.img hos\t", "ok 1 files 11 bytes\n"),
+    ("cat disk.img /no\t/deep/h\t", "/notesof the host"),
+    ("put -r disk.img fol\t /de\t", "ok 1 files 3 bytes\n"),
+    ("rm -r disk.img /deep/in\t/deep/h\t", "ok\n"),
 ]
 
 
@@ -71,6 +76,9 @@ class Completion(unittest.TestCase):
         os.link(f"{self.room}/disk.img", f"{self.room}/disk image")
         os.makedirs(f"{self.room}/bin")
         os.symlink(program, f"{self.room}/bin/lfs")
+        os.mkdir(f"{self.room}/folder")
+        with open(f"{self.room}/folder/inner", "w", encoding="utf-8") as file:
+            file.write("one")
         for name in ("host file", "notes of the host"):
             with open(f"{self.room}/{name}", "w", encoding="utf-8") as file:
                 file.write("of the host")

@@ -56,7 +56,7 @@ static inline const char *pansuyog_text(int32_t code) {
     case PANSUYOG_EXIST: return "this is there already";
     case PANSUYOG_NOT_EMPTY: return "the directory has entries";
     case PANSUYOG_INVAL: return "an argument isn't taken";
-    case PANSUYOG_NAME_TOO_LONG: return "a name or a path is too long";
+    case PANSUYOG_NAME_TOO_LONG: return "a path has at most 1023 bytes, and a name 59, or 123 where the format and `widen` let it";
     case PANSUYOG_LOOP: return "more than 40 links were to be followed";
     case PANSUYOG_PERM: return "a directory isn't linked or unlinked";
     case PANSUYOG_BUSY: return "the root can't be removed or renamed";

@@ -74,7 +74,7 @@ _CALL_TEXTS = {
     "Exist": "this is there already",
     "NotEmpty": "the directory has entries",
     "Inval": "an argument isn't taken",
-    "NameTooLong": "a name or a path is too long",
+    "NameTooLong": "a path has at most 1023 bytes, and a name 59, or 123 where the format and `widen` let it",
     "Loop": "more than 40 links were to be followed",
     "Perm": "a directory isn't linked or unlinked",
     "Busy": "the root can't be removed or renamed",

@@ -134,7 +134,7 @@ impl Display for Error {
             Error::Exist => "this is there already",
             Error::NotEmpty => "the directory has entries",
             Error::Inval => "an argument isn't taken",
-            Error::NameTooLong => "a name or a path is too long",
+            Error::NameTooLong => "a path has at most 1023 bytes, and a name 59, or 123 where the format and `widen` let it",
             Error::Loop => "more than 40 links were to be followed",
             Error::Perm => "a directory isn't linked or unlinked",
             Error::Busy => "the root can't be removed or renamed",

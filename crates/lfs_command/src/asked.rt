@@ -1,33 +1,45 @@
 //! What a command line asks for, in the terms of the layers that do it.
+use crate::terminals::Terminals;
 use lfs_device::Left;
 use lfs_grammar::{LeftWord, Query, RequestFault};
 use lfs_host::fault::Fault;
 use lfs_host::image::Patience;
-use lfs_show::listing::Style;
+use lfs_show::listing::{Spelling, Style};
 use lfs_show::looking::Look;
 
-fn style_of(long: bool, null: bool) -> Style {
+// How names are written, on a terminal or elsewhere.
+fn spelling_of(terminals: Terminals) -> Spelling {
+    if terminals.output {
+        Spelling::Shown
+    } else {
+        Spelling::Word
+    }
+}
+
+fn style_of(long: bool, null: bool, spelling: Spelling) -> Style {
     if long {
-        Style::Long
+        Style::Long(spelling)
     } else if null {
         Style::Raw
     } else {
-        Style::Words
+        Style::Words(spelling)
     }
 }
 
 /// The look that a query asks for.
-pub fn look_of(query: Query<'_>) -> Look<'_> {
+pub fn look_of(query: Query<'_>, terminals: Terminals) -> Look<'_> {
+    let spelling = spelling_of(terminals);
     match query {
         Query::Check => Look::Check,
         Query::Mount => Look::Mount,
-        Query::Tree(path) => Look::Tree(path),
-        Query::List { path, long, null } => Look::List(path, style_of(long, null)),
-        Query::Cat(path) => Look::Cat(path),
-        Query::Get(path, file) => Look::Get(path, file),
+        Query::Tree => Look::Tree(spelling),
+        Query::List { long, null } => Look::List(style_of(long, null, spelling)),
+        Query::Cat => Look::Cat,
+        Query::Stat => Look::Stat,
+        Query::Get(file) => Look::Get(file),
         Query::Export(folder) => Look::Export(folder),
         Query::Info => Look::Info,
-        Query::Free => Look::Free,
+        Query::Free { human } => Look::Free { human },
     }
 }
 

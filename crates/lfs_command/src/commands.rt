@@ -11,17 +11,16 @@ ghost use Rattle.lfs_command.specs.Playing.{PlaysToRefusal, Plays, PlaysStrictly
 ghost use Rattle.lfs_command.specs.Telling.{IsTold, IsToldPlainly, IsToldStrictly, TellsInput, TellsOutput, outcome_of};
 
 use crate::asked::{fault_of, left_of, look_of, patience_of};
-use crate::changing::change_volume;
 use crate::copying::{Images, copy_volume};
-use crate::putting::put_into;
 use crate::shaping::read_shape;
 use crate::simulation;
 use crate::simulation::{Trial, plan_of, read_trial};
 use crate::terminals::Terminals;
 use lfs_bad_lines::{LineKeeper, put_bad_line};
+use lfs_change::{change_volume, put_into};
 use lfs_device::{FileDeviceIn, Left, MemDevice, SectorDevice, ThisWorld, World};
 use lfs_fs::{Fs, InVolume, find_volume};
-use lfs_grammar::{Action, Request, ShapeWords, read_request};
+use lfs_grammar::{Action, Names, Request, ShapeWords, Source, read_request};
 use lfs_host::fault::{Ending, Fault, Outcome, Refusal, Said};
 use lfs_host::image;
 use lfs_host::image::{Making, Patience, unmounted};
@@ -34,7 +33,7 @@ use lfs_script::{
 };
 use lfs_show::looking::{Look, end_look, show};
 use lfs_show::viewing::look;
-use std::alloc::{AllocError, Global};
+use std::alloc::{AllocError, AllocGlobal, Global};
 use std::fs::File;
 use std::io::{BufWriter, Read, Write};
 use std::rt::Files;
@@ -485,21 +484,29 @@ fn check_and_explain<Here: World, R: Files<File = File> + Clock, W: Write>(
     patience: Patience,
     output: &mut W,
 ) -> Result<Ending, Fault> {
-    let checked = look::<Here, R, W>(rt, alloc, image, Look::Check, patience, output)?;
+    let checked = look::<Here, R, W>(rt, alloc, image, Look::Check, &[], patience, output)?;
     explain::<Here, R, W>(rt, alloc, image, checked, patience, output)
 }
 
 // Does what is asked for with an image, in any world, which only contracts see.
-fn act<Here: World, R: Files<File = File> + Clock, I: Read, W: Write, E: Write>(
+fn act<
+    Here: World,
+    R: Files<File = File> + Clock + AllocGlobal + Clone + Drop,
+    I: Read,
+    W: Write,
+    E: Write,
+>(
     rt: &R,
     alloc: Global,
     terminals: Terminals,
     image: &str,
     action: Action<'_>,
+    names: &Names<'_>,
     input: &mut I,
     output: &mut W,
     errors: &mut E,
 ) -> Result<Ending, Fault> {
+    let paths = names.paths.as_slice();
     match action {
         Action::Mkfs {
             shape,
@@ -510,7 +517,9 @@ fn act<Here: World, R: Files<File = File> + Clock, I: Read, W: Write, E: Write>(
             mkfs::<Here, R, I, W, E>(rt, alloc, image, making, input, output, errors)
         }
         Action::Query { query, wait } => {
-            look::<Here, R, W>(rt, alloc, image, look_of(query), patience_of(wait), output)
+            let patience = patience_of(wait);
+            let wanted = look_of(query, terminals);
+            look::<Here, R, W>(rt, alloc, image, wanted, paths, patience, output)
         }
         Action::Explain { wait } => {
             check_and_explain::<Here, R, W>(rt, alloc, image, patience_of(wait), output)
@@ -519,10 +528,41 @@ fn act<Here: World, R: Files<File = File> + Clock, I: Read, W: Write, E: Write>(
             let asked = Recovery { folder, older };
             recover::<Here, R, W>(rt, alloc, image, asked, output)
         }
-        Action::Change(asked) => change_volume::<Here, R, W>(rt, alloc, image, asked, output),
-        Action::Put(source) => {
-            put_into::<Here, R, I, W>(rt, alloc, terminals, image, source, input, output)
+        Action::Change(asked) => {
+            change_volume::<Here, R, W>(rt, alloc, image, asked, paths, output)
         }
+        Action::Put(source) => {
+            let typed = terminals.input;
+            put_into::<Here, R, I, W>(rt, alloc, typed, image, source, names, input, output)
+        }
+    }
+}
+
+// The word that a command was about that ended so, of those that name something.
+fn word_of<'a>(
+    action: Action<'_>,
+    names: &Names<'a>,
+    ending: &Result<Ending, Fault>,
+) -> Option<&'a str> {
+    let word = match (ending, action) {
+        (Ok(Ending::RefusedAt(_, at)), Action::Put(Source::Each)) => names.files.get(*at),
+        // A line of its own names what is below the folder.
+        (Ok(Ending::RefusedAt(..)), Action::Put(Source::Folder)) => None,
+        (Ok(Ending::RefusedAt(_, at)), _) => names.paths.get(*at),
+        _ => names.paths.first(),
+    };
+    word.copied()
+}
+
+// How a look ends whose output goes to a pipe: where that can't be written nobody reads it any more.
+fn end_at_pipe(
+    terminals: Terminals,
+    action: Action<'_>,
+    ending: Result<Ending, Fault>,
+) -> Result<Ending, Fault> {
+    match (ending, action) {
+        (Err(Fault::Output), Action::Query { .. }) if terminals.pipe => Err(Fault::Closed),
+        (ending, _) => ending,
     }
 }
 
@@ -569,7 +609,13 @@ fn unsaved_of(image: &str, is_saved: bool) -> Option<&str> {
 }
 
 // Does what a command line asks for.
-fn answer_request<'a, R: Files<File = File> + Clock, I: Read, W: Write, E: Write>(
+fn answer_request<
+    'a,
+    R: Files<File = File> + Clock + AllocGlobal + Clone + Drop,
+    I: Read,
+    W: Write,
+    E: Write,
+>(
     rt: &R,
     alloc: Global,
     terminals: Terminals,
@@ -599,11 +645,17 @@ fn answer_request<'a, R: Files<File = File> + Clock, I: Read, W: Write, E: Write
             let unsaved = None;
             Answered { said, unsaved }
         }
-        Request::Image { image, action } => {
+        Request::Image {
+            image,
+            action,
+            names,
+        } => {
             let ending = act::<ThisWorld, R, I, W, E>(
-                rt, alloc, terminals, image, action, input, output, errors,
+                rt, alloc, terminals, image, action, &names, input, output, errors,
             );
-            let said = said(image, action.path(), ending);
+            let ending = end_at_pipe(terminals, action, ending);
+            let word = word_of(action, &names, &ending);
+            let said = said(image, word, ending);
             let unsaved = None;
             Answered { said, unsaved }
         }
@@ -624,7 +676,13 @@ fn answer_request<'a, R: Files<File = File> + Clock, I: Read, W: Write, E: Write
 }
 
 // Answers words, of which those that ask for nothing are a fault.
-fn answer<'a, R: Files<File = File> + Clock, I: Read, W: Write, E: Write>(
+fn answer<
+    'a,
+    R: Files<File = File> + Clock + AllocGlobal + Clone + Drop,
+    I: Read,
+    W: Write,
+    E: Write,
+>(
     rt: &R,
     alloc: Global,
     terminals: Terminals,
@@ -659,7 +717,13 @@ fn answer_unflushed<'a>(answered: Answered<'a>, fault: Fault) -> Answered<'a>
 }
 
 // What came before a fault goes out before its text.
-fn answer_and_flush<'a, R: Files<File = File> + Clock, I: Read, W: Write, E: Write>(
+fn answer_and_flush<
+    'a,
+    R: Files<File = File> + Clock + AllocGlobal + Clone + Drop,
+    I: Read,
+    W: Write,
+    E: Write,
+>(
     rt: &R,
     alloc: Global,
     terminals: Terminals,
@@ -681,7 +745,13 @@ fn answer_and_flush<'a, R: Files<File = File> + Clock, I: Read, W: Write, E: Wri
 // Hands the command a buffer before the output. Each part of a command flushes what it wrote, and a
 // script its replies before each read. The output is recorded, so that the clauses below know all
 // bytes that it took. Each write and flush of it is one of the output, by its counts.
-fn answer_buffered<'a, R: Files<File = File> + Clock, I: Read, O: Write, E: Write>(
+fn answer_buffered<
+    'a,
+    R: Files<File = File> + Clock + AllocGlobal + Clone + Drop,
+    I: Read,
+    O: Write,
+    E: Write,
+>(
     rt: &R,
     alloc: Global,
     terminals: Terminals,
@@ -733,7 +803,12 @@ fn tell_unsaved<E: Write>(unsaved: Option<&str>, errors: &mut E) {
 /// bad command line, 3 a call of a script refused, where the words ask for an end there. Where it
 /// isn't 0, a text for people goes to `errors`.
 /// A last line of it says that what a script did on an image isn't all saved.
-pub fn command_at<R: Files<File = File> + Clock, I: Read, O: Write, E: Write>(
+pub fn command_at<
+    R: Files<File = File> + Clock + AllocGlobal + Clone + Drop,
+    I: Read,
+    O: Write,
+    E: Write,
+>(
     rt: &R,
     alloc: Global,
     terminals: Terminals,
@@ -759,7 +834,9 @@ pub fn command_at<R: Files<File = File> + Clock, I: Read, O: Write, E: Write>(
         }
         Err(fault) => {
             let status = fault.status();
-            let _ = errors.writeln(fault);
+            if fault.has_text() {
+                let _ = errors.writeln(fault);
+            }
             tell_unsaved(unsaved, errors);
             status
         }
@@ -767,14 +844,12 @@ pub fn command_at<R: Files<File = File> + Clock, I: Read, O: Write, E: Write>(
 }
 
 /// As `command_at`, where no stream is a terminal.
-pub fn command<R: Files<File = File> + Clock, I: Read, O: Write, E: Write>(
-    rt: &R,
-    alloc: Global,
-    words: &[String],
-    input: &mut I,
-    output: &mut O,
-    errors: &mut E,
-) -> u8
+pub fn command<
+    R: Files<File = File> + Clock + AllocGlobal + Clone + Drop,
+    I: Read,
+    O: Write,
+    E: Write,
+>(rt: &R, alloc: Global, words: &[String], input: &mut I, output: &mut O, errors: &mut E) -> u8
     ensures most { result ≤ 3 }
     ensures strict { result ≡ 3 → HasWord words.now (codes "--strict") }
 {

@@ -3,10 +3,8 @@
 
 mod amounts;
 mod asked;
-mod changing;
 mod commands;
 mod copying;
-mod putting;
 mod shaping;
 mod simulation;
 mod terminals;

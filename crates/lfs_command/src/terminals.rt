@@ -7,6 +7,10 @@ pub struct Terminals {
     pub input: bool,
     /// Standard error is one.
     pub errors: bool,
+    /// Standard output is one.
+    pub output: bool,
+    /// Standard output is a pipe, whose reader may end before all is written.
+    pub pipe: bool,
 }
 
 impl Terminals {
@@ -14,5 +18,7 @@ impl Terminals {
     pub const NONE: Terminals = Terminals {
         input: false,
         errors: false,
+        output: false,
+        pipe: false,
     };
 }

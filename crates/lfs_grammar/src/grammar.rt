@@ -15,8 +15,10 @@ pub enum Verb {
     Ls,
     Tree,
     Cat,
+    Stat,
     Get,
     Put,
+    Append,
     Rm,
     Mv,
     Mkdir,
@@ -35,6 +37,10 @@ enum Form<'a> {
     Word,
     /// A word in its place, which may be left out.
     OptionalWord,
+    /// Words in their place, at least one.
+    Words,
+    /// Words in their place, which may be left out.
+    OptionalWords,
     /// An option with a value, which has to be given.
     Value,
     /// An option with a value, which may be left out.
@@ -51,6 +57,10 @@ enum Form<'a> {
     Letter(char, &'a str),
     /// An option without a value that has a letter too.
     Lettered(char),
+    /// An option with a value that has a letter too, and isn't given beside another one.
+    LetteredValue(char, &'a str),
+    /// The request for help, where its letter is another option's.
+    Help,
 }
 
 /// A parameter of a command.
@@ -127,6 +137,14 @@ pub const WAIT: &str = "wait";
 
 pub const CHECKPOINT: &str = "checkpoint";
 
+pub const RECURSIVE: &str = "recursive";
+
+pub const PARENTS: &str = "parents";
+
+pub const TARGET: &str = "target";
+
+pub const HUMAN: &str = "human";
+
 /// The word of the checkpoint before the newest.
 pub const OLDER: &str = "older";
 
@@ -165,6 +183,13 @@ const THE_PATH: Parameter = Parameter {
     help: "A path in the volume; with a backslash, a script's word",
 };
 
+const PATHS: Parameter = Parameter {
+    name: PATH,
+    form: Form::Words,
+    value: PATH,
+    help: "Paths in the volume; with a backslash, a script's words",
+};
+
 const A_PATH: Parameter = Parameter {
     name: PATH,
     form: Form::OptionalWord,
@@ -193,11 +218,60 @@ const TO_FILE: Parameter = Parameter {
     help: "A file to make on the host, or else standard output",
 };
 
-const OF_FILE: Parameter = Parameter {
+const OF_FILES: Parameter = Parameter {
     name: FILE,
-    form: Form::OptionalWord,
+    form: Form::OptionalWords,
+    value: FILE,
+    help: "A file of the host, or - for standard input; several with -t",
+};
+
+const BEHIND: Parameter = Parameter {
+    name: FILE,
+    form: Form::Word,
     value: FILE,
     help: "A file of the host, or - for standard input",
+};
+
+const INTO: Parameter = Parameter {
+    name: TARGET,
+    form: Form::LetteredValue('t', RECURSIVE),
+    value: "DIR",
+    help: "Put each file under its own name into this directory of the volume",
+};
+
+const WHOLE_FOLDER: Parameter = Parameter {
+    name: RECURSIVE,
+    form: Form::Lettered('r'),
+    value: "",
+    help: "Put all that is in a folder: put -r IMAGE FOLDER DIR",
+};
+
+const WITH_ALL_BELOW: Parameter = Parameter {
+    name: RECURSIVE,
+    form: Form::Lettered('r'),
+    value: "",
+    help: "Remove directories with all that is below them",
+};
+
+const WITH_PARENTS: Parameter = Parameter {
+    name: PARENTS,
+    form: Form::Lettered('p'),
+    value: "",
+    help: "Make the directories above too, and take one that is there",
+};
+
+const FOR_PEOPLE: Parameter = Parameter {
+    name: HUMAN,
+    form: Form::Lettered('h'),
+    value: "",
+    help: "Print bytes in K, M and G of 1024",
+};
+
+const HELP_WITHOUT_LETTER: Parameter = Parameter {
+    name: "help",
+    form: Form::Help,
+    value: "",
+    help: "Print help",
 };
 
 const TO_FOLDER: Parameter = Parameter {
@@ -408,6 +482,10 @@ const VOLUME_USAGES: &[Usage] = &[
             DEVICE_UNIT,
         ],
     },
+];
+
+/// Commands that look at files or bring them in and out.
+const FILE_USAGES: &[Usage] = &[
     Usage {
         verb: Verb::Ls,
         name: "ls",
@@ -430,15 +508,20 @@ const VOLUME_USAGES: &[Usage] = &[
     Usage {
         verb: Verb::Cat,
         name: "cat",
-        about: "Print the bytes of a file",
-        details: "Print the bytes of a file. Where the device fails behind the first bytes, the\n\
-            command ends with status 1 and prints no line with `err`.",
-        parameters: &[THE_IMAGE, THE_PATH, WAITING],
+        about: "Print the bytes of files",
+        details: "Print the bytes of files, one behind another. Where one is refused behind the first\n\
+            bytes, the command ends with status 1 and prints no line with `err`.",
+        parameters: &[THE_IMAGE, PATHS, WAITING],
     },
-];
-
-/// Commands that bring files in and out, change them, or tell of the volume.
-const FILE_USAGES: &[Usage] = &[
+    Usage {
+        verb: Verb::Stat,
+        name: "stat",
+        about: "Print what stands at paths",
+        details: "Print a line for each path: the path as a word of the script language, and the\n\
+            kind, the number, the links and the size in bytes of what stands there. Of a\n\
+            symbolic link that ends a path the link itself is told, with its text.",
+        parameters: &[THE_IMAGE, PATHS, WAITING],
+    },
     Usage {
         verb: Verb::Get,
         name: "get",
@@ -458,16 +541,35 @@ const FILE_USAGES: &[Usage] = &[
             the same directory until it is whole and synced, and then takes the place of the\n\
             old one: after any stop the old file or the new one is there. What stood as\n\
             `.lfs-put` is removed. Of a symbolic link the link itself is replaced; a\n\
-            directory is refused.",
-        parameters: &[THE_IMAGE, THE_PATH, OF_FILE],
+            directory is refused.\n\
+            With -t each word behind IMAGE is a FILE, and gets its own name in DIR. With -r\n\
+            they are a FOLDER of the host and a DIR, that gets all files, folders and links\n\
+            of it. Both sync at the end and behind each 64 MiB, and print `ok` with the\n\
+            number of files and that of their bytes.",
+        parameters: &[THE_IMAGE, THE_PATH, OF_FILES, INTO, WHOLE_FOLDER],
     },
+    Usage {
+        verb: Verb::Append,
+        name: "append",
+        about: "Write behind the end of a file",
+        details: "Write the bytes of FILE, or of standard input, behind the end of the file PATH,\n\
+            which is made where nothing is there. Print `ok` and their number once that is\n\
+            synced. Where it is refused the file is as it was.",
+        parameters: &[THE_IMAGE, THE_PATH, BEHIND],
+    },
+];
+
+/// Commands that change names, clean, or tell of the volume or copy it.
+const TREE_USAGES: &[Usage] = &[
     Usage {
         verb: Verb::Rm,
         name: "rm",
-        about: "Remove a file, a link or an empty directory",
-        details: "Remove the file, the symbolic link or the empty directory at PATH, and print\n\
-            `ok` once that is synced. A link that ends PATH is removed itself.",
-        parameters: &[THE_IMAGE, THE_PATH],
+        about: "Remove files, links or directories",
+        details: "Remove the files, the symbolic links or the empty directories at these paths, in\n\
+            order, and print `ok` once that is synced. A link that ends a path is removed\n\
+            itself. With -r a directory is removed with all that is below it. Where one is\n\
+            refused nothing behind it is removed, and what was removed before is synced.",
+        parameters: &[THE_IMAGE, PATHS, WITH_ALL_BELOW],
     },
     Usage {
         verb: Verb::Mv,
@@ -480,9 +582,12 @@ const FILE_USAGES: &[Usage] = &[
     Usage {
         verb: Verb::Mkdir,
         name: "mkdir",
-        about: "Make an empty directory",
-        details: "Make an empty directory at PATH, and print `ok` once that is synced.",
-        parameters: &[THE_IMAGE, THE_PATH],
+        about: "Make empty directories",
+        details: "Make an empty directory at each path, in order, and print `ok` once that is\n\
+            synced. With -p the directories above it are made too where they aren't there, and\n\
+            one that is there is taken. Where one is refused nothing behind it is made, and\n\
+            what was made before is synced.",
+        parameters: &[THE_IMAGE, PATHS, WITH_PARENTS],
     },
     Usage {
         verb: Verb::Clean,
@@ -508,8 +613,9 @@ const FILE_USAGES: &[Usage] = &[
         name: "df",
         about: "Print how much of the volume is used and free",
         details: "Print the size of the volume, the bytes of its files, and the bytes of the\n\
-            largest new file that the root has room for.",
-        parameters: &[THE_IMAGE, WAITING],
+            largest new file that the root has room for. With -h bytes are rounded up to\n\
+            tenths of K, M and G, which stand for 1024 bytes, and so on.",
+        parameters: &[THE_IMAGE, FOR_PEOPLE, WAITING, HELP_WITHOUT_LETTER],
     },
     Usage {
         verb: Verb::Info,
@@ -523,13 +629,13 @@ const FILE_USAGES: &[Usage] = &[
     Usage {
         verb: Verb::Export,
         name: "export",
-        about: "Copy the whole tree out of the volume",
-        details: "Copy the whole tree into a new folder of the host, symbolic links as links, and\n\
-            print `ok`, the number of files and that of their bytes. A name that the host\n\
-            can't have, or that isn't UTF-8, is left out with all that is below it: a line\n\
-            `omitted` names it, and the status is 1. The folder stands as FOLDER.lfs-export\n\
-            until it is whole.",
-        parameters: &[THE_IMAGE, TO_FOLDER, WAITING],
+        about: "Copy the whole tree out of the volume, or a directory",
+        details: "Copy the whole tree, or what is below PATH, into a new folder of the host,\n\
+            symbolic links as links, and print `ok`, the number of files and that of their\n\
+            bytes. A name that the host can't have, or that isn't UTF-8, is left out with all\n\
+            that is below it: a line `omitted` names it, and the status is 1. The folder\n\
+            stands as FOLDER.lfs-export until it is whole.",
+        parameters: &[THE_IMAGE, TO_FOLDER, A_PATH, WAITING],
     },
     Usage {
         verb: Verb::Recover,
@@ -549,6 +655,13 @@ fn argument<'a>(alloc: Global, parameter: Parameter<'a>) -> Result<Arg<'a>, Allo
     match parameter.form {
         Form::Word => Ok(argument.required(true).action(ArgAction::Set)),
         Form::OptionalWord => Ok(argument.action(ArgAction::Set)),
+        Form::Words => Ok(
+            argument
+                .required(true)
+                .num_args(1..)
+                .action(ArgAction::Append),
+        ),
+        Form::OptionalWords => Ok(argument.num_args(0..).action(ArgAction::Append)),
         Form::Value => Ok(
             argument
                 .long(parameter.name)
@@ -595,13 +708,26 @@ fn argument<'a>(alloc: Global, parameter: Parameter<'a>) -> Result<Arg<'a>, Allo
                 .long(parameter.name)
                 .action(ArgAction::SetTrue),
         ),
+        Form::LetteredValue(letter, other) => argument
+            .short(letter)
+            .long(parameter.name)
+            .value_name(parameter.value)
+            .action(ArgAction::Set)
+            .conflicts_with(other),
+        Form::Help => Ok(argument.long(parameter.name).action(ArgAction::Help)),
     }
+}
+
+// Whether a parameter stands in the place of the request for help that each command has.
+fn is_help(parameter: &Parameter) -> bool {
+    matches!(parameter.form, Form::Help)
 }
 
 fn subcommand<'a>(alloc: Global, usage: Usage<'a>) -> Result<Command<'a>, AllocError> {
     let mut command = Command::new(alloc, usage.name)
         .about(usage.about)
-        .long_about(usage.details);
+        .long_about(usage.details)
+        .disable_help_flag(usage.parameters.iter().any(is_help));
     for parameter in usage.parameters {
         command = command.arg(argument(alloc, *parameter)?)?;
     }
@@ -627,18 +753,22 @@ pub fn program<'a>(alloc: Global) -> Result<Command<'a>, AllocError> {
         .about(ABOUT)
         .subcommand_required(true);
     let program = with_usages(alloc, program, VOLUME_USAGES)?;
-    with_usages(alloc, program, FILE_USAGES)
+    let program = with_usages(alloc, program, FILE_USAGES)?;
+    with_usages(alloc, program, TREE_USAGES)
 }
 
 /// The command of a name.
 pub fn verb_of(name: &str) -> Option<Verb> {
     match volume_verb(name) {
         Some(verb) => Some(verb),
-        None => file_verb(name),
+        None => match file_verb(name) {
+            Some(verb) => Some(verb),
+            None => tree_verb(name),
+        },
     }
 }
 
-// Each half of the table is looked through by a function of its own: as one constant it is too large
+// Each part of the table is looked through by a function of its own: as one constant it is too large
 // for the prover.
 fn volume_verb(name: &str) -> Option<Verb> {
     verb_in(VOLUME_USAGES, name)
@@ -646,6 +776,10 @@ fn volume_verb(name: &str) -> Option<Verb> {
 
 fn file_verb(name: &str) -> Option<Verb> {
     verb_in(FILE_USAGES, name)
+}
+
+fn tree_verb(name: &str) -> Option<Verb> {
+    verb_in(TREE_USAGES, name)
 }
 
 // The command of a name among these.

@@ -6,4 +6,6 @@ mod reading;
 mod request;
 
 pub use reading::{RequestFault, read_request};
-pub use request::{Action, Change, ExtentWord, LeftWord, Query, Request, ShapeWords, Source};
+pub use request::{
+    Action, Change, ExtentWord, LeftWord, Names, Query, Request, ShapeWords, Source,
+};

@@ -4,11 +4,13 @@ ghost use Rattle.std.specs.Bool.{OnTrue};
 ghost use Rattle.lfs_grammar.specs.Asking.{HasWord, IsStrict};
 
 use crate::grammar::{
-    CHECKPOINT, FILE, FIRST_FORMAT, FOLDER, FORCE, FORMAT, FROM, IMAGE, LEFT, LONG, NEW, NULL, OLD,
-    OLDER, PASSES, PATH, RESERVE, SECOND_FORMAT, SEGMENTS, SIZE, STOP, STRICT, THIRD_FORMAT, TO,
-    UNIT, VERBOSE, Verb, WAIT, program, verb_of,
+    CHECKPOINT, FILE, FIRST_FORMAT, FOLDER, FORCE, FORMAT, FROM, HUMAN, IMAGE, LEFT, LONG, NEW,
+    NULL, OLD, OLDER, PARENTS, PASSES, PATH, RECURSIVE, RESERVE, SECOND_FORMAT, SEGMENTS, SIZE,
+    STOP, STRICT, TARGET, THIRD_FORMAT, TO, UNIT, VERBOSE, Verb, WAIT, program, verb_of,
 };
-use crate::request::{Action, Change, ExtentWord, LeftWord, Query, Request, ShapeWords, Source};
+use crate::request::{
+    Action, Change, ExtentWord, LeftWord, Names, Query, Request, ShapeWords, Source,
+};
 use clap::error::ErrorKind;
 use clap::{ArgMatches, Error};
 use std::alloc::{AllocError, Global};
@@ -26,9 +28,6 @@ impl From<AllocError> for RequestFault {
         RequestFault::Memory(error)
     }
 }
-
-/// The path that is listed where none is given.
-const ROOT: &str = "/";
 
 fn left_of(word: &str) -> Option<LeftWord> {
     match word {
@@ -88,52 +87,94 @@ fn read_mkfs<'a>(found: &ArgMatches<'a>) -> Option<Action<'a>> {
     })
 }
 
-fn on_image<'a>(action: Option<Action<'a>>, found: &ArgMatches<'a>) -> Option<Request<'a>> {
+// Adds the words of a parameter to others. None where memory for them is refused.
+fn add_words<'a>(words: &mut Vec<&'a str>, found: &ArgMatches<'a>, name: &str) -> Option<()> {
+    match found.get_strs(name) {
+        Some(more) => words.extend_from_slice(more).ok(),
+        None => Some(()),
+    }
+}
+
+// The paths and the files of a command line.
+fn read_names<'a>(alloc: Global, found: &ArgMatches<'a>) -> Option<Names<'a>> {
+    let mut paths = Vec::new(alloc);
+    add_words(&mut paths, found, PATH)?;
+    add_words(&mut paths, found, FROM)?;
+    add_words(&mut paths, found, TO)?;
+    let mut files = Vec::new(alloc);
+    add_words(&mut files, found, FILE)?;
+    Some(Names { paths, files })
+}
+
+// Those of a put of several files, whose words are all files, and of one of a folder, whose last
+// word is the path.
+fn read_put_names<'a>(alloc: Global, found: &ArgMatches<'a>) -> Option<Names<'a>> {
+    let mut files = Vec::new(alloc);
+    add_words(&mut files, found, PATH)?;
+    add_words(&mut files, found, FILE)?;
+    let mut paths = Vec::new(alloc);
+    add_words(&mut paths, found, TARGET)?;
+    if found.get_flag(RECURSIVE) {
+        paths.push(files.pop()?).ok()?;
+    }
+    Some(Names { paths, files })
+}
+
+fn with_names<'a>(
+    action: Option<Action<'a>>,
+    names: Option<Names<'a>>,
+    found: &ArgMatches<'a>,
+) -> Option<Request<'a>> {
     Some(Request::Image {
         image: found.get_str(IMAGE)?,
         action: action?,
+        names: names?,
     })
 }
 
-fn asks<'a>(query: Query<'a>, found: &ArgMatches<'a>) -> Option<Request<'a>> {
+fn on_image<'a>(
+    alloc: Global,
+    action: Option<Action<'a>>,
+    found: &ArgMatches<'a>,
+) -> Option<Request<'a>> {
+    with_names(action, read_names(alloc, found), found)
+}
+
+fn asks<'a>(alloc: Global, query: Query<'a>, found: &ArgMatches<'a>) -> Option<Request<'a>> {
     let wait = found.get_flag(WAIT);
-    on_image(Some(Action::Query { query, wait }), found)
+    on_image(alloc, Some(Action::Query { query, wait }), found)
 }
 
-fn changes<'a>(change: Option<Change<'a>>, found: &ArgMatches<'a>) -> Option<Request<'a>> {
-    on_image(Some(Action::Change(change?)), found)
-}
-
-fn read_rename<'a>(found: &ArgMatches<'a>) -> Option<Change<'a>> {
-    Some(Change::Rename(found.get_str(FROM)?, found.get_str(TO)?))
-}
-
-// The path that is looked at, or the root.
-fn path_or_root<'a>(found: &ArgMatches<'a>) -> &'a str {
-    found.get_str(PATH).unwrap_or(ROOT)
+fn changes<'a>(alloc: Global, change: Change<'a>, found: &ArgMatches<'a>) -> Option<Request<'a>> {
+    on_image(alloc, Some(Action::Change(change)), found)
 }
 
 fn read_list<'a>(found: &ArgMatches<'a>) -> Query<'a> {
     Query::List {
-        path: path_or_root(found),
         long: found.get_flag(LONG),
         null: found.get_flag(NULL),
     }
 }
 
-fn read_get<'a>(found: &ArgMatches<'a>) -> Option<Query<'a>> {
-    let path = found.get_str(PATH)?;
+fn read_get<'a>(alloc: Global, found: &ArgMatches<'a>) -> Option<Request<'a>> {
     match found.get_str(FILE) {
-        Some(file) => Some(Query::Get(path, file)),
-        None => Some(Query::Cat(path)),
+        Some(file) => asks(alloc, Query::Get(file), found),
+        None => asks(alloc, Query::Cat, found),
     }
 }
 
-fn read_put<'a>(found: &ArgMatches<'a>) -> Option<Action<'a>> {
-    Some(Action::Put(Source {
-        path: found.get_str(PATH)?,
-        file: found.get_str(FILE),
-    }))
+fn read_put<'a>(alloc: Global, found: &ArgMatches<'a>) -> Option<Request<'a>> {
+    if found.get_flag(RECURSIVE) {
+        let names = read_put_names(alloc, found);
+        return with_names(Some(Action::Put(Source::Folder)), names, found);
+    }
+    match found.get_str(TARGET) {
+        Some(_) => {
+            let names = read_put_names(alloc, found);
+            with_names(Some(Action::Put(Source::Each)), names, found)
+        }
+        None => on_image(alloc, Some(Action::Put(Source::One)), found),
+    }
 }
 
 fn read_check<'a>(found: &ArgMatches<'a>) -> Action<'a> {
@@ -153,26 +194,37 @@ fn read_recover<'a>(found: &ArgMatches<'a>) -> Option<Action<'a>> {
     })
 }
 
-fn asked<'a>(verb: Verb, found: &ArgMatches<'a>) -> Option<Request<'a>> {
+fn asked<'a>(alloc: Global, verb: Verb, found: &ArgMatches<'a>) -> Option<Request<'a>> {
     match verb {
-        Verb::Mkfs => on_image(read_mkfs(found), found),
+        Verb::Mkfs => on_image(alloc, read_mkfs(found), found),
         Verb::Copy => read_copy(found),
-        Verb::Mount => asks(Query::Mount, found),
-        Verb::Check => on_image(Some(read_check(found)), found),
-        Verb::Tree => asks(Query::Tree(path_or_root(found)), found),
-        Verb::Ls => asks(read_list(found), found),
-        Verb::Cat => asks(Query::Cat(found.get_str(PATH)?), found),
-        Verb::Get => asks(read_get(found)?, found),
-        Verb::Export => asks(Query::Export(found.get_str(FOLDER)?), found),
-        Verb::Recover => on_image(read_recover(found), found),
-        Verb::Put => on_image(read_put(found), found),
-        Verb::Info => asks(Query::Info, found),
-        Verb::Df => asks(Query::Free, found),
-        Verb::Rm => changes(Some(Change::Remove(found.get_str(PATH)?)), found),
-        Verb::Mv => changes(read_rename(found), found),
-        Verb::Mkdir => changes(Some(Change::MakeDirectory(found.get_str(PATH)?)), found),
-        Verb::Clean => changes(Some(Change::Clean(found.get_str(PASSES))), found),
-        Verb::Upgrade => changes(Some(Change::Upgrade), found),
+        Verb::Mount => asks(alloc, Query::Mount, found),
+        Verb::Check => on_image(alloc, Some(read_check(found)), found),
+        Verb::Tree => asks(alloc, Query::Tree, found),
+        Verb::Ls => asks(alloc, read_list(found), found),
+        Verb::Cat => asks(alloc, Query::Cat, found),
+        Verb::Stat => asks(alloc, Query::Stat, found),
+        Verb::Get => read_get(alloc, found),
+        Verb::Export => asks(alloc, Query::Export(found.get_str(FOLDER)?), found),
+        Verb::Recover => on_image(alloc, read_recover(found), found),
+        Verb::Put => read_put(alloc, found),
+        Verb::Append => on_image(alloc, Some(Action::Put(Source::Behind)), found),
+        Verb::Info => asks(alloc, Query::Info, found),
+        Verb::Df => {
+            let human = found.get_flag(HUMAN);
+            asks(alloc, Query::Free { human }, found)
+        }
+        Verb::Rm => {
+            let below = found.get_flag(RECURSIVE);
+            changes(alloc, Change::Remove { below }, found)
+        }
+        Verb::Mv => changes(alloc, Change::Rename, found),
+        Verb::Mkdir => {
+            let parents = found.get_flag(PARENTS);
+            changes(alloc, Change::MakeDirectory { parents }, found)
+        }
+        Verb::Clean => changes(alloc, Change::Clean(found.get_str(PASSES)), found),
+        Verb::Upgrade => changes(alloc, Change::Upgrade, found),
         Verb::Run if found.get_flag(STRICT) => Some(Request::Strict {
             image: found.get_str(IMAGE)?,
         }),
@@ -183,9 +235,9 @@ fn asked<'a>(verb: Verb, found: &ArgMatches<'a>) -> Option<Request<'a>> {
     }
 }
 
-fn request_of<'a>(matches: &ArgMatches<'a>) -> Option<Request<'a>> {
+fn request_of<'a>(alloc: Global, matches: &ArgMatches<'a>) -> Option<Request<'a>> {
     let (name, found) = matches.subcommand()?;
-    asked(verb_of(name)?, found)
+    asked(alloc, verb_of(name)?, found)
 }
 
 fn refused<'a>(alloc: Global, error: &Error) -> Result<Request<'a>, RequestFault>
@@ -228,7 +280,7 @@ pub fn read_request<'a>(alloc: Global, words: &'a [String]) -> Result<Request<'a
     ensures { IfOk result (λ request. IsStrict request → HasWord words.now (codes "--strict")) }
 {
     match program(alloc)?.try_get_matches_from(words) {
-        Ok(matches) => match request_of(&matches) {
+        Ok(matches) => match request_of(alloc, &matches) {
             Some(request) => Ok(as_asked(words, request)),
             None => Err(RequestFault::Memory(AllocError)),
         },

@@ -8,7 +8,7 @@ pub enum LeftWord {
     Bad,
 }
 
-/// What is asked of a volume that stays as it is.
+/// What is asked of a volume that stays as it is. Its paths stand apart.
 #[derive(Clone, Copy)]
 pub enum Query<'a> {
     /// The segments and the space.
@@ -16,71 +16,63 @@ pub enum Query<'a> {
     /// The tree, as a script's reply.
     Mount,
     /// The tree below a path, for people.
-    Tree(&'a str),
+    Tree,
     /// The names in a directory, or a file's own.
     List {
-        path: &'a str,
         /// With more than the names.
         long: bool,
         /// As they are, a zero byte behind each.
         null: bool,
     },
-    /// The bytes of a file.
-    Cat(&'a str),
+    /// The bytes of files.
+    Cat,
+    /// What stands at paths.
+    Stat,
     /// The bytes of a file, which go to a new file of the host with this name.
-    Get(&'a str, &'a str),
-    /// The whole tree, which goes to a new folder of the host with this name.
+    Get(&'a str),
+    /// All below a path, which goes to a new folder of the host with this name.
     Export(&'a str),
     /// The space and the segments, for people.
     Info,
     /// How much is used and free, for people.
-    Free,
+    Free {
+        /// Bytes are rounded, with a letter behind them.
+        human: bool,
+    },
 }
 
-impl<'a> Query<'a> {
-    // The path that it has.
-    fn path(self) -> Option<&'a str> {
-        match self {
-            Query::Tree(path) | Query::List { path, .. } => Some(path),
-            Query::Cat(path) | Query::Get(path, _) => Some(path),
-            Query::Check | Query::Mount | Query::Info | Query::Free | Query::Export(_) => None,
-        }
-    }
-}
-
-/// A change of a volume.
+/// A change of a volume. Its paths stand apart.
 #[derive(Clone, Copy)]
 pub enum Change<'a> {
-    /// What stands at a path is removed.
-    Remove(&'a str),
+    /// What stands at paths is removed.
+    Remove {
+        /// Directories with all that is below them.
+        below: bool,
+    },
     /// What stands at the first path gets the second.
-    Rename(&'a str, &'a str),
-    MakeDirectory(&'a str),
+    Rename,
+    MakeDirectory {
+        /// With those above, and where one is there it is taken.
+        parents: bool,
+    },
     /// Segments are cleaned, by so many passes at most where a number is given.
     Clean(Option<&'a str>),
     /// Version 1 of the layout becomes 2.
     Upgrade,
 }
 
-impl<'a> Change<'a> {
-    // The path that it has, the first of two.
-    fn path(self) -> Option<&'a str> {
-        match self {
-            Change::Remove(path) | Change::Rename(path, _) | Change::MakeDirectory(path) => {
-                Some(path)
-            }
-            Change::Clean(_) | Change::Upgrade => None,
-        }
-    }
-}
-
-/// Where a put takes the bytes from, and the path that gets them.
+/// Where a put takes the bytes from, and where they go. Its path and its files stand apart.
 #[derive(Clone, Copy)]
-pub struct Source<'a> {
-    pub path: &'a str,
+pub enum Source {
     /// A file of the host, or `-` for standard input. Without one it is standard input too, if that
-    /// is no terminal and has a byte.
-    pub file: Option<&'a str>,
+    /// is no terminal and has a byte. The path gets the bytes.
+    One,
+    /// Files of the host, each of which gets its own name in the directory of the path.
+    Each,
+    /// All that is in a folder of the host, which goes into the directory of the path.
+    Folder,
+    /// A file of the host, or `-`, whose bytes go behind the end of the file of the path.
+    Behind,
 }
 
 /// How much a new volume is to hold.
@@ -126,20 +118,16 @@ pub enum Action<'a> {
         older: bool,
     },
     Change(Change<'a>),
-    Put(Source<'a>),
+    Put(Source),
 }
 
-impl<'a> Action<'a> {
-    /// The path that it has, as a word of scripts.
-    pub fn path(self) -> Option<&'a str> {
-        match self {
-            Action::Query { query, .. } => query.path(),
-            Action::Put(source) => Some(source.path),
-            Action::Change(change) => change.path(),
-            Action::Explain { .. } | Action::Recover { .. } => None,
-            Action::Mkfs { .. } => None,
-        }
-    }
+/// The words of a command line that name something.
+#[derive(Drop)]
+pub struct Names<'a> {
+    /// Paths in the volume, as words of scripts or as their own bytes.
+    pub paths: Vec<&'a str>,
+    /// Files of the host.
+    pub files: Vec<&'a str>,
 }
 
 /// What a command line asks for.
@@ -150,6 +138,7 @@ pub enum Request<'a> {
     Image {
         image: &'a str,
         action: Action<'a>,
+        names: Names<'a>,
     },
     /// A script is run on an image.
     Run {

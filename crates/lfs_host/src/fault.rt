@@ -77,6 +77,25 @@ impl From<io::Error> for ImageFault {
     }
 }
 
+/// What a command knows of a refused call that the call doesn't say.
+#[derive(Clone, Copy)]
+pub enum Explanation {
+    /// What is to be made is below a directory that isn't there.
+    NoParent,
+    /// A directory is to be moved below itself.
+    Within,
+    /// A file is to be put at the root.
+    Root,
+    /// A file is to have the name dot or dot-dot.
+    Dots,
+    /// What is to be replaced is a directory with entries.
+    Full,
+    /// What a directory is to replace is none.
+    NoDirectory,
+    /// What something else is to replace is a directory.
+    Directory,
+}
+
 /// Why a command is refused. Its text is the line that is printed.
 #[derive(Clone, Copy)]
 pub enum Refusal {
@@ -111,6 +130,8 @@ pub enum Refusal {
     Unfinished,
     /// Standard input, of which a file is to be made, has no byte.
     NoInput,
+    /// A call, with what people are told of it in this command.
+    Explained(FsError, Explanation),
 }
 
 impl Refusal {
@@ -126,6 +147,7 @@ impl Refusal {
             Refusal::NoOlder => MountFault::NoCheckpoint.name(),
             Refusal::Cut(_) => MountFault::TooSmall.name(),
             Refusal::Call(fault) | Refusal::Failed(fault, _) => fault.name(),
+            Refusal::Explained(fault, _) => fault.name(),
             Refusal::Full(_) | Refusal::TooLarge(..) => FsError::NoSpace.name(),
             Refusal::TooLong => FsError::NameTooLong.name(),
             Refusal::NotNew => FsError::NotEmpty.name(),
@@ -169,6 +191,7 @@ impl Refusal {
     pub fn is_of_path(self) -> bool {
         match self {
             Refusal::Unfinished | Refusal::NoInput | Refusal::Full(_) => true,
+            Refusal::Explained(..) => true,
             Refusal::Call(fault) => !matches!(
                 fault,
                 FsError::NoMemory
@@ -200,6 +223,7 @@ impl Refusal {
             Refusal::NotNew => reason::NOT_NEW,
             Refusal::Unfinished => reason::UNFINISHED,
             Refusal::NoInput => reason::NO_INPUT,
+            Refusal::Explained(_, explanation) => reason::of_explained(explanation),
         }
     }
 }
@@ -246,6 +270,8 @@ pub enum Ending {
     /// What a volume still holds is copied. Something is missing or has another name, which was told.
     InPart,
     Refused(Refusal),
+    /// Refused for the word at this place, of the words that the command has of one kind.
+    RefusedAt(Refusal, usize),
     /// The script's line of this number, counted from 1, is bad.
     BadLine(u64),
 }
@@ -257,7 +283,8 @@ impl Ending {
     {
         match self {
             Ending::Done => 0,
-            Ending::Partial | Ending::InPart | Ending::Refused(_) => 1,
+            Ending::Partial | Ending::InPart => 1,
+            Ending::Refused(_) | Ending::RefusedAt(..) => 1,
             Ending::BadLine(_) => 2,
         }
     }
@@ -312,7 +339,8 @@ impl Said<'_> {
     // The path, where the outcome is about it.
     fn shown_path(&self) -> Option<&str> {
         match self.outcome {
-            Outcome::Ended(Ending::Refused(refusal)) if refusal.is_of_path() => self.path,
+            Outcome::Ended(Ending::Refused(refusal) | Ending::RefusedAt(refusal, _))
+                if refusal.is_of_path() => { self.path }
             _ => None,
         }
     }
@@ -340,37 +368,45 @@ impl Display for Grouped {
     }
 }
 
+// Writes what people are told of a refusal.
+fn write_reason<W: fmt::Write>(refusal: Refusal, f: &mut Formatter<W>) -> fmt::Result {
+    match refusal {
+        Refusal::Cut(segments) => {
+            write!(f, "it is cut: its checkpoint names {segments} segments")
+        }
+        Refusal::TooSmall(bytes) if bytes > 0 => {
+            let bytes = Grouped(bytes);
+            write!(f, "it is too small: a volume of {bytes} bytes fits")
+        }
+        Refusal::Full(free) => {
+            let free = Grouped(free);
+            write!(f, "no space: {free} bytes are free for one new file")
+        }
+        Refusal::TooLarge(need, most) => {
+            let (need, most) = (Grouped(need), Grouped(most));
+            write!(
+                f,
+                "no space: the tree needs {need} bytes, and it takes {most}"
+            )
+        }
+        refusal => {
+            f.write_str(refusal.reason())?;
+            match refusal.cause().text() {
+                Some(cause) => write!(f, ": {cause}"),
+                None => Ok(()),
+            }
+        }
+    }
+}
+
 impl Display for Ending {
     fn fmt<W: fmt::Write>(&self, f: &mut Formatter<W>) -> fmt::Result {
         match self {
             Ending::Done => f.write_str("done"),
             Ending::Partial => f.write_str(reason::PARTIAL),
             Ending::InPart => f.write_str(reason::IN_PART),
-            Ending::Refused(Refusal::Cut(segments)) => {
-                write!(f, "it is cut: its checkpoint names {segments} segments")
-            }
-            Ending::Refused(Refusal::TooSmall(bytes)) if *bytes > 0 => {
-                let bytes = Grouped(*bytes);
-                write!(f, "it is too small: a volume of {bytes} bytes fits")
-            }
-            Ending::Refused(Refusal::Full(free)) => {
-                let free = Grouped(*free);
-                write!(f, "no space: {free} bytes are free for one new file")
-            }
-            Ending::Refused(Refusal::TooLarge(need, most)) => {
-                let (need, most) = (Grouped(*need), Grouped(*most));
-                write!(
-                    f,
-                    "no space: the tree needs {need} bytes, and it takes {most}"
-                )
-            }
-            Ending::Refused(refusal) => {
-                f.write_str(refusal.reason())?;
-                match refusal.cause().text() {
-                    Some(cause) => write!(f, ": {cause}"),
-                    None => Ok(()),
-                }
-            }
+            Ending::Refused(refusal) => write_reason(*refusal, f),
+            Ending::RefusedAt(refusal, _) => write_reason(*refusal, f),
             Ending::BadLine(line) => write!(f, "line {line} of the script is bad"),
         }
     }
@@ -416,8 +452,11 @@ pub enum Fault {
     Unit,
     #[error("lfs: the number of passes is no decimal number below 2^32 without leading zeros")]
     Passes,
-    #[error("lfs: PATH is no word of the script language, whose escapes are a backslash and two digits")]
-    Path,
+    #[error("lfs: put takes PATH and one FILE at most; with -t DIR each word is a FILE, and with -r they are a FOLDER and a DIR")]
+    Files,
+    /// A path has a backslash that begins no escape, or a byte that needs one.
+    #[error("lfs: PATH {0} has a backslash, so it has to be a word of the script language: one like /a\\20b for `/a b`, with \\5c for a backslash")]
+    Path(String),
     /// A block device is mounted on a folder.
     #[error("lfs: {image}: it is mounted on {folder}; unmount it first")]
     Mounted { image: String, folder: String },
@@ -428,6 +467,9 @@ pub enum Fault {
     Input,
     #[error("lfs: standard output can't be written")]
     Output,
+    /// Nobody reads standard output any more, and no more of it is wanted.
+    #[error("lfs: standard output is closed")]
+    Closed,
     #[error(transparent)]
     Memory(#[from(alloc)] AllocError),
 }
@@ -440,9 +482,22 @@ impl Fault {
         match self {
             Fault::Line(_) | Fault::Segments | Fault::Stop => 2,
             Fault::Size | Fault::SizedFormat | Fault::UnitOfFormat | Fault::UnitSize => 2,
-            Fault::Unit | Fault::Passes | Fault::Path => 2,
+            Fault::Unit | Fault::Passes | Fault::Files | Fault::Path(_) => 2,
             Fault::Mounted { .. } | Fault::Host { .. } => 1,
-            Fault::Input | Fault::Output | Fault::Memory(_) => 1,
+            Fault::Input | Fault::Output | Fault::Closed | Fault::Memory(_) => 1,
+        }
+    }
+
+    /// Whether people are told of it.
+    pub fn has_text(&self) -> bool {
+        !matches!(self, Fault::Closed)
+    }
+
+    /// Of a path by this word.
+    pub fn of_path(alloc: Global, word: &str) -> Fault {
+        match word.to_string(alloc) {
+            Ok(word) => Fault::Path(word),
+            Err(error) => Fault::Memory(error),
         }
     }
 
@@ -452,5 +507,31 @@ impl Fault {
             Ok(name) => Fault::Host { name, fault },
             Err(error) => Fault::Memory(error),
         }
+    }
+}
+
+/// Why a command that does several things goes no further.
+#[derive(Drop)]
+pub enum Stop {
+    /// One of them is refused.
+    Refused(Refusal),
+    Fault(Fault),
+}
+
+impl From<FsError> for Stop {
+    fn from(refusal: FsError) -> Stop {
+        Stop::Refused(Refusal::Call(refusal))
+    }
+}
+
+impl From<AllocError> for Stop {
+    fn from(error: AllocError) -> Stop {
+        Stop::Fault(Fault::Memory(error))
+    }
+}
+
+impl From<Fault> for Stop {
+    fn from(fault: Fault) -> Stop {
+        Stop::Fault(fault)
     }
 }

@@ -32,8 +32,8 @@ pub enum HostFault {
 }
 
 impl HostFault {
-    // By the kind of a fault of the system, which is another one where nothing more is told.
-    fn of(kind: ErrorKind, other: HostFault) -> HostFault {
+    /// By the kind of a fault of the system, which is another one where nothing more is told.
+    pub fn of(kind: ErrorKind, other: HostFault) -> HostFault {
         match kind {
             ErrorKind::NotFound => HostFault::Missing,
             ErrorKind::PermissionDenied => HostFault::Denied,

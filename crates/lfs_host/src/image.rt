@@ -554,6 +554,7 @@ pub fn end_caused<Here: World>(
 ) -> Result<Ending, Fault> {
     match ending {
         Ok(Ending::Refused(refusal)) => Ok(Ending::Refused(caused(refusal, device))),
+        Ok(Ending::RefusedAt(refusal, at)) => { Ok(Ending::RefusedAt(caused(refusal, device), at)) }
         ending => ending,
     }
 }

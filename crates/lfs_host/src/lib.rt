@@ -4,6 +4,7 @@
 mod asking;
 mod cause;
 pub mod fault;
+pub mod folder;
 pub mod foreign;
 pub mod host;
 pub mod image;

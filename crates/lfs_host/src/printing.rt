@@ -71,3 +71,9 @@ pub fn refuse<W: Write>(output: &mut W, refusal: Refusal) -> Result<Ending, Faul
         Err(_) => Err(Fault::Output),
     }
 }
+
+/// Prints the line of a command that is refused for the word at this place.
+pub fn refuse_at<W: Write>(output: &mut W, refusal: Refusal, at: usize) -> Result<Ending, Fault> {
+    refuse(output, refusal)?;
+    Ok(Ending::RefusedAt(refusal, at))
+}

@@ -1,6 +1,6 @@
 //! What people are told of a refusal, beside its name.
 use crate::cause::Cause;
-use crate::fault::ImageFault;
+use crate::fault::{Explanation, ImageFault};
 use crate::shape::ShapeFault;
 use lfs_fs::{FormatFault, FsError, MountFault};
 
@@ -138,7 +138,9 @@ pub fn of_call(fault: FsError) -> &'static str {
         FsError::Exist => "this is there already",
         FsError::NotEmpty => "the directory has entries",
         FsError::Inval => "an argument isn't taken",
-        FsError::NameTooLong => "a name or a path is too long",
+        FsError::NameTooLong => {
+            "a path has at most 1023 bytes, and a name 59, or 123 where the format and `widen` let it"
+        }
         FsError::Loop => "more than 40 links were to be followed",
         FsError::Perm => "a directory isn't linked or unlinked",
         FsError::Busy => "the root can't be removed or renamed",
@@ -163,5 +165,18 @@ pub fn of_failure(fault: FsError, cause: Cause) -> &'static str {
         UNWRITTEN
     } else {
         of_call(fault)
+    }
+}
+
+/// Of a call of which a command knows more than the call says.
+pub fn of_explained(explanation: Explanation) -> &'static str {
+    match explanation {
+        Explanation::NoParent => "a directory above it isn't there, and `mkdir -p` makes it",
+        Explanation::Within => "a directory can't be moved below itself",
+        Explanation::Root => "this is the root, and a file needs a name",
+        Explanation::Dots => "no file is put under the name . or ..",
+        Explanation::Full => "this is a directory that has entries, and isn't replaced",
+        Explanation::NoDirectory => "this isn't a directory, and isn't replaced by one",
+        Explanation::Directory => "this is a directory, and isn't replaced by anything else",
     }
 }

@@ -85,3 +85,15 @@ module _ {D : Type 0} (state : D → DeviceState) where
     pub answer : Answer
     pub looks : Serves state old mid (LstatOf path) answer
     pub goes_on : GoesOnBy mid new path answer result
+
+  -- by what is told of a path: what stands there is taken away; or nothing is told, and nothing more done
+  abbrev pub TakesBy : {X : Type 0} → Mounted D → Mounted D → List ℕ → Answer → Result X FsError → Type 0
+  TakesBy old new path (Status stat) result = Serves state old new (removal stat.kind path) (answer_by (λ done. Done) result)
+  TakesBy old new path answer result = (new ≡ old) × (answer ≡ answer_by (λ done. Done) result)
+
+  -- What a removal that saves nothing asks of a volume: first what stands at the path, itself and not what it leads to.
+  pub record TakesAway {X : Type 0} (old new : Mounted D) (path : List ℕ) (result : Result X FsError) : Type 0 where
+    pub mid : Mounted D
+    pub answer : Answer
+    pub looks : Serves state old mid (LstatOf path) answer
+    pub takes : TakesBy mid new path answer result

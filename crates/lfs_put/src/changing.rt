@@ -3,7 +3,7 @@ ghost use Rattle.std.specs.Prelude.{[], ◌∷◌};
 ghost use Rattle.lfs_model.specs.Call.{Clean, Done, Mkdir, Rename, Sync, Upgrade};
 ghost use Rattle.lfs_fs.specs.Seen.{answer_by, seen};
 ghost use Rattle.lfs_fs.specs.Volume.{Serves};
-ghost use Rattle.lfs_put.specs.Changing.{CleansSome, MakesInOrder, MakesPasses, Removes, SavesBehind, removal};
+ghost use Rattle.lfs_put.specs.Changing.{CleansSome, MakesInOrder, MakesPasses, Removes, SavesBehind, TakesAway, removal};
 
 use lfs_device::SectorDevice;
 use lfs_fs::{Fs, FsError};
@@ -52,6 +52,20 @@ pub fn remove<D: SectorDevice>(fs: &mut Fs<D>, path: &[u8]) -> Result<(), FsErro
 {
     match fs.lstat(path) {
         Ok(stat) => remove_kind(fs, stat.kind, path),
+        Err(fault) => Err(fault),
+    }
+}
+
+/// Takes away the file, the link or the empty directory of a path, as `remove`, and saves nothing.
+///
+/// # Errors
+///
+/// Those of `lstat`; of a directory those of `rmdir`, else those of `unlink`.
+pub fn remove_unsaved<D: SectorDevice>(fs: &mut Fs<D>, path: &[u8]) -> Result<(), FsError>
+    ensures { TakesAway D.SectorDevice.state (seen fs.old) (seen fs.new) path.now result }
+{
+    match fs.lstat(path) {
+        Ok(stat) => take_away(fs, stat.kind, path),
         Err(fault) => Err(fault),
     }
 }

@@ -8,8 +8,10 @@ pub mod laws;
 mod putting;
 mod telling;
 
-pub use changing::{clean, clean_some, make_directory, remove, rename, upgrade};
+pub use changing::{clean, clean_some, make_directory, remove, remove_unsaved, rename, upgrade};
 pub use getting::{GetFault, get};
 pub use largest::directory_cost;
-pub use putting::{PutFault, UNFINISHED, check_place, put};
+pub use putting::{
+    PutFault, UNFINISHED, above_len, check_place, put, put_link_unsaved, put_unsaved,
+};
 pub use telling::{largest_new_file, slot_of};

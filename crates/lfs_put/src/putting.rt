@@ -87,9 +87,9 @@ fn trimmed_len(path: &[u8]) -> usize
     0
 }
 
-// How many bytes of a path stand before its last piece, the last slash with them. No slash ends the
-// path.
-fn above_len(path: &[u8]) -> usize
+/// How many bytes of a path stand before its last piece, the last slash with them. No slash ends the
+/// path.
+pub fn above_len(path: &[u8]) -> usize
     ensures within { result ≤ length path.now }
     ensures plain { (i : ℕ) → result ≤ i → i < length path.now
         → slice_index path.now i ≢ 47 }
@@ -377,4 +377,87 @@ pub fn put<D: SectorDevice, I: Read>(
         input,
         buffer.as_mut_slice(),
     )
+}
+
+// Makes the file, and gives it its name, and nothing is synced.
+fn replace_unsaved<D: SectorDevice, I: Read>(
+    fs: &mut Fs<D>,
+    unfinished: &[u8],
+    path: &[u8],
+    input: &mut I,
+    buffer: &mut [u8],
+) -> Result<u64, PutFault>
+    requires { 0 < length buffer.old }
+{
+    let count = make_file(fs, unfinished, input, buffer)?;
+    fs.rename(unfinished, path)?;
+    Ok(count)
+}
+
+// Makes something new under the unfinished name, and gives it its name. Where that is refused it is
+// removed again, as far as the volume lets it.
+fn finish<D: SectorDevice, T: Drop>(
+    fs: &mut Fs<D>,
+    beside: &[u8],
+    done: Result<T, PutFault>,
+) -> Result<T, PutFault>
+    ensures { result ≡ done }
+{
+    if done.is_err() {
+        let _ = fs.unlink(beside);
+    }
+    done
+}
+
+/// As `put`, and nothing is synced. So many files may be put for one sync: a stop leaves each of them
+/// whole, or as it was, or not at all.
+///
+/// # Errors
+///
+/// Those of `put`, but for those of `sync`.
+pub fn put_unsaved<D: SectorDevice, I: Read>(
+    alloc: Global,
+    fs: &mut Fs<D>,
+    path: &[u8],
+    input: &mut I,
+) -> Result<u64, PutFault> {
+    let Ok(mut bytes) = vec![in alloc; 0; MOST_BYTES] else {
+        return Err(PutFault::Memory(AllocError));
+    };
+    let unfinished = unfinished_path(alloc, path)?;
+    refuse_directory(fs, path)?;
+    remove_left(fs, unfinished.as_slice())?;
+    let buffer = bytes.as_mut_slice();
+    let done = replace_unsaved(fs, unfinished.as_slice(), path, input, buffer);
+    finish(fs, unfinished.as_slice(), done)
+}
+
+// Makes a link, and gives it its name.
+fn replace_by_link<D: SectorDevice>(
+    fs: &mut Fs<D>,
+    unfinished: &[u8],
+    text: &[u8],
+    path: &[u8],
+) -> Result<(), PutFault> {
+    fs.symlink(text, unfinished)?;
+    fs.rename(unfinished, path)?;
+    Ok(())
+}
+
+/// Makes a symbolic link of a text at a path, in the place of a file or a link. Nothing is synced.
+///
+/// # Errors
+///
+/// Those of `put_unsaved`, with those of `symlink` in the place of those of `create` and `pwrite`.
+pub fn put_link_unsaved<D: SectorDevice>(
+    alloc: Global,
+    fs: &mut Fs<D>,
+    text: &[u8],
+    path: &[u8],
+) -> Result<(), PutFault> {
+    let unfinished = unfinished_path(alloc, path)?;
+    refuse_directory(fs, path)?;
+    remove_left(fs, unfinished.as_slice())?;
+    let done = replace_by_link(fs, unfinished.as_slice(), text, path);
+    finish(fs, unfinished.as_slice(), done)
 }

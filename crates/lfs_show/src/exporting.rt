@@ -1,11 +1,12 @@
 //! The whole tree of a volume, copied into a new folder of the host.
 use crate::copying::{CopyFault, copy_file};
+use crate::listing::trimmed;
 use crate::looking::Looked;
 use crate::unfinished::Unfinished;
-use crate::walking::{ROOT, Visit, Walk, most_steps};
+use crate::walking::{Visit, Walk, go_down, go_up, most_steps};
 use lfs_device::SectorDevice;
 use lfs_fs::{Fs, FsError, TreeRow};
-use lfs_host::fault::{Fault, Refusal};
+use lfs_host::fault::{Fault, Refusal, Stop};
 use lfs_host::host;
 use lfs_host::host::HostFault;
 use lfs_host::printing::{print, put, put_count, put_word};
@@ -24,60 +25,34 @@ struct Progress<'a> {
     /// The path in the volume, of the directory that is copied or of an entry in it. The root has
     /// none.
     path: Vec<u8>,
+    /// How many bytes of it are those of the directory that the export begins with.
+    above: usize,
     files: u64,
     bytes: u64,
     /// What the host can't have was left out.
     is_partial: bool,
 }
 
-/// Why an export goes no further.
-#[derive(Drop)]
-enum Stop {
-    /// The volume refuses a call.
-    Call(FsError),
-    Fault(Fault),
-}
-
-impl From<AllocError> for Stop {
-    fn from(error: AllocError) -> Stop {
-        Stop::Fault(Fault::Memory(error))
-    }
-}
-
-impl From<Fault> for Stop {
-    fn from(fault: Fault) -> Stop {
-        Stop::Fault(fault)
-    }
-}
-
 impl<'a> Progress<'a> {
-    fn new(alloc: Global, folder: &'a str) -> Progress<'a> {
-        Progress {
+    // An export of what is below a path.
+    fn new(alloc: Global, folder: &'a str, path: &[u8]) -> Result<Progress<'a>, AllocError> {
+        let mut above = Vec::new(alloc);
+        above.extend_from_slice(trimmed(path))?;
+        Ok(Progress {
             folder,
-            path: Vec::new(alloc),
+            above: above.len(),
+            path: above,
             files: 0,
             bytes: 0,
             is_partial: false,
-        }
-    }
-
-    // Goes on to an entry of the directory.
-    fn go_down(&mut self, name: &[u8]) -> Result<(), AllocError> {
-        self.path.push(b'/')?;
-        self.path.extend_from_slice(name)?;
-        Ok(())
-    }
-
-    // Goes back to the directory that has the entry.
-    fn go_up(&mut self) {
-        let above = self.path.iter().rposition(|byte| *byte == b'/');
-        self.path.truncate(above.unwrap_or(0));
+        })
     }
 
     // What the entry is called on the host. None where that isn't UTF-8.
     fn name_on_host(&self, alloc: Global) -> Result<Option<String>, AllocError> {
         let folder = self.folder;
-        match str::from_utf8(self.path.as_slice()) {
+        let below = self.path.get(self.above..).unwrap_or(b"");
+        match str::from_utf8(below) {
             Ok(path) => Ok(Some(format!(in alloc; "{folder}{path}")?)),
             Err(_) => Ok(None),
         }
@@ -129,7 +104,7 @@ fn copy<D: SectorDevice, R: Files<File = File>>(
 fn judged(alloc: Global, fault: CopyFault, name: &str) -> Result<(), Stop> {
     match fault {
         CopyFault::Call(FsError::NameTooLong) => Ok(()),
-        CopyFault::Call(refusal) => Err(Stop::Call(refusal)),
+        CopyFault::Call(refusal) => Err(Stop::from(refusal)),
         CopyFault::Host(fault) if fault.is_of_name() => Ok(()),
         CopyFault::Host(fault) => Err(Stop::Fault(Fault::of_host(alloc, name, fault))),
     }
@@ -164,28 +139,29 @@ fn enter<D: SectorDevice, R: Files<File = File>, W: Write>(
     row: &TreeRow,
     output: &mut W,
 ) -> Result<bool, Stop> {
-    export.go_down(row.name.as_slice())?;
+    go_down(&mut export.path, row.name.as_slice())?;
     let is_copied = copy_entry(rt, alloc, fs, export, row)?;
     if !is_copied {
         export.leave_out(output)?;
     }
     let goes_on = is_copied && row.kind == Kind::Directory;
     if !goes_on {
-        export.go_up();
+        go_up(&mut export.path);
     }
     Ok(goes_on)
 }
 
-// Copies all rows of a tree into a folder that is there.
+// Copies what is below a directory into a folder that is there, by all rows of the tree.
 fn copy_rows<D: SectorDevice, R: Files<File = File>, W: Write>(
     rt: &R,
     alloc: Global,
     fs: &mut Fs<D>,
     export: &mut Progress<'_>,
     rows: &[TreeRow],
+    directory: u32,
     output: &mut W,
 ) -> Result<(), Stop> {
-    let mut walk = Walk::new(alloc, rows, ROOT)?;
+    let mut walk = Walk::new(alloc, rows, directory)?;
     for _ in 0..most_steps(rows) {
         match walk.step(rows)? {
             Visit::Entry(row) => {
@@ -194,7 +170,7 @@ fn copy_rows<D: SectorDevice, R: Files<File = File>, W: Write>(
                     walk.skip();
                 }
             }
-            Visit::Left => export.go_up(),
+            Visit::Left => go_up(&mut export.path),
             Visit::Done => break,
         }
     }
@@ -213,37 +189,58 @@ fn put_copied<W: Write>(export: &Progress<'_>, output: &mut W) -> Result<Looked,
     }
 }
 
-// Copies all rows of a tree into a new folder.
+// Copies what is below the directory of a path into a new folder, by all rows of the tree.
 fn copy_tree<D: SectorDevice, R: Files<File = File>, W: Write>(
     rt: &R,
     alloc: Global,
     fs: &mut Fs<D>,
+    path: &[u8],
     product: &mut Unfinished<'_>,
     rows: &[TreeRow],
+    directory: u32,
     output: &mut W,
 ) -> Result<Looked, Fault> {
     product.check_name(rt, alloc)?;
     product.make_folder(rt, alloc)?;
-    let mut export = Progress::new(alloc, product.other());
-    match copy_rows(rt, alloc, fs, &mut export, rows, output) {
+    let mut export = Progress::new(alloc, product.other(), path)?;
+    match copy_rows(rt, alloc, fs, &mut export, rows, directory, output) {
         Ok(()) => put_copied(&export, output),
-        Err(Stop::Call(refusal)) => Ok(Looked::Refused(Refusal::Call(refusal))),
+        Err(Stop::Refused(refusal)) => Ok(Looked::Refused(refusal)),
         Err(Stop::Fault(fault)) => Err(fault),
     }
 }
 
-/// Copies the whole tree of a volume into a new folder of the host, under its other name, links as
-/// links, and prints how many files and bytes that was. What the host can't have is left out, and
-/// told.
+/// The number of the directory of a path.
+pub fn directory_of<D: SectorDevice>(fs: &mut Fs<D>, path: &[u8]) -> Result<u32, FsError> {
+    let stat = fs.stat(path)?;
+    match stat.kind {
+        Kind::Directory => Ok(stat.number),
+        Kind::File | Kind::Link => Err(FsError::NotDir),
+    }
+}
+
+// The number of the directory of a path, and all rows of the tree.
+fn rows_of<D: SectorDevice>(fs: &mut Fs<D>, path: &[u8]) -> Result<(u32, Vec<TreeRow>), FsError> {
+    let directory = directory_of(fs, path)?;
+    Ok((directory, fs.tree()?))
+}
+
+/// Copies what is below the directory of a path into a new folder of the host, under its other name,
+/// links as links, and prints how many files and bytes that was. What the host can't have is left
+/// out, and told.
 pub fn export<D: SectorDevice, R: Files<File = File>, W: Write>(
     rt: &R,
     alloc: Global,
     fs: &mut Fs<D>,
+    path: &[u8],
     product: &mut Unfinished<'_>,
     output: &mut W,
 ) -> Result<Looked, Fault> {
-    match fs.tree() {
-        Ok(rows) => copy_tree(rt, alloc, fs, product, rows.as_slice(), output),
+    match rows_of(fs, path) {
+        Ok((directory, rows)) => {
+            let rows = rows.as_slice();
+            copy_tree(rt, alloc, fs, path, product, rows, directory, output)
+        }
         Err(refusal) => Ok(Looked::Refused(Refusal::Call(refusal))),
     }
 }

@@ -102,6 +102,50 @@ fn put_numbers<W: Write>(free: &Free, output: &mut W) -> Result<(), Fault> {
     flush(output)
 }
 
+// The greatest unit that so many bytes fill, and its letter.
+fn unit_of(bytes: u64) -> (u64, &'static [u8]) {
+    if bytes < 1 << 10 {
+        (1, b"")
+    } else if bytes < 1 << 20 {
+        (1 << 10, b"K")
+    } else if bytes < 1 << 30 {
+        (1 << 20, b"M")
+    } else {
+        (1 << 30, b"G")
+    }
+}
+
+// How many tenths of a unit so many bytes are, rounded up.
+fn tenths_of(bytes: u64, unit: u64) -> u64 {
+    bytes.saturating_mul(10).div_ceil(unit.max(1))
+}
+
+// Writes so many bytes behind a text, rounded up to tenths of the greatest unit that they fill.
+fn put_rounded<W: Write>(output: &mut W, text: &[u8], bytes: u64) -> Result<(), Fault> {
+    let (unit, letter) = unit_of(bytes);
+    let tenths = tenths_of(bytes, unit);
+    put_count(output, text, tenths / 10)?;
+    if unit > 1 {
+        put_count(output, b".", tenths % 10)?;
+    }
+    put(output, letter)
+}
+
+// The same as `put_numbers`, in bytes that are rounded.
+fn put_rounded_numbers<W: Write>(free: &Free, output: &mut W) -> Result<(), Fault> {
+    put_rounded(output, b"size ", free.size)?;
+    put_count(output, b", segments ", u64::from(free.segments))?;
+    put_count(output, b"\nfiles ", free.files)?;
+    put_rounded(output, b", bytes ", free.bytes)?;
+    put_rounded(output, b"\ntotal ", free.total)?;
+    put_rounded(output, b"\nused ", free.used)?;
+    put_count(output, b", ", percent(free))?;
+    put_rounded(output, b" %\nfree ", free.total.saturating_sub(free.used))?;
+    put_rounded(output, b"\none new file takes up to ", free.largest)?;
+    put(output, b"\n")?;
+    flush(output)
+}
+
 /// Writes the line that tells how large a new file may be.
 pub fn put_largest<W: Write>(output: &mut W, bytes: u64) -> Result<(), Fault> {
     put_count(output, b"one new file takes up to ", bytes)?;
@@ -119,14 +163,19 @@ pub fn refusal_of<D: SectorDevice>(fs: &mut Fs<D>, fault: FsError) -> Refusal {
     }
 }
 
-/// Prints how much of a volume is used and free.
+/// Prints how much of a volume is used and free, in bytes that are rounded or not.
 pub fn put_free<D: SectorDevice, W: Write>(
     fs: &mut Fs<D>,
+    human: bool,
     output: &mut W,
 ) -> Result<Looked, Fault> {
     match free_of(fs) {
         Ok(free) => {
-            put_numbers(&free, output)?;
+            if human {
+                put_rounded_numbers(&free, output)?;
+            } else {
+                put_numbers(&free, output)?;
+            }
             Ok(Looked::Done)
         }
         Err(fault) => Ok(Looked::Refused(Refusal::Call(fault))),

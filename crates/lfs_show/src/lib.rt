@@ -3,7 +3,7 @@
 
 mod copying;
 mod describing;
-mod exporting;
+pub mod exporting;
 pub mod free;
 pub mod listing;
 pub mod looking;
@@ -11,4 +11,4 @@ mod sparse;
 mod steadiness;
 mod unfinished;
 pub mod viewing;
-mod walking;
+pub mod walking;

@@ -8,16 +8,55 @@ use lfs_host::printing::{flush, put, put_count, put_word};
 use lfs_model::Kind;
 use std::alloc::Global;
 use std::io::Write;
+use std::str;
+
+/// How a name is written on a line.
+#[derive(Clone, Copy)]
+pub enum Spelling {
+    /// As a word of scripts.
+    Word,
+    /// As it is, as people read it, if it is plain text.
+    Shown,
+}
 
 /// How the names in a directory are listed.
 #[derive(Clone, Copy)]
 pub enum Style {
-    /// As words of scripts, one a line, a directory's with a slash behind it.
-    Words,
+    /// One a line, a directory's with a slash behind it.
+    Words(Spelling),
     /// So with the kind, the size and the links before the name, and a total.
-    Long,
+    Long(Spelling),
     /// As they are, a zero byte behind each.
     Raw,
+}
+
+// Whether a character of Unicode that controls a terminal may begin here, or one that stands for an
+// escape.
+fn is_control(pair: &[u8]) -> bool {
+    match pair {
+        [0xc2, second] => *second < 0xa0,
+        [first, ..] => *first < 0x20 || *first == 0x7f || *first == b'\\',
+        [] => false,
+    }
+}
+
+// Whether bytes are UTF-8 that a terminal shows as it is, and that is no word of scripts with escapes.
+fn is_plain(bytes: &[u8]) -> bool {
+    for at in 0..bytes.len() {
+        let end = at.saturating_add(2).min(bytes.len());
+        if is_control(bytes.get(at..end).unwrap_or(b"")) {
+            return false;
+        }
+    }
+    str::from_utf8(bytes).is_ok()
+}
+
+// Writes bytes in a spelling.
+fn put_spelt<W: Write>(output: &mut W, spelling: Spelling, bytes: &[u8]) -> Result<(), Fault> {
+    match spelling {
+        Spelling::Shown if is_plain(bytes) => put(output, bytes),
+        Spelling::Word | Spelling::Shown => put_word(output, bytes),
+    }
 }
 
 // Writes a slash behind the name of a directory.
@@ -28,18 +67,23 @@ fn put_slash<W: Write>(output: &mut W, kind: Kind) -> Result<(), Fault> {
     }
 }
 
-// Writes an entry's name as a word of scripts, a directory's with a slash behind it.
-fn put_name<W: Write>(output: &mut W, row: &TreeRow) -> Result<(), Fault> {
-    put_word(output, row.name.as_slice())?;
+// Writes an entry's name, a directory's with a slash behind it.
+fn put_name<W: Write>(output: &mut W, spelling: Spelling, row: &TreeRow) -> Result<(), Fault> {
+    put_spelt(output, spelling, row.name.as_slice())?;
     put_slash(output, row.kind)
 }
 
 // Writes an entry with its size, so deep in the tree.
-fn put_entry<W: Write>(output: &mut W, row: &TreeRow, depth: usize) -> Result<(), Fault> {
+fn put_entry<W: Write>(
+    output: &mut W,
+    spelling: Spelling,
+    row: &TreeRow,
+    depth: usize,
+) -> Result<(), Fault> {
     for _ in 0..depth {
         put(output, b"  ")?;
     }
-    put_name(output, row)?;
+    put_name(output, spelling, row)?;
     put_count(output, b"  ", row.size)?;
     put(output, b"\n")
 }
@@ -48,6 +92,7 @@ fn put_entry<W: Write>(output: &mut W, row: &TreeRow, depth: usize) -> Result<()
 fn put_below<W: Write>(
     alloc: Global,
     output: &mut W,
+    spelling: Spelling,
     rows: &[TreeRow],
     directory: u32,
 ) -> Result<(), Fault> {
@@ -55,7 +100,7 @@ fn put_below<W: Write>(
     for _ in 0..most_steps(rows) {
         let depth = walk.depth();
         match walk.step(rows)? {
-            Visit::Entry(row) => put_entry(output, row, depth)?,
+            Visit::Entry(row) => put_entry(output, spelling, row, depth)?,
             Visit::Left => {}
             Visit::Done => break,
         }
@@ -63,21 +108,21 @@ fn put_below<W: Write>(
     flush(output)
 }
 
-// The bytes of a path before the slashes that end it.
-fn trimmed(path: &[u8]) -> &[u8] {
+/// The bytes of a path before the slashes that end it.
+pub fn trimmed(path: &[u8]) -> &[u8] {
     match path.iter().rposition(|byte| *byte != b'/') {
         Some(last) => &path[..last + 1],
         None => b"",
     }
 }
 
-// Writes the word of a path without the slashes that end it, none for the root.
-fn put_path<W: Write>(output: &mut W, path: &[u8]) -> Result<(), Fault> {
+// Writes a path without the slashes that end it, nothing for the root.
+fn put_path<W: Write>(output: &mut W, spelling: Spelling, path: &[u8]) -> Result<(), Fault> {
     let path = trimmed(path);
     if path.is_empty() {
         Ok(())
     } else {
-        put_word(output, path)
+        put_spelt(output, spelling, path)
     }
 }
 
@@ -85,15 +130,16 @@ fn put_path<W: Write>(output: &mut W, path: &[u8]) -> Result<(), Fault> {
 fn put_tree<D: SectorDevice, W: Write>(
     alloc: Global,
     fs: &mut Fs<D>,
+    spelling: Spelling,
     directory: u32,
     path: &[u8],
     output: &mut W,
 ) -> Result<Looked, Fault> {
     match fs.tree() {
         Ok(rows) => {
-            put_path(output, path)?;
+            put_path(output, spelling, path)?;
             put(output, b"/\n")?;
-            put_below(alloc, output, rows.as_slice(), directory)?;
+            put_below(alloc, output, spelling, rows.as_slice(), directory)?;
             Ok(Looked::Done)
         }
         Err(refusal) => Ok(Looked::Refused(Refusal::Call(refusal))),
@@ -101,8 +147,13 @@ fn put_tree<D: SectorDevice, W: Write>(
 }
 
 // Prints what is no directory, as the whole of its tree.
-fn put_leaf<W: Write>(stat: Stat, path: &[u8], output: &mut W) -> Result<Looked, Fault> {
-    put_word(output, path)?;
+fn put_leaf<W: Write>(
+    spelling: Spelling,
+    stat: Stat,
+    path: &[u8],
+    output: &mut W,
+) -> Result<Looked, Fault> {
+    put_spelt(output, spelling, path)?;
     put_count(output, b"  ", stat.size)?;
     put(output, b"\n")?;
     flush(output)?;
@@ -113,13 +164,14 @@ fn put_leaf<W: Write>(stat: Stat, path: &[u8], output: &mut W) -> Result<Looked,
 pub fn tree<D: SectorDevice, W: Write>(
     alloc: Global,
     fs: &mut Fs<D>,
+    spelling: Spelling,
     path: &[u8],
     output: &mut W,
 ) -> Result<Looked, Fault> {
     match fs.stat(path) {
         Ok(stat) => match stat.kind {
-            Kind::Directory => put_tree(alloc, fs, stat.number, path, output),
-            Kind::File | Kind::Link => put_leaf(stat, path, output),
+            Kind::Directory => put_tree(alloc, fs, spelling, stat.number, path, output),
+            Kind::File | Kind::Link => put_leaf(spelling, stat, path, output),
         },
         Err(refusal) => Ok(Looked::Refused(Refusal::Call(refusal))),
     }
@@ -160,11 +212,11 @@ fn put_columns<W: Write>(output: &mut W, kind: Kind, size: u64, links: u32) -> R
 }
 
 // Writes where a link leads to.
-fn put_target<W: Write>(output: &mut W, row: &TreeRow) -> Result<(), Fault> {
+fn put_target<W: Write>(output: &mut W, spelling: Spelling, row: &TreeRow) -> Result<(), Fault> {
     match row.kind {
         Kind::Link => {
             put(output, b" -> ")?;
-            put_word(output, row.head.as_slice())
+            put_spelt(output, spelling, row.head.as_slice())
         }
         Kind::Directory | Kind::File => Ok(()),
     }
@@ -173,7 +225,7 @@ fn put_target<W: Write>(output: &mut W, row: &TreeRow) -> Result<(), Fault> {
 // Ends what is written in a style.
 fn put_end<W: Write>(output: &mut W, style: Style) -> Result<(), Fault> {
     match style {
-        Style::Words | Style::Long => put(output, b"\n"),
+        Style::Words(_) | Style::Long(_) => put(output, b"\n"),
         Style::Raw => put(output, b"\0"),
     }
 }
@@ -181,11 +233,11 @@ fn put_end<W: Write>(output: &mut W, style: Style) -> Result<(), Fault> {
 // Writes an entry in a style.
 fn put_row<W: Write>(output: &mut W, style: Style, row: &TreeRow) -> Result<(), Fault> {
     match style {
-        Style::Words => put_name(output, row)?,
-        Style::Long => {
+        Style::Words(spelling) => put_name(output, spelling, row)?,
+        Style::Long(spelling) => {
             put_columns(output, row.kind, row.size, row.links)?;
-            put_name(output, row)?;
-            put_target(output, row)?;
+            put_name(output, spelling, row)?;
+            put_target(output, spelling, row)?;
         }
         Style::Raw => put(output, row.name.as_slice())?,
     }
@@ -222,8 +274,8 @@ fn put_rows<W: Write>(
         }
     }
     match style {
-        Style::Long => put_total(output, rows, directory)?,
-        Style::Words | Style::Raw => {}
+        Style::Long(_) => put_total(output, rows, directory)?,
+        Style::Words(_) | Style::Raw => {}
     }
     flush(output)
 }
@@ -252,10 +304,10 @@ fn put_single<W: Write>(
     path: &[u8],
 ) -> Result<(), Fault> {
     match style {
-        Style::Words => put_word(output, path)?,
-        Style::Long => {
+        Style::Words(spelling) => put_spelt(output, spelling, path)?,
+        Style::Long(spelling) => {
             put_columns(output, stat.kind, stat.size, stat.links)?;
-            put_word(output, path)?;
+            put_spelt(output, spelling, path)?;
         }
         Style::Raw => put(output, path)?,
     }

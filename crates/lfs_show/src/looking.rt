@@ -3,12 +3,13 @@ use crate::copying::get_file;
 use crate::describing::describe;
 use crate::exporting::export;
 use crate::free::put_free;
-use crate::listing::{Style, list, tree};
+use crate::listing::{Spelling, Style, list, tree};
 use crate::unfinished::Unfinished;
 use lfs_device::SectorDevice;
 use lfs_fs::{Fs, Space, TreeRow};
-use lfs_host::fault::{Ending, Fault, Refusal};
-use lfs_host::printing::{flush, print, put_count, refuse};
+use lfs_host::fault::{Ending, Fault, Refusal, Stop};
+use lfs_host::printing::{flush, print, put, put_count, put_word, refuse, refuse_at};
+use lfs_model::Kind;
 use lfs_model::limits::NEED_OF_SEGMENT;
 use lfs_put::{GetFault, get};
 use lfs_replies::{Answer, put_reply};
@@ -19,7 +20,7 @@ use std::fs::File;
 use std::io::Write;
 use std::rt::Files;
 
-/// What is looked at. A path is a word of scripts still.
+/// What is looked at. Its paths stand apart.
 #[derive(Clone, Copy)]
 pub enum Look<'a> {
     /// The segments and the space.
@@ -27,42 +28,48 @@ pub enum Look<'a> {
     /// The tree, as a script's reply.
     Mount,
     /// The tree below a path, for people.
-    Tree(&'a str),
+    Tree(Spelling),
     /// The names in a directory, or a file's own.
-    List(&'a str, Style),
-    /// The bytes of a file.
-    Cat(&'a str),
+    List(Style),
+    /// The bytes of files.
+    Cat,
+    /// What stands at paths.
+    Stat,
     /// The bytes of a file, which go to a new file of the host with this name.
-    Get(&'a str, &'a str),
-    /// The whole tree, which goes to a new folder of the host with this name.
+    Get(&'a str),
+    /// All below a path, which goes to a new folder of the host with this name.
     Export(&'a str),
     /// The space and the segments, for people.
     Info,
-    /// How much is used and free, for people.
-    Free,
+    /// How much is used and free, for people, in bytes that are rounded or not.
+    Free { human: bool },
 }
 
-impl<'a> Look<'a> {
+impl Look<'_> {
     /// Whether it makes a file or a folder of the host.
     pub fn makes_something(self) -> bool {
-        matches!(self, Look::Get(..) | Look::Export(_))
-    }
-
-    /// The path that it has.
-    pub fn path(self) -> Option<&'a str> {
-        match self {
-            Look::Tree(path) | Look::List(path, _) => Some(path),
-            Look::Cat(path) | Look::Get(path, _) => Some(path),
-            Look::Check | Look::Mount | Look::Info | Look::Free | Look::Export(_) => None,
-        }
+        matches!(self, Look::Get(_) | Look::Export(_))
     }
 }
 
-/// What is looked at, and the bytes of its path.
+/// The path that is looked at where none is given.
+const ROOT_PATH: &[u8] = b"/";
+
+/// What is looked at, and the bytes of its paths.
 #[derive(Clone, Copy)]
 pub struct Asked<'a> {
     pub look: Look<'a>,
-    pub path: &'a [u8],
+    pub paths: &'a [Vec<u8>],
+}
+
+impl<'a> Asked<'a> {
+    // Its first path, or the root.
+    fn path(self) -> &'a [u8] {
+        match self.paths.first() {
+            Some(path) => path.as_slice(),
+            None => ROOT_PATH,
+        }
+    }
 }
 
 /// How a look ends.
@@ -71,8 +78,10 @@ pub enum Looked {
     Done,
     /// Nothing was printed that counts.
     Refused(Refusal),
-    /// A beginning was printed, as of a file.
-    Broken(Refusal),
+    /// The same, for the path at this place.
+    RefusedAt(Refusal, usize),
+    /// A beginning was printed, as of a file, and the path at this place was refused.
+    Broken(Refusal, usize),
     /// It was done but for what the host can't have.
     Partial,
 }
@@ -82,7 +91,8 @@ impl Looked {
     pub fn is_doubtful(self) -> bool {
         match self {
             Looked::Done | Looked::Partial => false,
-            Looked::Refused(refusal) | Looked::Broken(refusal) => refusal.is_doubtful(),
+            Looked::Refused(refusal) => refusal.is_doubtful(),
+            Looked::RefusedAt(refusal, _) | Looked::Broken(refusal, _) => refusal.is_doubtful(),
         }
     }
 }
@@ -93,7 +103,8 @@ pub fn end_look<W: Write>(looked: Looked, output: &mut W) -> Result<Ending, Faul
         Looked::Done => Ok(Ending::Done),
         Looked::Partial => Ok(Ending::Partial),
         Looked::Refused(refusal) => refuse(output, refusal),
-        Looked::Broken(refusal) => Ok(Ending::Refused(refusal)),
+        Looked::RefusedAt(refusal, at) => refuse_at(output, refusal, at),
+        Looked::Broken(refusal, at) => Ok(Ending::RefusedAt(refusal, at)),
     }
 }
 
@@ -141,21 +152,93 @@ fn check<D: SectorDevice, W: Write>(fs: &mut Fs<D>, output: &mut W) -> Result<Lo
     }
 }
 
-// Prints the bytes of a file.
+// Ends the printing of files, behind so many bytes, since the one at this place was refused.
+fn end_cat<W: Write>(
+    fault: GetFault,
+    bytes: u64,
+    at: usize,
+    output: &mut W,
+) -> Result<Looked, Fault> {
+    match fault {
+        GetFault::Call(refusal) if bytes == 0 => {
+            Ok(Looked::RefusedAt(Refusal::Call(refusal), at))
+        }
+        GetFault::Call(refusal) | GetFault::CutShort(refusal) => {
+            flush(output).map(|()| Looked::Broken(Refusal::Call(refusal), at))
+        }
+        GetFault::Output => Err(Fault::Output),
+    }
+}
+
+// Prints the bytes of files, one behind another.
 fn cat<D: SectorDevice, W: Write>(
+    fs: &mut Fs<D>,
+    paths: &[Vec<u8>],
+    output: &mut W,
+) -> Result<Looked, Fault> {
+    let mut bytes: u64 = 0;
+    for (at, path) in paths.iter().enumerate() {
+        match get(fs, path.as_slice(), output) {
+            Ok(count) => bytes = bytes.saturating_add(count),
+            Err(fault) => return end_cat(fault, bytes, at, output),
+        }
+    }
+    flush(output).map(|()| Looked::Done)
+}
+
+// The word of a kind.
+fn kind_word(kind: Kind) -> &'static [u8] {
+    match kind {
+        Kind::File => b": file, number ",
+        Kind::Directory => b": dir, number ",
+        Kind::Link => b": link, number ",
+    }
+}
+
+// Writes where the link of a path leads to.
+fn put_target<D: SectorDevice, W: Write>(
     fs: &mut Fs<D>,
     path: &[u8],
     output: &mut W,
-) -> Result<Looked, Fault> {
-    let got = get(fs, path, output);
-    match got {
-        Ok(_) => flush(output).map(|()| Looked::Done),
-        Err(GetFault::Call(refusal)) => Ok(Looked::Refused(Refusal::Call(refusal))),
-        Err(GetFault::CutShort(refusal)) => {
-            flush(output).map(|()| Looked::Broken(Refusal::Call(refusal)))
-        }
-        Err(GetFault::Output) => Err(Fault::Output),
+) -> Result<(), Stop> {
+    let text = fs.readlink(path)?;
+    put(output, b" -> ")?;
+    put_word(output, text.as_slice())?;
+    Ok(())
+}
+
+// Writes a line of what stands at a path. A link that ends it is told itself, with its text.
+fn put_stat<D: SectorDevice, W: Write>(
+    fs: &mut Fs<D>,
+    path: &[u8],
+    output: &mut W,
+) -> Result<(), Stop> {
+    let stat = fs.lstat(path)?;
+    put_word(output, path)?;
+    if stat.kind == Kind::Link {
+        put_target(fs, path, output)?;
     }
+    put_count(output, kind_word(stat.kind), u64::from(stat.number))?;
+    put_count(output, b", links ", u64::from(stat.links))?;
+    put_count(output, b", size ", stat.size)?;
+    put(output, b"\n")?;
+    Ok(())
+}
+
+// Prints a line for each path.
+fn stat_each<D: SectorDevice, W: Write>(
+    fs: &mut Fs<D>,
+    paths: &[Vec<u8>],
+    output: &mut W,
+) -> Result<Looked, Fault> {
+    for (at, path) in paths.iter().enumerate() {
+        match put_stat(fs, path.as_slice(), output) {
+            Ok(()) => {}
+            Err(Stop::Refused(refusal)) => return Ok(Looked::RefusedAt(refusal, at)),
+            Err(Stop::Fault(fault)) => return Err(fault),
+        }
+    }
+    flush(output).map(|()| Looked::Done)
 }
 
 // The bytes of a path that are those of its word.
@@ -165,25 +248,26 @@ fn plain_path(alloc: Global, word: &str) -> Result<Vec<u8>, Fault> {
     Ok(path)
 }
 
-/// The bytes of a path by its word: its own bytes, or as a word of scripts where it has a
-/// backslash.
-pub fn read_path(alloc: Global, word: &str) -> Result<Vec<u8>, Fault> {
+// The bytes of a path by its word: its own bytes, or as a word of scripts where it has a
+// backslash.
+fn read_path(alloc: Global, word: &str) -> Result<Vec<u8>, Fault> {
     if !word.as_bytes().contains(&b'\\') {
         return plain_path(alloc, word);
     }
     match read_escaped(alloc, word.as_bytes()) {
         Ok(path) => Ok(path),
         Err(WordFault::Memory) => Err(Fault::Memory(AllocError)),
-        Err(WordFault::Spelling) => Err(Fault::Path),
+        Err(WordFault::Spelling) => Err(Fault::of_path(alloc, word)),
     }
 }
 
-/// The bytes of the path that is looked at, none where there is no path.
-pub fn path_of(alloc: Global, look: Look<'_>) -> Result<Vec<u8>, Fault> {
-    match look.path() {
-        Some(word) => read_path(alloc, word),
-        None => Ok(Vec::new(alloc)),
+/// The bytes of paths by their words.
+pub fn read_paths(alloc: Global, words: &[&str]) -> Result<Vec<Vec<u8>>, Fault> {
+    let mut paths = Vec::new(alloc);
+    for word in words {
+        paths.push(read_path(alloc, word)?)?;
     }
+    Ok(paths)
 }
 
 /// Looks at a mounted volume. What it makes on the host stands under its other name then.
@@ -198,12 +282,13 @@ pub fn look_at<D: SectorDevice, R: Files<File = File>, W: Write>(
     match asked.look {
         Look::Check => check(fs, output),
         Look::Mount => show(fs, output),
-        Look::Tree(_) => tree(alloc, fs, asked.path, output),
-        Look::List(_, style) => list(fs, style, asked.path, output),
-        Look::Cat(_) => cat(fs, asked.path, output),
-        Look::Get(..) => get_file(rt, alloc, fs, asked.path, product, output),
-        Look::Export(_) => export(rt, alloc, fs, product, output),
+        Look::Tree(spelling) => tree(alloc, fs, spelling, asked.path(), output),
+        Look::List(style) => list(fs, style, asked.path(), output),
+        Look::Cat => cat(fs, asked.paths, output),
+        Look::Stat => stat_each(fs, asked.paths, output),
+        Look::Get(_) => get_file(rt, alloc, fs, asked.path(), product, output),
+        Look::Export(_) => export(rt, alloc, fs, asked.path(), product, output),
         Look::Info => describe(fs, output),
-        Look::Free => put_free(fs, output),
+        Look::Free { human } => put_free(fs, human, output),
     }
 }

@@ -76,7 +76,7 @@ impl<'a> Unfinished<'a> {
     /// What a look is to make, of which nothing is there yet.
     pub fn of(alloc: Global, look: Look<'a>) -> Result<Unfinished<'a>, AllocError> {
         match look {
-            Look::Get(_, name) => Unfinished::new(alloc, name, OF_FILE, false),
+            Look::Get(name) => Unfinished::new(alloc, name, OF_FILE, false),
             Look::Export(name) => Unfinished::new(alloc, name, OF_FOLDER, true),
             _ => Unfinished::new(alloc, "", "", false),
         }

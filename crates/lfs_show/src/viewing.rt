@@ -1,6 +1,6 @@
 //! Looks at the volume of an image, which another program may write meanwhile. What is said of it
 //! is of one moment.
-use crate::looking::{Asked, Look, Looked, end_look, look_at, path_of};
+use crate::looking::{Asked, Look, Looked, end_look, look_at, read_paths};
 use crate::steadiness::Sight;
 use crate::unfinished::Unfinished;
 use lfs_device::{FileDeviceIn, SectorDevice, World};
@@ -91,8 +91,8 @@ fn conclude<R: Files<File = File>, W: Write>(
 ) -> Result<Looked, Fault> {
     match looked {
         Looked::Done | Looked::Partial => product.finish(rt, alloc)?,
-        Looked::Broken(_) => {}
-        Looked::Refused(_) => {
+        Looked::Broken(..) => {}
+        Looked::Refused(_) | Looked::RefusedAt(..) => {
             product.discard(rt, alloc);
             return Ok(looked);
         }
@@ -241,20 +241,21 @@ fn look_steadily<Here: World, R: Files<File = File> + Clock, W: Write>(
     Ok(Looked::Refused(UNSTEADY))
 }
 
-/// Looks at the volume of an image. The spelling of a path comes before the image. Where another
-/// program writes it, what is printed or made is of one moment all the same.
+/// Looks at the volume of an image, by the words of its paths. Their spelling comes before the image.
+/// Where another program writes it, what is printed or made is of one moment all the same.
 pub fn look<Here: World, R: Files<File = File> + Clock, W: Write>(
     rt: &R,
     alloc: Global,
     image: &str,
     look: Look<'_>,
+    words: &[&str],
     patience: Patience,
     output: &mut W,
 ) -> Result<Ending, Fault> {
-    let path = path_of(alloc, look)?;
+    let paths = read_paths(alloc, words)?;
     let asked = Asked {
         look,
-        path: path.as_slice(),
+        paths: paths.as_slice(),
     };
     let looked = look_steadily::<Here, R, W>(rt, alloc, image, asked, patience, output)?;
     end_look(looked, output)

@@ -1,10 +1,7 @@
 //! A walk over the rows of a tree, in which those of a directory stand behind its own.
 use lfs_fs::TreeRow;
-use lfs_model::{FileNumber, Kind};
+use lfs_model::Kind;
 use std::alloc::{AllocError, Global};
-
-/// The number of the root.
-pub const ROOT: u32 = FileNumber::ROOT.value as u32;
 
 /// A directory whose entries are gone through, and the row of its next entry.
 #[derive(Clone, Copy)]
@@ -84,6 +81,19 @@ impl Walk {
     pub fn skip(&mut self) {
         let _ = self.levels.pop();
     }
+}
+
+/// Makes the path of a directory that of an entry in it.
+pub fn go_down(path: &mut Vec<u8>, name: &[u8]) -> Result<(), AllocError> {
+    path.push(b'/')?;
+    path.extend_from_slice(name)?;
+    Ok(())
+}
+
+/// Makes the path of an entry that of the directory that has it.
+pub fn go_up(path: &mut Vec<u8>) {
+    let above = path.iter().rposition(|byte| *byte == b'/');
+    path.truncate(above.unwrap_or(0));
 }
 
 /// The most steps that a walk over these rows takes: one to each row, and one to the end of each
