@@ -16,8 +16,10 @@ fn spelling_of(terminals: Terminals) -> Spelling {
     }
 }
 
-fn style_of(long: bool, null: bool, spelling: Spelling) -> Style {
-    if long {
+fn style_of(long: bool, null: bool, json: bool, spelling: Spelling) -> Style {
+    if json {
+        Style::Objects
+    } else if long {
         Style::Long(spelling)
     } else if null {
         Style::Raw
@@ -30,16 +32,17 @@ fn style_of(long: bool, null: bool, spelling: Spelling) -> Style {
 pub fn look_of(query: Query<'_>, terminals: Terminals) -> Look<'_> {
     let spelling = spelling_of(terminals);
     match query {
-        Query::Check => Look::Check,
+        Query::Check { json } => Look::Check { json },
         Query::Mount => Look::Mount,
         Query::Tree => Look::Tree(spelling),
-        Query::List { long, null } => Look::List(style_of(long, null, spelling)),
+        Query::List { long, null, json } => Look::List(style_of(long, null, json, spelling)),
         Query::Cat => Look::Cat,
-        Query::Stat => Look::Stat,
+        Query::Stat { json } => Look::Stat { json },
         Query::Get(file) => Look::Get(file),
         Query::Export(folder) => Look::Export(folder),
-        Query::Info => Look::Info,
-        Query::Free { human } => Look::Free { human },
+        Query::Info { json } => Look::Info { json },
+        Query::Free { json: true, .. } => Look::FreeObject,
+        Query::Free { human, .. } => Look::Free { human },
     }
 }
 

@@ -484,7 +484,15 @@ fn check_and_explain<Here: World, R: Files<File = File> + Clock, W: Write>(
     patience: Patience,
     output: &mut W,
 ) -> Result<Ending, Fault> {
-    let checked = look::<Here, R, W>(rt, alloc, image, Look::Check, &[], patience, output)?;
+    let checked = look::<Here, R, W>(
+        rt,
+        alloc,
+        image,
+        Look::Check { json: false },
+        &[],
+        patience,
+        output,
+    )?;
     explain::<Here, R, W>(rt, alloc, image, checked, patience, output)
 }
 

@@ -55,6 +55,8 @@ enum Form<'a> {
     Switch,
     /// An option without a value that has a letter too, and isn't given beside another one.
     Letter(char, &'a str),
+    /// An option without a value that isn't given beside any of these.
+    Alone(&'a [&'a str]),
     /// An option without a value that has a letter too.
     Lettered(char),
     /// An option with a value that has a letter too, and isn't given beside another one.
@@ -144,6 +146,8 @@ pub const PARENTS: &str = "parents";
 pub const TARGET: &str = "target";
 
 pub const HUMAN: &str = "human";
+
+pub const JSON: &str = "json";
 
 /// The word of the checkpoint before the newest.
 pub const OLDER: &str = "older";
@@ -265,6 +269,34 @@ const FOR_PEOPLE: Parameter = Parameter {
     form: Form::Lettered('h'),
     value: "",
     help: "Print bytes in K, M and G of 1024",
+};
+
+const NAMES_AS_JSON: Parameter = Parameter {
+    name: JSON,
+    form: Form::Alone(&[LONG, NULL]),
+    value: "",
+    help: "Print an object of JSON for each name",
+};
+
+const BYTES_AS_JSON: Parameter = Parameter {
+    name: JSON,
+    form: Form::Alone(&[HUMAN]),
+    value: "",
+    help: "Print an object of JSON",
+};
+
+const SPACE_AS_JSON: Parameter = Parameter {
+    name: JSON,
+    form: Form::Alone(&[VERBOSE]),
+    value: "",
+    help: "Print an object of JSON",
+};
+
+const AS_JSON: Parameter = Parameter {
+    name: JSON,
+    form: Form::Switch,
+    value: "",
+    help: "Print an object of JSON on each line",
 };
 
 const HELP_WITHOUT_LETTER: Parameter = Parameter {
@@ -445,7 +477,7 @@ const VOLUME_USAGES: &[Usage] = &[
             that the tree needs, and the most that it may need. With -v further lines say\n\
             where a damaged volume fails, and name a slot without a checkpoint and what an\n\
             unfinished `put` left.",
-        parameters: &[THE_IMAGE, IN_WORDS, WAITING],
+        parameters: &[THE_IMAGE, IN_WORDS, SPACE_AS_JSON, WAITING],
     },
     Usage {
         verb: Verb::Mount,
@@ -494,8 +526,16 @@ const FILE_USAGES: &[Usage] = &[
             directory's with a slash behind it. Of anything else the path itself is printed.\n\
             With -l the kind, the size in bytes and the number of links stand before the\n\
             name, and a total behind all. With -0 each name is as it is, with a zero byte\n\
-            behind it, as `xargs -0` takes it.",
-        parameters: &[THE_IMAGE, A_PATH, LONG_LINES, RAW_NAMES, WAITING],
+            behind it, as `xargs -0` takes it. With --json each line is an object, in which\n\
+            a name that isn't UTF-8 is `name_hex`, in hexadecimal digits.",
+        parameters: &[
+            THE_IMAGE,
+            A_PATH,
+            LONG_LINES,
+            RAW_NAMES,
+            NAMES_AS_JSON,
+            WAITING,
+        ],
     },
     Usage {
         verb: Verb::Tree,
@@ -520,7 +560,7 @@ const FILE_USAGES: &[Usage] = &[
         details: "Print a line for each path: the path as a word of the script language, and the\n\
             kind, the number, the links and the size in bytes of what stands there. Of a\n\
             symbolic link that ends a path the link itself is told, with its text.",
-        parameters: &[THE_IMAGE, PATHS, WAITING],
+        parameters: &[THE_IMAGE, PATHS, AS_JSON, WAITING],
     },
     Usage {
         verb: Verb::Get,
@@ -615,7 +655,13 @@ const TREE_USAGES: &[Usage] = &[
         details: "Print the size of the volume, the bytes of its files, and the bytes of the\n\
             largest new file that the root has room for. With -h bytes are rounded up to\n\
             tenths of K, M and G, which stand for 1024 bytes, and so on.",
-        parameters: &[THE_IMAGE, FOR_PEOPLE, WAITING, HELP_WITHOUT_LETTER],
+        parameters: &[
+            THE_IMAGE,
+            FOR_PEOPLE,
+            BYTES_AS_JSON,
+            WAITING,
+            HELP_WITHOUT_LETTER,
+        ],
     },
     Usage {
         verb: Verb::Info,
@@ -623,8 +669,9 @@ const TREE_USAGES: &[Usage] = &[
         about: "Print what the volume is, and how full each segment is",
         details: "Print the number of the newest checkpoint, the segments and the space, and a\n\
             picture with a sign for each segment: a dot for one with no live block, else 1\n\
-            to 9 for up to 7 to 63 of them.",
-        parameters: &[THE_IMAGE, WAITING],
+            to 9 for up to 7 to 63 of them. With --json the bytes of a unit and the live\n\
+            blocks of each segment are numbers.",
+        parameters: &[THE_IMAGE, AS_JSON, WAITING],
     },
     Usage {
         verb: Verb::Export,
@@ -649,6 +696,15 @@ const TREE_USAGES: &[Usage] = &[
         parameters: &[THE_IMAGE, TO_FOLDER, WHICH_CHECKPOINT],
     },
 ];
+
+// An argument that isn't given beside any of these.
+fn alone<'a>(argument: Arg<'a>, others: &'a [&'a str]) -> Result<Arg<'a>, AllocError> {
+    let mut argument = argument;
+    for other in others {
+        argument = argument.conflicts_with(other)?;
+    }
+    Ok(argument)
+}
 
 fn argument<'a>(alloc: Global, parameter: Parameter<'a>) -> Result<Arg<'a>, AllocError> {
     let argument = Arg::new(alloc, parameter.name).help(parameter.help);
@@ -702,6 +758,10 @@ fn argument<'a>(alloc: Global, parameter: Parameter<'a>) -> Result<Arg<'a>, Allo
             .long(parameter.name)
             .action(ArgAction::SetTrue)
             .conflicts_with(other),
+        Form::Alone(others) => alone(
+            argument.long(parameter.name).action(ArgAction::SetTrue),
+            others,
+        ),
         Form::Lettered(letter) => Ok(
             argument
                 .short(letter)

@@ -4,9 +4,9 @@ ghost use Rattle.std.specs.Bool.{OnTrue};
 ghost use Rattle.lfs_grammar.specs.Asking.{HasWord, IsStrict};
 
 use crate::grammar::{
-    CHECKPOINT, FILE, FIRST_FORMAT, FOLDER, FORCE, FORMAT, FROM, HUMAN, IMAGE, LEFT, LONG, NEW,
-    NULL, OLD, OLDER, PARENTS, PASSES, PATH, RECURSIVE, RESERVE, SECOND_FORMAT, SEGMENTS, SIZE,
-    STOP, STRICT, TARGET, THIRD_FORMAT, TO, UNIT, VERBOSE, Verb, WAIT, program, verb_of,
+    CHECKPOINT, FILE, FIRST_FORMAT, FOLDER, FORCE, FORMAT, FROM, HUMAN, IMAGE, JSON, LEFT, LONG,
+    NEW, NULL, OLD, OLDER, PARENTS, PASSES, PATH, RECURSIVE, RESERVE, SECOND_FORMAT, SEGMENTS,
+    SIZE, STOP, STRICT, TARGET, THIRD_FORMAT, TO, UNIT, VERBOSE, Verb, WAIT, program, verb_of,
 };
 use crate::request::{
     Action, Change, ExtentWord, LeftWord, Names, Query, Request, ShapeWords, Source,
@@ -153,6 +153,26 @@ fn read_list<'a>(found: &ArgMatches<'a>) -> Query<'a> {
     Query::List {
         long: found.get_flag(LONG),
         null: found.get_flag(NULL),
+        json: found.get_flag(JSON),
+    }
+}
+
+fn read_stat<'a>(found: &ArgMatches<'a>) -> Query<'a> {
+    Query::Stat {
+        json: found.get_flag(JSON),
+    }
+}
+
+fn read_info<'a>(found: &ArgMatches<'a>) -> Query<'a> {
+    Query::Info {
+        json: found.get_flag(JSON),
+    }
+}
+
+fn read_free<'a>(found: &ArgMatches<'a>) -> Query<'a> {
+    Query::Free {
+        human: found.get_flag(HUMAN),
+        json: found.get_flag(JSON),
     }
 }
 
@@ -182,7 +202,8 @@ fn read_check<'a>(found: &ArgMatches<'a>) -> Action<'a> {
     if found.get_flag(VERBOSE) {
         Action::Explain { wait }
     } else {
-        let query = Query::Check;
+        let json = found.get_flag(JSON);
+        let query = Query::Check { json };
         Action::Query { query, wait }
     }
 }
@@ -203,17 +224,14 @@ fn asked<'a>(alloc: Global, verb: Verb, found: &ArgMatches<'a>) -> Option<Reques
         Verb::Tree => asks(alloc, Query::Tree, found),
         Verb::Ls => asks(alloc, read_list(found), found),
         Verb::Cat => asks(alloc, Query::Cat, found),
-        Verb::Stat => asks(alloc, Query::Stat, found),
+        Verb::Stat => asks(alloc, read_stat(found), found),
         Verb::Get => read_get(alloc, found),
         Verb::Export => asks(alloc, Query::Export(found.get_str(FOLDER)?), found),
         Verb::Recover => on_image(alloc, read_recover(found), found),
         Verb::Put => read_put(alloc, found),
         Verb::Append => on_image(alloc, Some(Action::Put(Source::Behind)), found),
-        Verb::Info => asks(alloc, Query::Info, found),
-        Verb::Df => {
-            let human = found.get_flag(HUMAN);
-            asks(alloc, Query::Free { human }, found)
-        }
+        Verb::Info => asks(alloc, read_info(found), found),
+        Verb::Df => asks(alloc, read_free(found), found),
         Verb::Rm => {
             let below = found.get_flag(RECURSIVE);
             changes(alloc, Change::Remove { below }, found)

@@ -12,7 +12,10 @@ pub enum LeftWord {
 #[derive(Clone, Copy)]
 pub enum Query<'a> {
     /// The segments and the space.
-    Check,
+    Check {
+        /// As an object of JSON.
+        json: bool,
+    },
     /// The tree, as a script's reply.
     Mount,
     /// The tree below a path, for people.
@@ -23,21 +26,31 @@ pub enum Query<'a> {
         long: bool,
         /// As they are, a zero byte behind each.
         null: bool,
+        /// An object of JSON for each.
+        json: bool,
     },
     /// The bytes of files.
     Cat,
     /// What stands at paths.
-    Stat,
+    Stat {
+        /// As objects of JSON.
+        json: bool,
+    },
     /// The bytes of a file, which go to a new file of the host with this name.
     Get(&'a str),
     /// All below a path, which goes to a new folder of the host with this name.
     Export(&'a str),
     /// The space and the segments, for people.
-    Info,
+    Info {
+        /// Rather as an object of JSON.
+        json: bool,
+    },
     /// How much is used and free, for people.
     Free {
         /// Bytes are rounded, with a letter behind them.
         human: bool,
+        /// As an object of JSON.
+        json: bool,
     },
 }
 

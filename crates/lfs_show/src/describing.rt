@@ -1,12 +1,14 @@
 //! What a volume is, for people: its space, and what lives in its segments.
 use crate::free::put_largest;
 use crate::looking::Looked;
+use crate::objects::Object;
 use lfs_device::SectorDevice;
 use lfs_fs::{Fs, FsError, Shape, Space};
 use lfs_host::fault::{Fault, Refusal};
-use lfs_host::printing::{print, put, put_counts};
+use lfs_host::printing::{flush, print, put, put_counts};
 use lfs_host::shape::{unit_bytes, volume_bytes};
 use lfs_put::largest_new_file;
+use std::alloc::{AllocError, Global};
 use std::io::Write;
 
 /// How many segments a line of the picture has.
@@ -74,6 +76,42 @@ fn put_numbers<D: SectorDevice, W: Write>(
     put(output, b"live blocks of each segment:")
 }
 
+// Adds the live blocks of each segment.
+fn list_live<D: SectorDevice>(fs: &Fs<D>, object: &mut Object) -> Result<(), AllocError> {
+    let usage = fs.usage();
+    object.begin_list("live_blocks")?;
+    for segment in 0..usage.segments() {
+        object.item(u64::from(usage.state(segment).live))?;
+    }
+    object.end_list()
+}
+
+// The same as an object.
+fn object_of<D: SectorDevice>(
+    alloc: Global,
+    fs: &Fs<D>,
+    description: &Description,
+) -> Result<Object, AllocError> {
+    let space = &description.space;
+    let shape = &description.shape;
+    let mut object = Object::new(alloc)?;
+    object.numbers(&[
+        ("checkpoint", fs.checkpoint()),
+        ("version", u64::from(shape.version)),
+        ("unit_bytes", unit_bytes(shape)),
+        ("size", volume_bytes(shape)),
+        ("segments", u64::from(shape.segments)),
+        ("clean", u64::from(fs.usage().clean())),
+        ("data_blocks", space.data_blocks),
+        ("meta_blocks", space.meta_blocks),
+        ("need", space.need),
+        ("limit", space.limit),
+        ("largest_new_file", description.largest),
+    ])?;
+    list_live(fs, &mut object)?;
+    Ok(object)
+}
+
 fn description_of<D: SectorDevice>(fs: &mut Fs<D>) -> Result<Description, FsError> {
     let shape = fs.shape()?;
     let space = fs.space()?;
@@ -94,6 +132,22 @@ pub fn describe<D: SectorDevice, W: Write>(
         Ok(description) => {
             put_numbers(fs, &description, output)?;
             put_picture(fs, output)?;
+            Ok(Looked::Done)
+        }
+        Err(refusal) => Ok(Looked::Refused(Refusal::Call(refusal))),
+    }
+}
+
+/// Describes a mounted volume by an object of JSON.
+pub fn describe_object<D: SectorDevice, W: Write>(
+    alloc: Global,
+    fs: &mut Fs<D>,
+    output: &mut W,
+) -> Result<Looked, Fault> {
+    match description_of(fs) {
+        Ok(description) => {
+            object_of(alloc, fs, &description)?.put(output)?;
+            flush(output)?;
             Ok(Looked::Done)
         }
         Err(refusal) => Ok(Looked::Refused(Refusal::Call(refusal))),

@@ -1,5 +1,6 @@
 //! How much of a volume is used and how much is free, for people.
 use crate::looking::Looked;
+use crate::objects::Object;
 use lfs_device::SectorDevice;
 use lfs_fs::{Fs, FsError, TreeRow};
 use lfs_host::fault::{Fault, Refusal};
@@ -8,6 +9,7 @@ use lfs_host::shape::volume_bytes;
 use lfs_model::Kind;
 use lfs_model::limits::{FILE_NUMBERS, LEAST_NEED, NEED_OF_META, SECTOR_LEN};
 use lfs_put::largest_new_file;
+use std::alloc::{AllocError, Global};
 use std::io::Write;
 use std::mem;
 
@@ -102,6 +104,22 @@ fn put_numbers<W: Write>(free: &Free, output: &mut W) -> Result<(), Fault> {
     flush(output)
 }
 
+// The same as an object.
+fn object_of(alloc: Global, free: &Free) -> Result<Object, AllocError> {
+    let mut object = Object::new(alloc)?;
+    object.numbers(&[
+        ("size", free.size),
+        ("segments", u64::from(free.segments)),
+        ("files", free.files),
+        ("bytes", free.bytes),
+        ("total", free.total),
+        ("used", free.used),
+        ("free", free.total.saturating_sub(free.used)),
+        ("largest_new_file", free.largest),
+    ])?;
+    Ok(object)
+}
+
 // The greatest unit that so many bytes fill, and its letter.
 fn unit_of(bytes: u64) -> (u64, &'static [u8]) {
     if bytes < 1 << 10 {
@@ -176,6 +194,22 @@ pub fn put_free<D: SectorDevice, W: Write>(
             } else {
                 put_numbers(&free, output)?;
             }
+            Ok(Looked::Done)
+        }
+        Err(fault) => Ok(Looked::Refused(Refusal::Call(fault))),
+    }
+}
+
+/// Prints how much of a volume is used and free as an object of JSON.
+pub fn put_free_object<D: SectorDevice, W: Write>(
+    alloc: Global,
+    fs: &mut Fs<D>,
+    output: &mut W,
+) -> Result<Looked, Fault> {
+    match free_of(fs) {
+        Ok(free) => {
+            object_of(alloc, &free)?.put(output)?;
+            flush(output)?;
             Ok(Looked::Done)
         }
         Err(fault) => Ok(Looked::Refused(Refusal::Call(fault))),

@@ -7,6 +7,7 @@ pub mod exporting;
 pub mod free;
 pub mod listing;
 pub mod looking;
+mod objects;
 mod sparse;
 mod steadiness;
 mod unfinished;

@@ -1,5 +1,6 @@
 //! The names in a directory, and the tree below it, for people and for scripts.
 use crate::looking::Looked;
+use crate::objects::put_node;
 use crate::walking::{Visit, Walk, most_steps};
 use lfs_device::SectorDevice;
 use lfs_fs::{Fs, Stat, TreeRow};
@@ -28,6 +29,8 @@ pub enum Style {
     Long(Spelling),
     /// As they are, a zero byte behind each.
     Raw,
+    /// An object of JSON for each.
+    Objects,
 }
 
 // Whether a character of Unicode that controls a terminal may begin here, or one that stands for an
@@ -227,11 +230,36 @@ fn put_end<W: Write>(output: &mut W, style: Style) -> Result<(), Fault> {
     match style {
         Style::Words(_) | Style::Long(_) => put(output, b"\n"),
         Style::Raw => put(output, b"\0"),
+        Style::Objects => Ok(()),
     }
 }
 
+// The text of an entry that is a link.
+fn target_of(row: &TreeRow) -> Option<&[u8]> {
+    match row.kind {
+        Kind::Link => Some(row.head.as_slice()),
+        Kind::Directory | Kind::File => None,
+    }
+}
+
+// Writes an entry as an object.
+fn put_object<W: Write>(alloc: Global, output: &mut W, row: &TreeRow) -> Result<(), Fault> {
+    let stat = Stat {
+        number: row.number,
+        kind: row.kind,
+        links: row.links,
+        size: row.size,
+    };
+    put_node(alloc, output, row.name.as_slice(), stat, target_of(row))
+}
+
 // Writes an entry in a style.
-fn put_row<W: Write>(output: &mut W, style: Style, row: &TreeRow) -> Result<(), Fault> {
+fn put_row<W: Write>(
+    alloc: Global,
+    output: &mut W,
+    style: Style,
+    row: &TreeRow,
+) -> Result<(), Fault> {
     match style {
         Style::Words(spelling) => put_name(output, spelling, row)?,
         Style::Long(spelling) => {
@@ -240,6 +268,7 @@ fn put_row<W: Write>(output: &mut W, style: Style, row: &TreeRow) -> Result<(), 
             put_target(output, spelling, row)?;
         }
         Style::Raw => put(output, row.name.as_slice())?,
+        Style::Objects => put_object(alloc, output, row)?,
     }
     put_end(output, style)
 }
@@ -263,6 +292,7 @@ fn put_total<W: Write>(output: &mut W, rows: &[TreeRow], directory: u32) -> Resu
 
 // Writes the entries of a directory in a style.
 fn put_rows<W: Write>(
+    alloc: Global,
     output: &mut W,
     style: Style,
     rows: &[TreeRow],
@@ -270,18 +300,19 @@ fn put_rows<W: Write>(
 ) -> Result<(), Fault> {
     for row in rows {
         if row.directory == directory {
-            put_row(output, style, row)?;
+            put_row(alloc, output, style, row)?;
         }
     }
     match style {
         Style::Long(_) => put_total(output, rows, directory)?,
-        Style::Words(_) | Style::Raw => {}
+        Style::Words(_) | Style::Raw | Style::Objects => {}
     }
     flush(output)
 }
 
 // Prints the names in a directory.
 fn list_directory<D: SectorDevice, W: Write>(
+    alloc: Global,
     fs: &mut Fs<D>,
     style: Style,
     directory: u32,
@@ -289,7 +320,7 @@ fn list_directory<D: SectorDevice, W: Write>(
 ) -> Result<Looked, Fault> {
     match fs.tree() {
         Ok(rows) => {
-            put_rows(output, style, rows.as_slice(), directory)?;
+            put_rows(alloc, output, style, rows.as_slice(), directory)?;
             Ok(Looked::Done)
         }
         Err(refusal) => Ok(Looked::Refused(Refusal::Call(refusal))),
@@ -298,6 +329,7 @@ fn list_directory<D: SectorDevice, W: Write>(
 
 // Writes a path that is no directory's, in a style.
 fn put_single<W: Write>(
+    alloc: Global,
     output: &mut W,
     style: Style,
     stat: Stat,
@@ -310,24 +342,27 @@ fn put_single<W: Write>(
             put_spelt(output, spelling, path)?;
         }
         Style::Raw => put(output, path)?,
+        Style::Objects => put_node(alloc, output, path, stat, None)?,
     }
     put_end(output, style)
 }
 
 // Prints a path that is no directory's.
 fn list_single<W: Write>(
+    alloc: Global,
     style: Style,
     stat: Stat,
     path: &[u8],
     output: &mut W,
 ) -> Result<Looked, Fault> {
-    put_single(output, style, stat, path)?;
+    put_single(alloc, output, style, stat, path)?;
     flush(output)?;
     Ok(Looked::Done)
 }
 
 /// Prints the names in a directory, or a path that is none's.
 pub fn list<D: SectorDevice, W: Write>(
+    alloc: Global,
     fs: &mut Fs<D>,
     style: Style,
     path: &[u8],
@@ -335,8 +370,8 @@ pub fn list<D: SectorDevice, W: Write>(
 ) -> Result<Looked, Fault> {
     match fs.stat(path) {
         Ok(stat) => match stat.kind {
-            Kind::Directory => list_directory(fs, style, stat.number, output),
-            Kind::File | Kind::Link => list_single(style, stat, path, output),
+            Kind::Directory => list_directory(alloc, fs, style, stat.number, output),
+            Kind::File | Kind::Link => list_single(alloc, style, stat, path, output),
         },
         Err(refusal) => Ok(Looked::Refused(Refusal::Call(refusal))),
     }

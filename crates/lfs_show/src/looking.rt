@@ -1,9 +1,10 @@
 //! Commands that look at a mounted volume, over its calls alone.
 use crate::copying::get_file;
-use crate::describing::describe;
+use crate::describing::{describe, describe_object};
 use crate::exporting::export;
-use crate::free::put_free;
+use crate::free::{put_free, put_free_object};
 use crate::listing::{Spelling, Style, list, tree};
+use crate::objects::{Object, put_node};
 use crate::unfinished::Unfinished;
 use lfs_device::SectorDevice;
 use lfs_fs::{Fs, Space, TreeRow};
@@ -23,8 +24,8 @@ use std::rt::Files;
 /// What is looked at. Its paths stand apart.
 #[derive(Clone, Copy)]
 pub enum Look<'a> {
-    /// The segments and the space.
-    Check,
+    /// The segments and the space, as an object of JSON or not.
+    Check { json: bool },
     /// The tree, as a script's reply.
     Mount,
     /// The tree below a path, for people.
@@ -33,16 +34,18 @@ pub enum Look<'a> {
     List(Style),
     /// The bytes of files.
     Cat,
-    /// What stands at paths.
-    Stat,
+    /// What stands at paths, as objects of JSON or for people.
+    Stat { json: bool },
     /// The bytes of a file, which go to a new file of the host with this name.
     Get(&'a str),
     /// All below a path, which goes to a new folder of the host with this name.
     Export(&'a str),
-    /// The space and the segments, for people.
-    Info,
+    /// The space and the segments, as an object of JSON or for people.
+    Info { json: bool },
     /// How much is used and free, for people, in bytes that are rounded or not.
     Free { human: bool },
+    /// The same as an object of JSON.
+    FreeObject,
 }
 
 impl Look<'_> {
@@ -141,11 +144,34 @@ fn put_space<W: Write>(space: &Space, output: &mut W) -> Result<(), Fault> {
     print(output, "\n")
 }
 
+// Prints the same as an object.
+fn put_space_object<W: Write>(alloc: Global, space: &Space, output: &mut W) -> Result<(), Fault> {
+    let mut object = Object::new(alloc)?;
+    object.numbers(&[
+        ("segments", space.limit / NEED_OF_SEGMENT),
+        ("data_blocks", space.data_blocks),
+        ("meta_blocks", space.meta_blocks),
+        ("need", space.need),
+        ("limit", space.limit),
+    ])?;
+    object.put(output)?;
+    flush(output)
+}
+
 // Prints the number of segments and the space of a volume.
-fn check<D: SectorDevice, W: Write>(fs: &mut Fs<D>, output: &mut W) -> Result<Looked, Fault> {
+fn check<D: SectorDevice, W: Write>(
+    alloc: Global,
+    fs: &mut Fs<D>,
+    json: bool,
+    output: &mut W,
+) -> Result<Looked, Fault> {
     match fs.space() {
         Ok(space) => {
-            put_space(&space, output)?;
+            if json {
+                put_space_object(alloc, &space, output)?;
+            } else {
+                put_space(&space, output)?;
+            }
             Ok(Looked::Done)
         }
         Err(refusal) => Ok(Looked::Refused(Refusal::Call(refusal))),
@@ -225,14 +251,38 @@ fn put_stat<D: SectorDevice, W: Write>(
     Ok(())
 }
 
-// Prints a line for each path.
+// Writes the same as an object.
+fn put_stat_object<D: SectorDevice, W: Write>(
+    alloc: Global,
+    fs: &mut Fs<D>,
+    path: &[u8],
+    output: &mut W,
+) -> Result<(), Stop> {
+    let stat = fs.lstat(path)?;
+    if stat.kind == Kind::Link {
+        let text = fs.readlink(path)?;
+        put_node(alloc, output, path, stat, Some(text.as_slice()))?;
+    } else {
+        put_node(alloc, output, path, stat, None)?;
+    }
+    Ok(())
+}
+
+// Prints a line for each path, or an object.
 fn stat_each<D: SectorDevice, W: Write>(
+    alloc: Global,
     fs: &mut Fs<D>,
     paths: &[Vec<u8>],
+    json: bool,
     output: &mut W,
 ) -> Result<Looked, Fault> {
     for (at, path) in paths.iter().enumerate() {
-        match put_stat(fs, path.as_slice(), output) {
+        let put = if json {
+            put_stat_object(alloc, fs, path.as_slice(), output)
+        } else {
+            put_stat(fs, path.as_slice(), output)
+        };
+        match put {
             Ok(()) => {}
             Err(Stop::Refused(refusal)) => return Ok(Looked::RefusedAt(refusal, at)),
             Err(Stop::Fault(fault)) => return Err(fault),
@@ -280,15 +330,17 @@ pub fn look_at<D: SectorDevice, R: Files<File = File>, W: Write>(
     output: &mut W,
 ) -> Result<Looked, Fault> {
     match asked.look {
-        Look::Check => check(fs, output),
+        Look::Check { json } => check(alloc, fs, json, output),
         Look::Mount => show(fs, output),
         Look::Tree(spelling) => tree(alloc, fs, spelling, asked.path(), output),
-        Look::List(style) => list(fs, style, asked.path(), output),
+        Look::List(style) => list(alloc, fs, style, asked.path(), output),
         Look::Cat => cat(fs, asked.paths, output),
-        Look::Stat => stat_each(fs, asked.paths, output),
+        Look::Stat { json } => stat_each(alloc, fs, asked.paths, json, output),
         Look::Get(_) => get_file(rt, alloc, fs, asked.path(), product, output),
         Look::Export(_) => export(rt, alloc, fs, asked.path(), product, output),
-        Look::Info => describe(fs, output),
+        Look::Info { json: false } => describe(fs, output),
+        Look::Info { json: true } => describe_object(alloc, fs, output),
         Look::Free { human } => put_free(fs, human, output),
+        Look::FreeObject => put_free_object(alloc, fs, output),
     }
 }

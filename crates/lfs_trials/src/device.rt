@@ -27,7 +27,8 @@ pub fn sectors_of(volume: NewVolume) -> u32 {
     before + SEGMENT_SECTORS * u32::from(volume.segments)
 }
 
-/// Makes an empty volume on a device. One of version 3 has the units that are told.
+/// Makes an empty volume on a device. One of version 3 has the units that are told, others have
+/// sectors.
 pub fn make_volume<D: SectorDevice>(device: &mut D, volume: NewVolume) -> Result<()> {
     let segments = u32::from(volume.segments);
     let shape = Shape {
@@ -45,9 +46,9 @@ pub fn make_volume<D: SectorDevice>(device: &mut D, volume: NewVolume) -> Result
         .context(format_args!("no volume of {segments} segments"))
 }
 
-/// A device with an empty volume. One of version 3 has the device's units.
+/// A device with an empty volume.
 pub fn new_device(alloc: Global, volume: NewVolume) -> Result<MemDevice> {
-    let mut device = device_of(alloc, sectors_of(volume), volume.unit, 0)?;
+    let mut device = device_of(alloc, sectors_of(volume), volume.device_unit, 0)?;
     make_volume(&mut device, volume)?;
     Ok(device)
 }

@@ -8,6 +8,7 @@
 //! - `! new N V` makes a device with an empty volume of N segments, of version V.
 //! - `! device N U` and `! new N V U` do so with units of U sectors each, counted from sector 0.
 //!   Where U isn't given, each sector is a unit. A volume of version 3 has such units too.
+//! - `! new N V U P` makes a device with units of P sectors, and a volume with units of U.
 //! - `! fail read N`, `write` or `sync`: the N-th such call from now on, counted from 0, fails once.
 //! - `! stop N`: the N-th write from now on fails, and each later call too, until the device stops.
 //! - `! use` mounts the device, runs the script, and takes the device back. It says the replies, and

@@ -10,6 +10,8 @@ pub struct NewVolume {
     pub segments: u16,
     pub version: u32,
     pub unit: NonZeroU32,
+    /// The sectors of a unit of its device.
+    pub device_unit: NonZeroU32,
 }
 
 /// What is to be done. A unit is of so many sectors.
@@ -68,14 +70,16 @@ fn new_device(words: &str) -> Result<Order> {
     })
 }
 
-/// The volume that words tell.
+/// The volume that words tell. Its device has the same units, where none of its own are told.
 pub fn new_volume(words: &str) -> Result<NewVolume> {
     let (segments, words) = words.split_once(' ').context("segments and a version")?;
-    let (version, unit) = words.split_once(' ').unwrap_or((words, ""));
+    let (version, units) = words.split_once(' ').unwrap_or((words, ""));
+    let (unit, device_unit) = units.split_once(' ').unwrap_or((units, units));
     Ok(NewVolume {
         segments: segments.parse::<u16>().context("segments")?,
         version: version.parse::<u32>().context("a version")?,
         unit: unit_of(unit)?,
+        device_unit: unit_of(device_unit)?,
     })
 }
 
