@@ -532,8 +532,16 @@ fn act<
         Action::Explain { wait } => {
             check_and_explain::<Here, R, W>(rt, alloc, image, patience_of(wait), output)
         }
-        Action::Recover { folder, older } => {
-            let asked = Recovery { folder, older };
+        Action::Recover {
+            folder,
+            older,
+            scan: scans,
+        } => {
+            let asked = Recovery {
+                folder,
+                older,
+                scans,
+            };
             recover::<Here, R, W>(rt, alloc, image, asked, output)
         }
         Action::Change(asked) => {

@@ -149,6 +149,8 @@ pub const HUMAN: &str = "human";
 
 pub const JSON: &str = "json";
 
+pub const SCAN: &str = "scan";
+
 /// The word of the checkpoint before the newest.
 pub const OLDER: &str = "older";
 
@@ -432,6 +434,13 @@ const WHICH_CHECKPOINT: Parameter = Parameter {
     help: "Begin with the checkpoint before the newest",
 };
 
+const BY_LOG: Parameter = Parameter {
+    name: SCAN,
+    form: Form::Alone(&[CHECKPOINT]),
+    value: "",
+    help: "Go by the log, where both checkpoints are lost",
+};
+
 const VOLUME_USAGES: &[Usage] = &[
     Usage {
         verb: Verb::Mkfs,
@@ -692,8 +701,9 @@ const TREE_USAGES: &[Usage] = &[
             Nothing is written to the volume. A line `part` names a file that lacks blocks,\n\
             with a line for each behind it. What no name leads to goes to `lost+found`\n\
             under its number. The last line has how many files are whole, and how many are\n\
-            there in part.",
-        parameters: &[THE_IMAGE, TO_FOLDER, WHICH_CHECKPOINT],
+            there in part. With --scan the slots of the checkpoint aren't looked at: a line\n\
+            `scan` has the commit that the log leads to.",
+        parameters: &[THE_IMAGE, TO_FOLDER, WHICH_CHECKPOINT, BY_LOG],
     },
 ];
 

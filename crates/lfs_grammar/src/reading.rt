@@ -5,8 +5,9 @@ ghost use Rattle.lfs_grammar.specs.Asking.{HasWord, IsStrict};
 
 use crate::grammar::{
     CHECKPOINT, FILE, FIRST_FORMAT, FOLDER, FORCE, FORMAT, FROM, HUMAN, IMAGE, JSON, LEFT, LONG,
-    NEW, NULL, OLD, OLDER, PARENTS, PASSES, PATH, RECURSIVE, RESERVE, SECOND_FORMAT, SEGMENTS,
-    SIZE, STOP, STRICT, TARGET, THIRD_FORMAT, TO, UNIT, VERBOSE, Verb, WAIT, program, verb_of,
+    NEW, NULL, OLD, OLDER, PARENTS, PASSES, PATH, RECURSIVE, RESERVE, SCAN, SECOND_FORMAT,
+    SEGMENTS, SIZE, STOP, STRICT, TARGET, THIRD_FORMAT, TO, UNIT, VERBOSE, Verb, WAIT, program,
+    verb_of,
 };
 use crate::request::{
     Action, Change, ExtentWord, LeftWord, Names, Query, Request, ShapeWords, Source,
@@ -212,6 +213,7 @@ fn read_recover<'a>(found: &ArgMatches<'a>) -> Option<Action<'a>> {
     Some(Action::Recover {
         folder: found.get_str(FOLDER)?,
         older: found.get_str(CHECKPOINT) == Some(OLDER),
+        scan: found.get_flag(SCAN),
     })
 }
 

@@ -129,6 +129,8 @@ pub enum Action<'a> {
         folder: &'a str,
         /// It begins with the checkpoint before the newest.
         older: bool,
+        /// It goes by the log, whatever the slots of the checkpoint hold.
+        scan: bool,
     },
     Change(Change<'a>),
     Put(Source),

@@ -31,7 +31,7 @@ pub const NO_ROOM: &str = "it is too small for any volume";
 /// Of an image that isn't mounted, and on which no sector begins as a checkpoint does at which a
 /// slot may stand.
 pub const FOREIGN: &str =
-    "this is no Pansuyog volume, or both its checkpoints are lost; mkfs would empty it";
+    "this is no Pansuyog volume, or both its checkpoints are lost, as `recover --scan` tells; mkfs would empty it";
 
 /// Of an export that leaves out what the host can't have.
 pub const PARTIAL: &str = "what the host can't have was left out, and is named on standard output";

@@ -6,6 +6,7 @@ mod explaining;
 mod host_paths;
 mod recovering;
 mod rescue;
+mod scanning;
 mod telling;
 mod wording;
 

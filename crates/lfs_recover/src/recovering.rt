@@ -2,7 +2,8 @@
 ghost use Rattle.lfs_salvage.specs.Telling.{TellsNothing};
 
 use crate::rescue::Rescue;
-use crate::telling::tell_map;
+use crate::scanning::{Scanned, scan};
+use crate::telling::{tell_map, tell_scan};
 use crate::wording::put_slot;
 use lfs_device::{SectorDevice, World};
 use lfs_fs::MountFault;
@@ -14,7 +15,7 @@ use lfs_host::printing::{flush, print, put_count, refuse};
 use lfs_layout::Checkpoint;
 use lfs_places::Places;
 use lfs_salvage::{ByPlaces, Slots, read_slots};
-use std::alloc::Global;
+use std::alloc::{AllocError, Global};
 use std::fs::File;
 use std::io::Write;
 use std::rt::Files;
@@ -27,6 +28,8 @@ pub struct Recovery<'a> {
     pub folder: &'a str,
     /// It begins with the checkpoint before the newest.
     pub older: bool,
+    /// It begins with what the log has of a checkpoint.
+    pub scans: bool,
 }
 
 /// What a recovery begins with.
@@ -37,6 +40,8 @@ struct Start {
     checkpoint: Checkpoint,
     /// The slot whose checkpoint may be lost, and be a newer one.
     lost: Option<u32>,
+    /// The checkpoint as the log has it, where it isn't that of a slot.
+    scanned: Option<Scanned>,
 }
 
 /// Which checkpoint isn't there.
@@ -57,6 +62,7 @@ fn chosen(slots: &Slots, places: Places, older: bool) -> Result<Start, Lack> {
             places,
             checkpoint: newest,
             lost,
+            scanned: None,
         });
     }
     match slots.older() {
@@ -64,6 +70,7 @@ fn chosen(slots: &Slots, places: Places, older: bool) -> Result<Start, Lack> {
             places,
             checkpoint,
             lost,
+            scanned: None,
         }),
         None => Err(Lack::Older),
     }
@@ -79,15 +86,31 @@ fn refusal_of<D: SectorDevice>(lack: Lack, device: &mut D) -> Refusal
     }
 }
 
+// What a recovery begins with that goes by the log.
+fn start_of(places: Places, scanned: Option<Scanned>) -> Result<Start, Lack> {
+    let Some(found) = scanned else {
+        return Err(Lack::Newest);
+    };
+    Ok(Start {
+        places,
+        checkpoint: found.checkpoint,
+        lost: None,
+        scanned: Some(found),
+    })
+}
+
 // Tells what of the checkpoint and of the map is missing: whether anything is.
 fn tell_start<W: Write>(start: &Start, gaps: &[(u32, u32)], output: &mut W) -> Result<bool, Fault> {
     if let Some(slot) = start.lost {
         put_slot(output, start.places, slot)?;
     }
+    if let Some(found) = start.scanned {
+        tell_scan(output, found.checkpoint.number, found.is_whole)?;
+    }
     for (block, sector) in gaps {
         tell_map(output, start.places, *block, *sector)?;
     }
-    Ok(start.lost.is_some() || !gaps.is_empty())
+    Ok(start.lost.is_some() || start.scanned.is_some() || !gaps.is_empty())
 }
 
 // Brings out all, and tells how much that is.
@@ -137,6 +160,24 @@ fn recover_from<D: SectorDevice, R: Files<File = File>, W: Write>(
     }
 }
 
+/// A volume, and what its recovery begins with.
+type Begun<D> = (ByPlaces<D>, Result<Start, Lack>);
+
+fn begin_by_slots<D: SectorDevice>(mut volume: ByPlaces<D>, older: bool) -> Begun<D> {
+    let places = volume.places();
+    let slots = read_slots(&mut volume).by(places);
+    (volume, chosen(&slots, places, older))
+}
+
+fn begin_by_log<D: SectorDevice + Drop>(
+    alloc: Global,
+    volume: ByPlaces<D>,
+) -> Result<Begun<D>, AllocError> {
+    let (volume, scanned) = scan(alloc, volume)?;
+    let start = start_of(volume.places(), scanned);
+    Ok((volume, start))
+}
+
 /// Copies what the volume of an image still holds into a new folder of the host. It writes nothing
 /// to the image, mounts nothing, and goes round what can't be read.
 pub fn recover<Here: World, R: Files<File = File> + Clock, W: Write>(
@@ -153,10 +194,13 @@ pub fn recover<Here: World, R: Files<File = File> + Clock, W: Write>(
     if beside == Beside::Writer {
         return refuse(output, Refusal::Image(ImageFault::InUse));
     }
-    let mut volume = ByPlaces::find(device);
-    let places = volume.places();
-    let slots = read_slots(&mut volume).by(places);
-    match chosen(&slots, places, recovery.older) {
+    let volume = ByPlaces::find(device);
+    let (mut volume, start) = if recovery.scans {
+        begin_by_log(alloc, volume)?
+    } else {
+        begin_by_slots(volume, recovery.older)
+    };
+    match start {
         Ok(start) => recover_from(rt, alloc, &mut volume, &start, recovery.folder, output),
         Err(lack) => refuse(output, refusal_of(lack, &mut volume.into_inner())),
     }

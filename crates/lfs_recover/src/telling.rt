@@ -57,6 +57,16 @@ pub fn tell_lost<W: Write>(
     put(output, b"\n")
 }
 
+/// Writes that the log was gone through, and which commit it has whole, or else in part.
+pub fn tell_scan<W: Write>(output: &mut W, commit: u64, is_whole: bool) -> Result<(), Fault> {
+    put_count(output, b"scan commit ", commit)?;
+    if is_whole {
+        put(output, b"\n")
+    } else {
+        put(output, b" in part\n")
+    }
+}
+
 /// Writes that the inodes of a block of the map can't be found.
 pub fn tell_map<W: Write>(
     output: &mut W,

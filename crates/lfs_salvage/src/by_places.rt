@@ -122,6 +122,18 @@ impl<D: SectorDevice> ByPlaces<D> {
         self.places
     }
 
+    /// The same device by the old places, at which a device of any size may have a volume.
+    pub fn by_old(self) -> ByPlaces<D>
+        ensures places { result.places ≡ Places.Old }
+        ensures device { result.device ≡ self.device }
+    {
+        let ByPlaces { places: _, device } = self;
+        ByPlaces {
+            places: Places::Old,
+            device,
+        }
+    }
+
     /// The device.
     pub fn into_inner(self) -> D
         ensures { result ≡ self.device }

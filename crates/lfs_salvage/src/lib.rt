@@ -25,6 +25,6 @@ pub use checking::find_damage;
 pub use damage::{Damage, Part};
 pub use directory::{Entry, Listing, Place, list};
 pub use paths::{Paths, read_paths};
-pub use readings::{Readings, read_sector};
+pub use readings::{Readings, first_sector, read_sector};
 pub use slots::{Slot, Slots, read_slots, slot_of};
 pub use walk::{NUMBERS, ROOT, Walk, named_by};
