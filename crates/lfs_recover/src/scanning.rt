@@ -22,6 +22,9 @@ use std::mem;
 /// How many commits are tried, from the newest on.
 const MOST_COMMITS: u32 = 16;
 
+/// The stage that counts the live blocks of each segment.
+const LIVE_STAGE: u8 = 9;
+
 /// A segment of which no block of usage tells: all of it is looked at, and all else is newer.
 const UNKNOWN: SegmentUsage = SegmentUsage {
     used: SEGMENT_SECTORS as u16,
@@ -86,6 +89,30 @@ pub struct Scanned {
     pub checkpoint: Checkpoint,
     /// No stage of the check fails.
     pub is_whole: bool,
+}
+
+impl Scanned {
+    fn whole(checkpoint: Checkpoint) -> Scanned {
+        Scanned {
+            checkpoint,
+            is_whole: true,
+        }
+    }
+
+    fn in_part(checkpoint: Checkpoint) -> Scanned {
+        Scanned {
+            checkpoint,
+            is_whole: false,
+        }
+    }
+}
+
+/// What the stages say of a checkpoint.
+#[derive(Clone, Copy)]
+enum Settled {
+    /// They hold of this one.
+    Whole(Checkpoint),
+    Damaged(Damage),
 }
 
 // How many entries a block of usage has in a volume of so many segments.
@@ -394,64 +421,76 @@ fn version_at(places: Places) -> u32 {
 }
 
 // The checkpoint of a commit, as far as the log tells it.
-fn checkpoint_of<D: SectorDevice>(
-    alloc: Global,
-    device: &mut D,
-    places: Places,
-    log: &Log,
-    commit: u32,
-) -> Result<Checkpoint, AllocError>
-    ensures { TellsNothing (D.state device.old) (D.state device.new) }
-{
-    let table = read_table(alloc, device, log, commit)?;
-    Ok(Checkpoint {
+fn checkpoint_of(places: Places, log: &Log, table: &[Segment], commit: u32) -> Checkpoint {
+    Checkpoint {
         number: u64::from(commit),
         segments: log.segments,
         version: version_at(places),
         unit_power: 0,
-        map: map_of(log, table.as_slice()),
-        usage: usage_of(log, table.as_slice(), commit),
-    })
+        map: map_of(log, table),
+        usage: usage_of(log, table, commit),
+    }
 }
 
 // The block of the map that a checkpoint may have though the commit had none: that of the damage, or
-// else the last.
+// the last one where segments have other numbers of live blocks. 0, which each commit has, where
+// that isn't so.
 fn doubtful(checkpoint: &Checkpoint, damage: Damage) -> usize {
     match damage.part {
         Part::MapBlock(index) => index as usize,
         _ if damage.number > 0 => (damage.number / BLOCK_FILES) as usize,
-        _ => checkpoint
+        _ if damage.stage == LIVE_STAGE => checkpoint
             .map
             .iter()
             .rposition(|sector| *sector != 0)
             .unwrap_or(0),
+        _ => 0,
     }
 }
 
-// A checkpoint of which all stages hold: this one, or one with fewer blocks of the map. A commit
-// stores none that has no inode, and then the log still names the one before.
-fn settled<D: SectorDevice>(
+// Where a checkpoint is damaged, or else a checkpoint of which all stages hold: this one, or one
+// with fewer blocks of the map. A commit stores none that has no inode, and then the log still names
+// the one before.
+fn settle<D: SectorDevice>(
     alloc: Global,
     device: &mut D,
     checkpoint: &Checkpoint,
-) -> Result<Option<Checkpoint>, AllocError>
+) -> Result<Settled, AllocError>
     ensures { TellsNothing (D.state device.old) (D.state device.new) }
 {
+    let Some(first) = find_damage(alloc, device, checkpoint)? else {
+        return Ok(Settled::Whole(*checkpoint));
+    };
     let mut tried = *checkpoint;
+    let mut damage = first;
     for _ in 0..MAP_BLOCKS {
-        let Some(damage) = find_damage(alloc, device, &tried)? else {
-            return Ok(Some(tried));
-        };
         let index = doubtful(&tried, damage);
         match tried.map.get_mut(index) {
-            Some(sector) if *sector != 0 => *sector = 0,
-            _ => return Ok(None),
+            Some(sector) if index > 0 && *sector != 0 => *sector = 0,
+            _ => break,
+        }
+        match find_damage(alloc, device, &tried)? {
+            Some(other) => damage = other,
+            None => return Ok(Settled::Whole(tried)),
         }
     }
-    Ok(None)
+    Ok(Settled::Damaged(first))
 }
 
-// The newest checkpoint that the log has whole, or else as much of the newest as it has.
+// Whether a damage is in a segment that a commit wrote, so that the commit may be unfinished.
+fn is_own(table: &[Segment], commit: u32, damage: Damage) -> bool {
+    let segment = match damage.part {
+        Part::Segment(segment) => segment,
+        _ => damage.sector.saturating_sub(CHECKPOINT_SLOTS) / SEGMENT_SECTORS,
+    };
+    match table.get(segment as usize) {
+        Some(segment) => segment.usage.age == commit,
+        None => false,
+    }
+}
+
+// The newest checkpoint that the log has whole. One that is damaged elsewhere than in what its commit
+// wrote comes before older ones; and where there is none, the newest.
 fn newest_of<D: SectorDevice>(
     alloc: Global,
     device: &mut D,
@@ -460,25 +499,22 @@ fn newest_of<D: SectorDevice>(
 ) -> Result<Option<Scanned>, AllocError>
     ensures { TellsNothing (D.state device.old) (D.state device.new) }
 {
-    let mut first = None;
+    let mut first: Option<Scanned> = None;
     let mut most = u32::MAX;
     for _ in 0..MOST_COMMITS {
         let Some(commit) = log.newest(most) else {
             break;
         };
-        let checkpoint = checkpoint_of(alloc, device, places, log, commit)?;
-        if let Some(checkpoint) = settled(alloc, device, &checkpoint)? {
-            let is_whole = true;
-            return Ok(Some(Scanned {
-                checkpoint,
-                is_whole,
-            }));
+        let table = read_table(alloc, device, log, commit)?;
+        let checkpoint = checkpoint_of(places, log, table.as_slice(), commit);
+        let damage = match settle(alloc, device, &checkpoint)? {
+            Settled::Whole(checkpoint) => return Ok(Some(Scanned::whole(checkpoint))),
+            Settled::Damaged(damage) => damage,
+        };
+        if !is_own(table.as_slice(), commit, damage) {
+            return Ok(Some(Scanned::in_part(checkpoint)));
         }
-        let is_whole = false;
-        first = first.or(Some(Scanned {
-            checkpoint,
-            is_whole,
-        }));
+        first = first.or(Some(Scanned::in_part(checkpoint)));
         most = commit.saturating_sub(1);
     }
     Ok(first)

@@ -1,5 +1,5 @@
 use Rattle.lfs_salvage.specs.Telling.{TellsNothing}
-use Rattle.lfs_recover.proofs.scanning.settled.Given as goal
+use Rattle.lfs_recover.proofs.scanning.settle.Given as goal
 
 abbrev pub invariant-loop : goal.invariant-loop
 invariant-loop g l =
