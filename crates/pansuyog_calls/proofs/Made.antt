@@ -1,5 +1,5 @@
 -- A volume is made on a device, or mounted: what is said of the device, and of it in sectors or in the units of its volume.
-use Rattle.std.proofs.Common.{◌≡◌, ◌⊎◌, inl, inr, ◌<◌, ◌≤◌, ℕ, [], ◌∷◌, Some, refl, sym, arith, subst}
+use Rattle.std.proofs.Common.{◌≡◌, ◌⊎◌, inl, inr, ◌<◌, ℕ, [], ◌∷◌, Some, refl, sym, arith, subst}
 use Rattle.std.specs.Prelude.{◌↔◌, Result, Ok, Err, IsErrOf, OnOk}
 use Rattle.lfs_model.specs.Content.{Content}
 use Rattle.lfs_model.specs.Device.{AreSectors, Carries, DeviceState, IsUntouched, LeavesOnly, in_sectors}

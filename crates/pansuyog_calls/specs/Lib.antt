@@ -4,6 +4,7 @@ pub mod Codes
 pub mod InARow
 pub mod Laws
 pub mod Making
+pub mod Recording
 pub mod Serving
 pub mod Taking
 pub mod Telling

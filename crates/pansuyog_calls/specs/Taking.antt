@@ -12,7 +12,7 @@ use Rattle.pansuyog_calls.specs.declared.volume.VolumeIn.{VolumeIn}
 pub data Takes {W : Type 0} {world : Ghosts W} (access : Access) (old new : VolumeIn (FileDeviceIn W world)) (code : ℤ) : Type 0 where
   is_taken : (device : FileDeviceIn W world) → old.fs ≡ None → code ≡ pos 0 → new.fs ≡ None → new.device ≡ Some device
       → (state_of_file device).moment ≡ 0 → (state_of_file device).failures ≡ 0 → (state_of_file device).keeps_model
-      → new.access ≡ access → new.listing ≡ old.listing → Takes access old new code
+      → new.access ≡ access → new.listing ≡ old.listing → new.recorder ≡ None → Takes access old new code
   is_mounted : old.fs ≢ None → code ≡ already_mounted → new ≡ old → Takes access old new code
   is_refused : old.fs ≡ None → (code ≡ in_use) ⊎ (code ≡ lock_failed) ⊎ (code ≡ device_failed) ⊎ (code ≡ no_memory) → new ≡ old
       → Takes access old new code

@@ -15,10 +15,11 @@ use Rattle.pansuyog_calls.specs.Making.{IsNotMounted, Makes, MakesWith, Mounts}
 use Rattle.pansuyog_calls.specs.declared.access.Access.TheVariants.{ReadWrite, ReadOnly}
 use Rattle.pansuyog_calls.specs.declared.volume.VolumeIn.{VolumeIn}
 
--- the names that were listed last are there still, and the same calls are made
+-- the names that were listed last are there still, the same calls are made, and no recorder is there any more
 pub record KeepsListingAndAccess {D : Type 0} (old new : VolumeIn D) : Type 0 where
   pub listing : new.listing ≡ old.listing
   pub access : new.access ≡ old.access
+  pub recorder : new.recorder ≡ None
 
 -- What an unmounting leaves: the device that was in the volume.
 pub data Unmounts {D : Type 0} (old new : VolumeIn D) (code : ℤ) : Type 0 where

@@ -9,6 +9,7 @@ pub mod laws;
 pub mod listing;
 pub mod making;
 pub mod names;
+pub mod recording;
 pub mod rows;
 pub mod saving;
 pub mod shapes;

@@ -41,7 +41,10 @@ pub fn format<D: SectorDevice>(volume: &mut VolumeIn<D>, segments: u32, version:
         return ALREADY_MOUNTED;
     }
     match (&mut volume.device, volume.access) {
-        (Some(device), Access::ReadWrite) => make_on(device, segments, version),
+        (Some(device), Access::ReadWrite) => {
+            volume.recorder = None;
+            make_on(device, segments, version)
+        }
         (Some(_), Access::ReadOnly) => READ_ONLY,
         (None, _) => INVAL,
     }
@@ -54,6 +57,7 @@ fn mount_on<D: SectorDevice + Drop>(alloc: Global, volume: &mut VolumeIn<D>, dev
     ensures mounts { MountsDevice D.state device volume.new.fs volume.new.device result }
     ensures rest { KeepsListingAndAccess volume.old volume.new }
 {
+    volume.recorder = None;
     let found = match find_volume(device) {
         Ok(found) => found,
         Err((fault, device)) => {
@@ -92,6 +96,7 @@ pub fn unmount<D: SectorDevice + Drop>(volume: &mut VolumeIn<D>) -> i32
 {
     match volume.fs.take() {
         Some(fs) => {
+            volume.recorder = None;
             volume.device = Some(fs.into_device().into_inner());
             0
         }
@@ -107,4 +112,5 @@ pub fn abandon<D: SectorDevice + Drop>(volume: &mut VolumeIn<D>)
 {
     volume.fs = None;
     volume.device = None;
+    volume.recorder = None;
 }

@@ -27,7 +27,10 @@ pub fn format_with<D: SectorDevice>(volume: &mut VolumeIn<D>, shape: lfs_fs::Sha
         return ALREADY_MOUNTED;
     }
     match (&mut volume.device, volume.access) {
-        (Some(device), Access::ReadWrite) => make_with(device, shape),
+        (Some(device), Access::ReadWrite) => {
+            volume.recorder = None;
+            make_with(device, shape)
+        }
         (Some(_), Access::ReadOnly) => READ_ONLY,
         (None, _) => INVAL,
     }

@@ -47,6 +47,7 @@ pub fn take<W: World>(
         Ok(device) => {
             volume.device = Some(device);
             volume.access = access;
+            volume.recorder = None;
             0
         }
         Err(FileFault::NoMemory) => NO_MEMORY,

@@ -2,6 +2,7 @@
 use crate::access::Access;
 use lfs_device::SectorDevice;
 use lfs_fs::{Entry, Fs, InVolume};
+use lfs_record::Recorder;
 
 /// A volume over a device: mounted or not, with the names that were listed last.
 #[derive(Drop)]
@@ -11,4 +12,6 @@ pub struct VolumeIn<D: SectorDevice> {
     pub device: Option<D>,
     pub listing: Vec<Entry>,
     pub access: Access,
+    /// A recorder over the mounted volume, once one has begun.
+    pub recorder: Option<Recorder>,
 }

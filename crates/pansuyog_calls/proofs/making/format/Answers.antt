@@ -6,7 +6,7 @@ pub returns-in-Some-ReadWrite : goal.returns-in-Some-ReadWrite
 returns-in-Some-ReadWrite g c =
     let none = c.if-is_some.ensures in
     was_tried c.in-Some-ReadWrite.device c.make_on.new.device (search rules) c.in-Some-ReadWrite.is-1 c.in-Some-ReadWrite.is-0
-    (search rules) refl (search rules) (record { listing = refl; access = refl })
+    (search rules) refl (search rules) (record { listing = refl; access = refl; recorder = refl })
 
 pub returns-in-Some-ReadOnly : goal.returns-in-Some-ReadOnly
 returns-in-Some-ReadOnly g c =

@@ -5,4 +5,4 @@ use Rattle.pansuyog_calls.proofs.making.mount.Goals as goal
 pub returns-in-Some : goal.returns-in-Some
 returns-in-Some g c =
     is_tried c.in-Some.device (search rules) (search rules) (search rules)
-    (record { listing = c.mount_on.ensures.rest.listing; access = c.mount_on.ensures.rest.access })
+    (record { listing = c.mount_on.ensures.rest.listing; access = c.mount_on.ensures.rest.access; recorder = c.mount_on.ensures.rest.recorder })

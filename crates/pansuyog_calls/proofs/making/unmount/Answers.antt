@@ -7,4 +7,4 @@ pub returns-in-Some : goal.returns-in-Some
 returns-in-Some g c =
     is_unmounted c.in-Some.fs (search rules) refl c.take.ensures.after
     (ap (λ device. Some device) (c.into_inner.ensures.device ∙ ap (λ (v : Found g.row.D.Denot). v.device) c.into_device.ensures))
-    (record { listing = refl; access = refl })
+    (record { listing = refl; access = refl; recorder = refl })
