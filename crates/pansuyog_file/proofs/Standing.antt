@@ -4,7 +4,7 @@ use seplogic.Ra.Ura.{Ura}
 use mir.Val.{Val, vptr}
 use types.Logic.{Logic}
 use types.Kit.{Item, Goal, Step, step, ‵, ◌$◌, move, fjoin, fpack, feq_i}
-use denote.RattleType.{RattleType, Valss}
+use denote.RattleType.{Valss}
 use denote.Builtin.{RawPtr}
 use denote.RawPtr.{block_ptr}
 use denote.Steps.{nothing}

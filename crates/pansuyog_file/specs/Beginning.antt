@@ -13,6 +13,7 @@ pub record StandsNew (place : Place) : Type 0 where
   pub device : volume.inner.device ≡ None
   pub listing : volume.inner.listing.items ≡ []
   pub access : volume.inner.access ≡ ReadWrite
+  pub recorder : volume.inner.recorder ≡ None
 
 -- It is begun at a place of C's, or memory is refused and nothing is put there.
 abbrev pub Begins : Place → Place → ℤ → Type 0

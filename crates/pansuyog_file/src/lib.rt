@@ -8,6 +8,7 @@ mod listing;
 mod making;
 mod names;
 mod place;
+mod recording;
 mod saving;
 mod shapes;
 mod source;

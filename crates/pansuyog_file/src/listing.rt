@@ -14,6 +14,7 @@ pub extern "C" fn pansuyog_file_list(volume: &mut Handle, path: &[u8]) -> i32
     ensures serves { ServesListing volume.old.value volume.new.value (Readdir path.now) result }
     ensures device { volume.new.value.inner.device ≡ volume.old.value.inner.device }
     ensures access { volume.new.value.inner.access ≡ volume.old.value.inner.access }
+    ensures recorder { volume.new.value.inner.recorder ≡ volume.old.value.inner.recorder }
 {
     let volume = &mut volume.volume().inner;
     listing::list(&mut volume.fs, path, &mut volume.listing)

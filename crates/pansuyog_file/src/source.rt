@@ -25,6 +25,7 @@ pub extern "C" fn pansuyog_file_new(alloc: Global, at: &mut Place) -> i32
         device: None,
         listing: Vec::new(alloc),
         access: Access::ReadWrite,
+        recorder: None,
     };
     match Box::new(alloc, Volume { inner }) {
         Ok(volume) => {

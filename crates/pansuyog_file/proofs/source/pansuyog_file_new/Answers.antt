@@ -12,5 +12,6 @@ returns-in-Ok c =
         device = search rules;
         listing = search rules;
         access = search rules;
+        recorder = search rules;
       },
     )
