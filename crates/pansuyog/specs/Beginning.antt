@@ -12,6 +12,7 @@ pub record StandsNew (place : Place) : Type 0 where
   pub unmounted : volume.fs ≡ None
   pub source : volume.source ≡ Nothing
   pub listing : volume.listing.items ≡ []
+  pub recorder : volume.recorder ≡ None
 
 -- It is begun at a place of C's, or memory is refused and nothing is put there.
 abbrev pub Begins : Place → Place → ℤ → Type 0

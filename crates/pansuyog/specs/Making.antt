@@ -51,9 +51,11 @@ IsTaken (Device was) room device = IsReserved was room device
 pub data IsNotTaken (old new : Volume) (code : ℤ) : Type 0 where
   is_mounted : old.fs ≢ None → code ≡ already_mounted → new ≡ old → IsNotTaken old new code
   is_nothing : old.source ≡ Nothing → code ≡ inval → new ≡ old → IsNotTaken old new code
-  is_refused : old.fs ≡ None → code ≡ no_memory → new.fs ≡ None → new.source ≡ Nothing → new.listing ≡ old.listing → IsNotTaken old new code
+  is_refused : old.fs ≡ None → code ≡ no_memory → new.fs ≡ None → new.source ≡ Nothing → new.listing ≡ old.listing
+      → new.recorder ≡ old.recorder → IsNotTaken old new code
   is_full : (was device : QueueDevice) → old.fs ≡ None → old.source ≡ Device was → code ≡ no_memory → new.fs ≡ None
-      → new.source ≡ Device device → IsRoomier was device → new.listing ≡ old.listing → IsNotTaken old new code
+      → new.source ≡ Device device → IsRoomier was device → new.listing ≡ old.listing → new.recorder ≡ old.recorder
+      → IsNotTaken old new code
 
 -- A volume is mounted over such a device. It keeps its model, and no call of it fails.
 pub record MountsIn (device : Found QueueDevice) (fs : MountedVolume) : Type 0 where
@@ -87,10 +89,10 @@ MountsOn device (Some fs) Nothing code = (code ≡ pos 0) × Mounts device fs
 MountsOn device None (Device after) code = (fault : MountFault) × (code ≡ code_of_mounting fault) × IsNotMounted device after fault
 MountsOn device fs source code = ⊥
 
--- A mount from what a volume holds: it was done or refused on a device that was taken, or none was taken.
+-- A mount from what a volume holds: it was done or refused on a device that was taken, and no recorder is there; or none was taken.
 pub data MountsFrom (old new : Volume) (room : ℕ) (code : ℤ) : Type 0 where
   is_tried : (device : QueueDevice) → old.fs ≡ None → IsTaken old.source room device → MountsOn device new.fs new.source code
-      → new.listing ≡ old.listing → MountsFrom old new room code
+      → new.listing ≡ old.listing → new.recorder ≡ None → MountsFrom old new room code
   is_not_tried : IsNotTaken old new code → MountsFrom old new room code
 
 -- What an empty volume of so many segments was to be made on, by what came of it.
@@ -132,10 +134,11 @@ abbrev pub MakesOn : (QueueDevice → QueueDevice → ℤ → Type 0) → QueueD
 MakesOn Makes device None (Device after) code = Makes device after code
 MakesOn Makes device fs source code = ⊥
 
--- An empty volume was to be made, and so it was tried, on a device that was taken, or none was taken.
+-- An empty volume was to be made, and so it was tried, on a device that was taken, and no recorder is there; or none was taken.
 pub data MakesBy (Makes : QueueDevice → QueueDevice → ℤ → Type 0) (old new : Volume) (room : ℕ) (code : ℤ) : Type 0 where
   was_tried : (device : QueueDevice) → old.fs ≡ None → IsTaken old.source room device
-      → MakesOn Makes device new.fs new.source code → new.listing ≡ old.listing → MakesBy Makes old new room code
+      → MakesOn Makes device new.fs new.source code → new.listing ≡ old.listing → new.recorder ≡ None
+      → MakesBy Makes old new room code
   was_not_tried : IsNotTaken old new code → MakesBy Makes old new room code
 
 abbrev pub MakesFrom : Volume → Volume → ℕ → ℕ → ℕ → ℤ → Type 0

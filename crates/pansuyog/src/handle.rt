@@ -7,6 +7,7 @@ ghost use Rattle.pansuyog.specs.declared.handle.Volume.{Volume};
 
 use lfs_fs::{Entry, Fs, InVolume};
 use lfs_queue::{Image, QueueDevice};
+use lfs_record::Recorder;
 use pansuyog_heap::Loose;
 use std::alloc::Global;
 use std::marker::Model;
@@ -28,6 +29,8 @@ pub struct Volume {
     pub fs: Option<Fs<InVolume<QueueDevice>>>,
     pub source: Source,
     pub listing: Vec<Entry>,
+    /// A recorder over the mounted volume, once one has begun.
+    pub recorder: Option<Recorder>,
 }
 
 /// A volume by its address, as C passes it. It can't be dropped: what takes one has to free it.

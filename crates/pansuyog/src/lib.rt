@@ -10,6 +10,7 @@ mod making;
 mod names;
 mod orders;
 mod place;
+mod recording;
 pub mod rooms;
 mod saving;
 mod shapes;

@@ -13,6 +13,7 @@ use pansuyog_calls::rows::Entry;
 pub extern "C" fn pansuyog_list(volume: &mut Handle, path: &[u8]) -> i32
     ensures serves { ServesListing volume.old.value volume.new.value (Readdir path.now) result }
     ensures rest { volume.new.value.source ≡ volume.old.value.source }
+    ensures recorder { volume.new.value.recorder ≡ volume.old.value.recorder }
 {
     let volume = volume.volume();
     listing::list(&mut volume.fs, path, &mut volume.listing)

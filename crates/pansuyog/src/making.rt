@@ -88,6 +88,7 @@ pub extern "C" fn pansuyog_format(
         Ok(device) => device,
         Err(code) => return code,
     };
+    volume.recorder = None;
     let code = make_on(&mut device, segments, version);
     volume.source = Source::Device(device);
     code
@@ -110,7 +111,9 @@ fn mount_on(alloc: Global, volume: &mut Volume, device: QueueDevice) -> i32
     requires nothing { volume.old.source ≡ source_of.Nothing }
     ensures mounts { MountsOn device volume.new.fs volume.new.source result }
     ensures listing { KeepsListing volume.old volume.new }
+    ensures recorder { volume.new.recorder ≡ None }
 {
+    volume.recorder = None;
     let found = match find_volume(device) {
         Ok(found) => found,
         Err((fault, device)) => {
@@ -150,8 +153,10 @@ pub extern "C" fn pansuyog_unmount(volume: &mut Handle) -> i32
     ensures device { Unmounts volume.old.value.fs volume.old.value.source
         volume.new.value.source result }
     ensures listing { KeepsListing volume.old.value volume.new.value }
+    ensures recorder { volume.new.value.recorder ≡ None }
 {
     let volume = volume.volume();
+    volume.recorder = None;
     match volume.fs.take() {
         Some(fs) => {
             volume.source = Source::Device(fs.into_device().into_inner());

@@ -187,6 +187,7 @@ pub extern "C" fn pansuyog_done(volume: &mut Handle) -> i32
     ensures done { CarriesOut volume.old.value.fs volume.new.value.fs volume.old.value.source
         volume.new.value.source result }
     ensures listing { KeepsListing volume.old.value volume.new.value }
+    ensures recorder { volume.new.value.recorder ≡ volume.old.value.recorder }
 {
     let volume = volume.volume();
     match &mut volume.fs {

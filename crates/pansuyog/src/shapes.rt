@@ -45,6 +45,7 @@ pub extern "C" fn pansuyog_format_with(
         segment_sectors,
         unit,
     };
+    volume.recorder = None;
     let code = make_with(&mut device, shape);
     volume.source = Source::Device(device);
     code

@@ -23,6 +23,7 @@ pub extern "C" fn pansuyog_new(alloc: Global, at: &mut Place) -> i32
         fs: None,
         source: Source::Nothing,
         listing: Vec::new(alloc),
+        recorder: None,
     };
     match Box::new(alloc, volume) {
         Ok(volume) => {
@@ -38,9 +39,11 @@ fn clear(volume: &mut Volume)
     ensures unmounted { volume.new.fs ≡ None }
     ensures nothing { volume.new.source ≡ source_of.Nothing }
     ensures listing { KeepsListing volume.old volume.new }
+    ensures recorder { volume.new.recorder ≡ None }
 {
     volume.fs = None;
     volume.source = Source::Nothing;
+    volume.recorder = None;
 }
 
 /// Begins the reading of a device of so many sectors, none of which is given yet. What was held is
@@ -52,6 +55,7 @@ pub extern "C" fn pansuyog_begin(alloc: Global, volume: &mut Handle, sectors: u3
         × HoldsCells volume.new.value.source (replicate sectors None))
         ⊎ ((result ≡ no_memory) × (volume.new.value.source ≡ source_of.Nothing)) }
     ensures listing { KeepsListing volume.old.value volume.new.value }
+    ensures recorder { volume.new.value.recorder ≡ None }
 {
     let volume = volume.volume();
     clear(volume);
@@ -97,6 +101,7 @@ pub extern "C" fn pansuyog_give(volume: &mut Handle, first: u32, bytes: &[u8]) -
         (sectors_in bytes.now) result }
     ensures fs { volume.new.value.fs ≡ volume.old.value.fs }
     ensures listing { KeepsListing volume.old.value volume.new.value }
+    ensures recorder { volume.new.value.recorder ≡ volume.old.value.recorder }
 {
     match &mut volume.volume().source {
         Source::Image(image) => give(image, first, bytes),
@@ -111,6 +116,7 @@ pub extern "C" fn pansuyog_abandon(volume: &mut Handle)
     ensures unmounted { volume.new.value.fs ≡ None }
     ensures nothing { volume.new.value.source ≡ source_of.Nothing }
     ensures listing { KeepsListing volume.old.value volume.new.value }
+    ensures recorder { volume.new.value.recorder ≡ None }
 {
     clear(volume.volume());
 }

@@ -5,7 +5,7 @@ use Rattle.pansuyog.proofs.making.pansuyog_format.Goals as goal
 pub returns : goal.returns
 returns c =
     make_tried _ _ c.in-Ok.device c.make_on-code.new.device
-    c.volume-volume.ensures.value c.in-Ok.ensures.unmounted c.in-Ok.ensures.taken c.in-Ok.ensures.listing c.in-Ok.ensures.fs refl
+    c.volume-volume.ensures.value c.in-Ok.ensures.unmounted c.in-Ok.ensures.taken c.in-Ok.ensures.listing refl c.in-Ok.ensures.fs refl
     (search rules)
 
 pub returns-in-Err : goal.returns-in-Err

@@ -8,7 +8,7 @@ returns-in-Err-clause-refused c =
     let unmounted : c.args.volume.now.fs ≡ None = search rules in
     let source = sym c.replace.ensures.value ∙ c.in-Device.is in
     elim c.match-volume.branch [
-      | in-Image-1 w ↦ is_full c.in-Device.device c.reserve.new.self unmounted source refl unmounted refl c.reserve.ensures.same refl
-      | in-Device-1 w ↦ is_full c.in-Device.device c.reserve.new.self unmounted source refl unmounted refl c.reserve.ensures.same refl
-      | in-Nothing-1 w ↦ is_full c.in-Device.device c.reserve.new.self unmounted source refl unmounted refl c.reserve.ensures.same refl
+      | in-Image-1 w ↦ is_full c.in-Device.device c.reserve.new.self unmounted source refl unmounted refl c.reserve.ensures.same refl refl
+      | in-Device-1 w ↦ is_full c.in-Device.device c.reserve.new.self unmounted source refl unmounted refl c.reserve.ensures.same refl refl
+      | in-Nothing-1 w ↦ is_full c.in-Device.device c.reserve.new.self unmounted source refl unmounted refl c.reserve.ensures.same refl refl
     ]

@@ -11,5 +11,6 @@ returns-in-Ok c =
         unmounted = search rules;
         source = search rules;
         listing = search rules;
+        recorder = search rules;
       },
     )
