@@ -6,6 +6,7 @@ pub mod Laws
 pub mod Making
 pub mod Recording
 pub mod Serving
+pub mod Sessions
 pub mod Taking
 pub mod Telling
 pub mod Volumes

@@ -4,5 +4,6 @@ use Rattle.pansuyog_calls.proofs.making.mount.Goals as goal
 
 pub returns-in-Some : goal.returns-in-Some
 returns-in-Some g c =
+    let rest = c.mount_on.ensures.rest in
     is_tried c.in-Some.device (search rules) (search rules) (search rules)
-    (record { listing = c.mount_on.ensures.rest.listing; access = c.mount_on.ensures.rest.access; recorder = c.mount_on.ensures.rest.recorder })
+    (record { listing = rest.listing; access = rest.access; recorder = rest.recorder })
