@@ -41,7 +41,8 @@
  *    sixteenths of them too, which is so on 128 segments or more where no cleaning is due;
  *  - 8 * N + 520 of pansuyog_clean_once, and of each other call but pansuyog_clean while N / 8 + 16 segments are clean: it makes one pass of
  *    the cleaner at most then;
- *  - N / 8 * (8 * N + 4) + 516 of any other. */
+ *  - N / 8 * (8 * N + 4) + 516 of any other.
+ * pansuyog_record_line makes several of these calls where a file begins or goes. */
 #ifndef PANSUYOG_H
 #define PANSUYOG_H
 
@@ -151,6 +152,19 @@ int32_t pansuyog_shape(pansuyog *volume, pansuyog_shape_t *shape);
 int32_t pansuyog_version(pansuyog *volume);
 int32_t pansuyog_upgrade(pansuyog *volume);
 int32_t pansuyog_widen(pansuyog *volume, const char *path, size_t length);
+
+/* A recorder writes lines to numbered files of the root, as 00000001-2026-11-29, of which the oldest goes where there is no space.
+ * docs/LIBRARY.md has its rules. A mount, an unmount and pansuyog_abandon end it, and a recorder that begins ends the one before. */
+
+/* Begins to record, and goes on in the newest file where it may: the next file begins behind `bytes` bytes, and with each day. At most
+ * `files` are kept, or for 0 as many as there is space for. What readdir, lstat, open, pread and close refuse; then no recorder is there. */
+int32_t pansuyog_record_begin(pansuyog *volume, uint32_t bytes, uint32_t files);
+/* Writes a line and a newline, all or nothing. `day` has ten bytes, as 2026-11-29, and `length` is at most 65,535. INVAL for another day,
+ * for a line with a newline, and where no recorder has begun; WORN behind number 99,999,999; what create, pwrite, readdir, unlink and close
+ * refuse. */
+int32_t pansuyog_record_line(pansuyog *volume, const char *day, const char *line, size_t length);
+/* After 0, and once the orders that wait are carried out, every line before survives a loss of power. INVAL where no recorder has begun. */
+int32_t pansuyog_record_save(pansuyog *volume);
 
 #ifdef __cplusplus
 }

@@ -130,6 +130,19 @@ int32_t pansuyog_file_version(pansuyog_file *volume);
 int32_t pansuyog_file_upgrade(pansuyog_file *volume);
 int32_t pansuyog_file_widen(pansuyog_file *volume, const char *path, size_t length);
 
+/* A recorder writes lines to numbered files of the root, as 00000001-2026-11-29, of which the oldest goes where there is no space.
+ * docs/LIBRARY.md has its rules. A mount, an unmount and pansuyog_file_abandon end it, and a recorder that begins ends the one before. */
+
+/* Begins to record, and goes on in the newest file where it may: the next file begins behind `bytes` bytes, and with each day. At most
+ * `files` are kept, or for 0 as many as there is space for. What readdir, lstat, open, pread and close refuse; then no recorder is there. */
+int32_t pansuyog_file_record_begin(pansuyog_file *volume, uint32_t bytes, uint32_t files);
+/* Writes a line and a newline, all or nothing. `day` has ten bytes, as 2026-11-29, and `length` is at most 65,535. INVAL for another day,
+ * for a line with a newline, and where no recorder has begun; WORN behind number 99,999,999; what create, pwrite, readdir, unlink and close
+ * refuse. */
+int32_t pansuyog_file_record_line(pansuyog_file *volume, const char *day, const char *line, size_t length);
+/* After 0 every line before survives a loss of power. INVAL where no recorder has begun. */
+int32_t pansuyog_file_record_save(pansuyog_file *volume);
+
 #ifdef __cplusplus
 }
 #endif

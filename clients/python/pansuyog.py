@@ -245,7 +245,9 @@ def _refused_call(name, arguments, refusal, text=None):
 
 
 # The calls that a volume which is only read refuses. Those that save have nothing to save.
-_CHANGES = frozenset("create pwrite fill truncate mkdir symlink link unlink rmdir rename clean clean_once upgrade widen".split())
+_CHANGES = frozenset(
+    "create pwrite fill truncate mkdir symlink link unlink rmdir rename clean clean_once upgrade widen record_begin record_line record_save".split()
+)
 
 
 def _refuse_change(name, arguments):
@@ -1193,6 +1195,8 @@ class ProcessVolume(Files):
 
 _FILES, _ORDERS = "pansuyog_file", "pansuyog"
 _SECTOR = 512
+# Bytes of a day, as 2026-11-29.
+_DAY = 10
 # Sectors of one read or write.
 _RUN = 128
 # Those of a volume of 1,024 segments in format 3: what a larger device has behind them isn't read.
@@ -1275,6 +1279,9 @@ def _signatures(c, name):
         "entry": [c.size, c.pointer(c.entry), *taken],
         "space": [c.pointer(c.space)],
         "shape": [c.pointer(c.shape)],
+        "record_begin": [c.u32, c.u32],
+        "record_line": [c.text, *given],
+        "record_save": [],
     }
     if name == _FILES:
         return {**functions, "take": [c.memory, c.u32], "errno": [], "format_with": [c.u32] * 4, "mount": []}
@@ -1942,6 +1949,21 @@ class Volume(Files):
         """What the volume was made with, and the format that it has now: a `Shape`."""
         return self._call("shape")
 
+    def record_begin(self, bytes, files=0):
+        """Begins to record lines in numbered files of the root, of which the oldest goes where there is no space. The next file begins behind
+        so many bytes, and with each day. At most so many files are kept, or for 0 as many as there is space for. The newest file goes on
+        where it ends with a newline and no other name gives it. A recorder that had begun before ends."""
+        self._call("record_begin", _number(bytes, 32), _number(files, 32))
+
+    def record_line(self, day, line):
+        """Writes a line of a day, as "2026-11-29", and a newline behind it: all of it or nothing. `Inval` for another day, for a line of more
+        than 65,535 bytes or with a newline, and where no recorder has begun."""
+        self._call("record_line", _bytes(day), _bytes(line))
+
+    def record_save(self):
+        """Saves all lines so far: none of them is lost then. `Inval` where no recorder has begun."""
+        self._call("record_save")
+
     def tree(self):
         """Each entry of each directory. A file is opened for its first bytes. One whose path has more than 1,023 bytes is left out with a
         warning, `Omitted`."""
@@ -2048,6 +2070,10 @@ class Volume(Files):
         self._ask(name, (), told)
         return Shape(told.segments, told.version, told.unit, told.segment_sectors)
 
+    def _write_line(self, name, day, line):
+        # The function takes ten bytes, so another day goes to it as one of zeros, which it refuses.
+        return self._ask(name, (day, line), day if len(day) == _DAY else bytes(_DAY), line, len(line))
+
     def _save_nothing(self, name, *arguments):
         """Saves a volume that is only read, of which there is nothing to save. A handle has to be open."""
         for handle in arguments:
@@ -2063,6 +2089,7 @@ class Volume(Files):
         "readdir": _entries,
         "space": _measure,
         "shape": _describe,
+        "record_line": _write_line,
     }
     # Those that save, where the volume is only read.
     _SAVING = {"sync": _save_nothing, "fsync": _save_nothing}

@@ -56,6 +56,11 @@ def used():
     return test_pansuyog.used
 
 
+def more_changes_of(volume):
+    """Calls that may write, of the libraries alone."""
+    return [volume.clean_once, lambda: volume.record_begin(10), lambda: volume.record_line("2026-01-01", "a"), volume.record_save]
+
+
 class OfTheLibrary(unittest.TestCase):
     def setUp(self):
         if used().name != Library.name:
@@ -286,6 +291,73 @@ class Shapes(OfTheLibrary, OnAVolume):
         self.assertRaises(pansuyog.TooSmall, make, 64, 3, 8)
         self.assertEqual(device.writes, 0)
         make(64, 2, 1)
+
+
+class Records(OfTheLibrary, OnAVolume):
+    """A recorder's lines and files, by the rules in docs/LIBRARY.md."""
+
+    def files(self, volume):
+        return {os.fsdecode(entry.name): volume.read(b"/" + entry.name) for entry in volume.readdir("/")}
+
+    def test_lines_go_to_files(self):
+        volume = self.mounted()
+        volume.mkdir("/00000000-2025-12-31")
+        volume.record_begin(10, 2)
+        volume.record_line("2026-01-01", "one")
+        volume.record_line(b"2026-01-01", b"and two")
+        volume.rmdir("/00000000-2025-12-31")
+        self.assertEqual(self.files(volume), {"00000001-2026-01-01": b"one\nand two\n"})
+        volume.record_line("2026-01-01", "three")
+        volume.record_line("2026-01-02", "")
+        self.assertEqual(self.files(volume), {"00000002-2026-01-01": b"three\n", "00000003-2026-01-02": b"\n"})
+        volume.record_line("2026-01-01", "back")
+        self.assertEqual(self.files(volume), {"00000003-2026-01-02": b"\n", "00000004-2026-01-01": b"back\n"})
+
+    def test_what_is_no_line_is_refused(self):
+        volume = self.mounted()
+        volume.record_begin(100)
+        lines = ["a\nb", "\n", b"a" * 65_536]
+        for day, line in [*(("2026-01-01", line) for line in lines), *((day, "a") for day in ("", "2026-1-1", "2026/01/01", "2026-01-01 "))]:
+            self.assertRaises(pansuyog.Inval, volume.record_line, day, line)
+        self.assertEqual(volume.readdir("/"), [])
+        volume.record_line("2026-01-01", b"a" * 65_535)
+        self.assertEqual(self.files(volume), {"00000001-2026-01-01": b"a" * 65_535 + b"\n"})
+        for number in (-1, 1 << 32):
+            self.assertRaises(ValueError, volume.record_begin, number)
+            self.assertRaises(ValueError, volume.record_begin, 1, number)
+
+    def test_a_recorder_goes_on_in_the_newest_file(self):
+        volume = self.mounted()
+        for call in (lambda: volume.record_line("2026-01-01", "a"), volume.record_save):
+            self.assertRaises(pansuyog.Inval, call)
+        # What a recorder had open is given up as another begins.
+        for _ in range(100):
+            volume.record_begin(100)
+            volume.record_line("2026-01-01", "a")
+        volume.record_save()
+        volume.record_line("2026-01-02", "lost")
+        volume.kill()
+        volume = self.mounted()
+        self.assertRaises(pansuyog.Inval, volume.record_line, "2026-01-01", "a")
+        self.assertEqual(self.files(volume), {"00000001-2026-01-01": b"a\n" * 50, "00000002-2026-01-01": b"a\n" * 50})
+        volume.pwrite(volume.open("/00000002-2026-01-01"), 100, b"half")
+        volume.record_begin(200)
+        volume.record_line("2026-01-01", "whole")
+        self.assertEqual(self.files(volume)["00000003-2026-01-01"], b"whole\n")
+
+    def test_the_oldest_file_goes(self):
+        """A line of 65,536 bytes needs 128 blocks, one of pointers and an inode, which count seven times each, and the eighth of a block
+        for its name. An empty volume of 64 segments has a need of 727, and its limit is 3,008."""
+        volume = self.mounted()
+        volume.write_file("/other", b"a")
+        volume.record_begin(1)
+        for _ in range(40):
+            volume.record_line("2026-01-01", b"a" * 65_535)
+        self.assertEqual(self.names(volume), [*(f"000000{number}-2026-01-01".encode() for number in range(26, 41)), b"other"])
+
+
+class RecordsOnADevice(OnADevice, Records):
+    pass
 
 
 class Sessions(OfTheLibrary, OnAVolume):
@@ -688,7 +760,7 @@ class Images(OfTheLibrary, OnAVolume):
             volume.mkdir("/d")
             volume.write_file("/d/f", b"x")
         with self.mounted(read_only=True) as volume:
-            for change in [*changes_of(volume), volume.clean_once]:
+            for change in [*changes_of(volume), *more_changes_of(volume)]:
                 self.assertRaises(pansuyog.ReadOnly, change)
             self.assertIs(volume.is_cleaning_due(), False)
 
@@ -953,7 +1025,7 @@ class Devices(OnADevice):
             volume.mkdir("/d")
             volume.write_file("/d/f", b"x")
         with self.mounted(device, read_only=True) as volume:
-            for change in [*changes_of(volume), volume.clean_once]:
+            for change in [*changes_of(volume), *more_changes_of(volume)]:
                 self.assertRaises(pansuyog.ReadOnly, change)
             volume.sync()
             volume.fsync(0)

@@ -22,6 +22,7 @@ static void unmounted(volume_t *v) {
     check(CALL(space)(v, &space) == none && CALL(version)(v) == none && CALL(upgrade)(v) == none);
     check(CALL(shape)(v, &shape) == none && shape.segments == 0 && shape.unit == 0);
     check(CALL(widen)(v, PATH("/")) == none);
+    check(CALL(record_begin)(v, 10, 2) == none && CALL(record_line)(v, "2026-01-01", "a", 1) == none && CALL(record_save)(v) == none);
     check(CALL(unmount)(v) == none);
     for (size_t at = 0; at < sizeof bytes; at++) check(bytes[at] == 0);
     check(stat.number == 0 && space.limit == 0);
@@ -149,6 +150,89 @@ static void shapes(const char *path) {
     keeps(path, 64, 1);
     keeps(path, 72, 8);
     keeps(path, 1024, 64);
+}
+
+/* Whether a file has these bytes and no others. */
+static int holds(volume_t *v, const char *path, const char *text) {
+    char bytes[64];
+    size_t length = strlen(text);
+    int32_t file = CALL(open)(v, path, strlen(path));
+    if (file < 0) return 0;
+    int32_t count = CALL(pread)(v, (uint32_t)file, 0, bytes, sizeof bytes);
+    check(CALL(close)(v, (uint32_t)file) == 0);
+    return count == (int32_t)length && !memcmp(bytes, text, length);
+}
+
+/* A file ends behind ten bytes and with its day, and two files are kept. */
+static void lines(volume_t *v) {
+    check(CALL(record_begin)(v, 10, 2) == 0 && CALL(list)(v, PATH("/")) == 0);
+    check(CALL(record_line)(v, "2026-01-01", "one", 3) == 0 && CALL(record_line)(v, "2026-01-01", "and two", 7) == 0);
+    check(CALL(list)(v, PATH("/")) == 1 && holds(v, "/00000001-2026-01-01", "one\nand two\n"));
+    check(CALL(record_line)(v, "2026-01-01", "three", 5) == 0 && holds(v, "/00000002-2026-01-01", "three\n"));
+    check(CALL(record_line)(v, "2026-01-02", "", 0) == 0 && holds(v, "/00000003-2026-01-02", "\n") && CALL(list)(v, PATH("/")) == 2);
+    check(CALL(record_line)(v, "2026-01-01", "back", 4) == 0 && holds(v, "/00000004-2026-01-01", "back\n"));
+    check(CALL(list)(v, PATH("/")) == 2 && holds(v, "/00000003-2026-01-02", "\n") && CALL(record_save)(v) == 0);
+}
+
+/* What is no line and no day isn't taken, and nothing is written of it. */
+static void no_lines(volume_t *v, char line[65536]) {
+    const int32_t no = PANSUYOG_INVAL;
+    check(CALL(record_line)(v, "2026-01-01", "a\nb", 3) == no && CALL(record_line)(v, "2026-01-01", "\n", 1) == no);
+    check(CALL(record_line)(v, "2026-01-1 ", "a", 1) == no && CALL(record_line)(v, "2026/01/01", "a", 1) == no);
+    check(CALL(record_line)(v, "2026-01-01", line, 65536) == no && holds(v, "/00000004-2026-01-01", "back\n"));
+}
+
+/* A recorder that begins goes on in the newest file, where that ends with a newline, and gives up what one before had open. */
+static void beginning_again(volume_t *v) {
+    for (int round = 0; round < 100; round++) check(CALL(record_begin)(v, 10, 0) == 0);
+    check(CALL(record_line)(v, "2026-01-01", "on", 2) == 0 && holds(v, "/00000004-2026-01-01", "back\non\n") && CALL(record_save)(v) == 0);
+    check(CALL(record_line)(v, "2026-01-02", "lost", 4) == 0 && CALL(unmount)(v) == 0);
+}
+
+/* A mount begins with no recorder. A file whose last line is half stays as it is, and another follows it. */
+static void behind_a_mount(volume_t *v) {
+    check(CALL(record_line)(v, "2026-01-01", "a", 1) == PANSUYOG_INVAL && CALL(record_save)(v) == PANSUYOG_INVAL);
+    check(CALL(list)(v, PATH("/")) == 2 && CALL(open)(v, PATH("/00000004-2026-01-01")) == 0);
+    check(CALL(pwrite)(v, 0, 8, "half", 4) == 4 && CALL(record_begin)(v, 100, 0) == 0);
+    check(CALL(record_line)(v, "2026-01-01", "whole", 5) == 0 && holds(v, "/00000004-2026-01-01", "back\non\nhalf"));
+    check(holds(v, "/00000005-2026-01-01", "whole\n"));
+}
+
+/* Where there is no space the oldest file goes, but none of another name. A line of 65,536 bytes needs 128 blocks, one of pointers and an
+ * inode, which count seven times each, and the eighth of a block for its name: docs/CALLS.md has the rule. So 15 such files are left. */
+static void full(struct image *image, char line[65536]) {
+    volume_t *v = &image->volume;
+    char name[24];
+    pansuyog_entry_t entry;
+    check(CALL(create)(v, PATH("/00000000-other")) == 0 && CALL(pwrite)(v, 0, 0, "a", 1) == 1 && CALL(record_begin)(v, 1, 0) == 0);
+    for (int number = 1; number <= 40; number++) {
+        check(CALL(record_line)(v, "2026-01-01", line, 65535) == 0);
+        if (number % 8 == 0) check(save_image(image) == 0);
+    }
+    check(CALL(list)(v, PATH("/")) == 16);
+    check(CALL(entry)(v, 0, &entry, name, sizeof name) == 14 && !memcmp(name, "00000000-other", 14));
+    check(CALL(entry)(v, 1, &entry, name, sizeof name) == 19 && !memcmp(name, "00000026-2026-01-01", 19));
+    check(CALL(entry)(v, 15, &entry, name, sizeof name) == 19 && !memcmp(name, "00000040-2026-01-01", 19));
+}
+
+/* A recorder, at a path where nothing is. */
+static void recording(const char *path) {
+    static char line[65536];
+    struct image image;
+    memset(line, 'a', sizeof line);
+    check(make_image(path, 64, 1) == 0 && mount_image(&image, path, 0) == 0);
+    check(CALL(record_line)(&image.volume, "2026-01-01", "a", 1) == PANSUYOG_INVAL && CALL(record_save)(&image.volume) == PANSUYOG_INVAL);
+    lines(&image.volume);
+    no_lines(&image.volume, line);
+    beginning_again(&image.volume);
+    unmounted(&image.volume);
+    check(remount_image(&image) == 0);
+    behind_a_mount(&image.volume);
+    drop_image(&image);
+    check(unlink(path) == 0 && make_image(path, 64, 1) == 0 && mount_image(&image, path, 0) == 0);
+    full(&image, line);
+    drop_image(&image);
+    check(unlink(path) == 0);
 }
 
 /* Each code says something of its own. */

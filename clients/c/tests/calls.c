@@ -210,6 +210,7 @@ int main(int argc, char **argv) {
     pansuyog_free(volume);
     check(snprintf(shaped, sizeof shaped, "%s.shaped", argv[1]) > 0);
     shapes(shaped);
+    recording(shaped);
     texts();
     check(pansuyog_damage(-101) == 1 && pansuyog_damage(-115) == 15 && pansuyog_damage(PANSUYOG_NOT_MOUNTED) == 0);
     check(pansuyog_damage(0) == 0);

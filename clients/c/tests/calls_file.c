@@ -137,6 +137,8 @@ static void reading(pansuyog_file *v, const char *image) {
     check(pansuyog_file_symlink(v, PATH("/a"), PATH("/n")) == no && pansuyog_file_widen(v, PATH("/d")) == no);
     check(pansuyog_file_fsync(v, 0) == no && pansuyog_file_sync(v) == no && pansuyog_file_clean(v) == no);
     check(pansuyog_file_clean_once(v) == no && pansuyog_file_upgrade(v) == no);
+    check(pansuyog_file_record_begin(v, 10, 2) == no && pansuyog_file_record_line(v, "2026-01-01", "a", 1) == no);
+    check(pansuyog_file_record_save(v) == no);
     check(pansuyog_file_pread(v, 0, 0, bytes, sizeof bytes) == 12 && pansuyog_file_readlink(v, PATH("/l"), bytes, 16) == 4);
     check(pansuyog_file_stat(v, PATH("/a"), &stat) == 0 && stat.size == 12 && pansuyog_file_lstat(v, PATH("/l"), &stat) == 0);
     check(pansuyog_file_list(v, PATH("/d")) == 1 && pansuyog_file_space(v, &space) == 0 && pansuyog_file_version(v) == 2);
@@ -251,6 +253,7 @@ int main(int argc, char **argv) {
     check(snprintf(shaped, sizeof shaped, "%s.shaped", argv[1]) > 0);
     refused_shapes(&volume, shaped);
     shapes(shaped);
+    recording(shaped);
     int32_t last = take(&volume, fd = open(argv[1], O_RDWR), 0);
     pansuyog_file_free(volume);
     check(last == 0 && fcntl(fd, F_GETFD) < 0);

@@ -44,6 +44,10 @@ static inline int32_t mount_image(struct image *image, const char *path, int is_
     return code == 0 ? pansuyog_file_mount(&image->volume) : code;
 }
 
+static inline int32_t remount_image(struct image *image) {
+    return pansuyog_file_mount(&image->volume);
+}
+
 static inline int32_t save_image(struct image *image) {
     return pansuyog_file_sync(&image->volume);
 }
@@ -66,6 +70,10 @@ static inline int32_t mount_image(struct image *image, const char *path, int is_
     check(pansuyog_new(&image->volume) == 0);
     image->fd = pansuyog_open_fd(path, is_read_only ? LOCK_SH : LOCK_EX, NULL);
     return image->fd < 0 ? image->fd : pansuyog_mount_fd(&image->volume, image->fd, ROOM, NULL);
+}
+
+static inline int32_t remount_image(struct image *image) {
+    return pansuyog_mount(&image->volume, ROOM);
 }
 
 static inline int32_t save_image(struct image *image) {

@@ -34,6 +34,11 @@ const NAME: usize = 123;
 /// The longest text of a link.
 const TEXT: usize = 1_023;
 
+/// The bytes of a day.
+const DAY: usize = 10;
+
+const INVAL: Refused = Refused(-6);
+
 /// A volume in the memory of one of the libraries, with the calls that both have.
 pub struct Library {
     raw: Raw,
@@ -234,5 +239,21 @@ impl Library {
 
     pub fn widen(&mut self, path: &[u8]) -> Answer<u32> {
         self.of_path(self.calls.widen, path)
+    }
+
+    pub fn record_begin(&mut self, bytes: u32, files: u32) -> Answer<u32> {
+        // SAFETY: the call takes any numbers.
+        answer(unsafe { (self.calls.record_begin)(&mut self.raw, bytes, files) })
+    }
+
+    pub fn record_line(&mut self, day: &[u8], line: &[u8]) -> Answer<u32> {
+        // A copy, since the headers want arguments that don't overlap.
+        let day: [u8; DAY] = day.try_into().map_err(|_| INVAL)?;
+        // SAFETY: the day has ten bytes, and the line's pointer has the length that is passed with it.
+        answer(unsafe { (self.calls.record_line)(&mut self.raw, day.as_ptr(), line.as_ptr(), line.len()) })
+    }
+
+    pub fn record_save(&mut self) -> Answer<u32> {
+        self.plain(self.calls.record_save)
     }
 }

@@ -408,4 +408,35 @@ impl<D: Backend> Volume<D> {
     pub fn widen(&mut self, path: impl AsRef<[u8]>) -> Result<()> {
         self.mounted.change(|library| library.widen(path.as_ref())).map(drop)
     }
+
+    /// Begins to record lines in numbered files of the root, as `00000001-2026-11-29`, of which the oldest goes where there is no space. The
+    /// next file begins behind `bytes` bytes, and with each day. At most `files` are kept, or for 0 as many as there is space for. The
+    /// newest file goes on where it ends with a newline and no other name gives it. A recorder that had begun before ends.
+    ///
+    /// # Errors
+    /// Those of [`readdir`](Volume::readdir) of the root, and of [`lstat`](Volume::lstat), [`open`](Volume::open) and others of the newest
+    /// file. No recorder is there then.
+    pub fn record_begin(&mut self, bytes: u32, files: u32) -> Result<()> {
+        self.mounted.change(|library| library.record_begin(bytes, files)).map(drop)
+    }
+
+    /// Writes a line of a day, as `"2026-11-29"`, and a newline behind it: all of it or nothing. Nothing waits outside of the volume.
+    ///
+    /// # Errors
+    /// `Inval` for what is no day, for a line of more than 65,535 bytes or with a newline, and where no recorder has begun. `NoSpace` where
+    /// no older file is left that could go, and what [`create`](Volume::create), [`pwrite`](Volume::pwrite),
+    /// [`readdir`](Volume::readdir), [`unlink`](Volume::unlink) and [`close`](Volume::close) refuse.
+    pub fn record_line(&mut self, day: impl AsRef<[u8]>, line: impl AsRef<[u8]>) -> Result<()> {
+        self.mounted
+            .change(|library| library.record_line(day.as_ref(), line.as_ref()))
+            .map(drop)
+    }
+
+    /// Saves all lines so far: after `Ok` each survives a loss of power.
+    ///
+    /// # Errors
+    /// `Inval` where no recorder has begun.
+    pub fn record_save(&mut self) -> Result<()> {
+        self.mounted.change(Library::record_save).map(drop)
+    }
 }

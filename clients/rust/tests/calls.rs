@@ -16,6 +16,10 @@ over_both! {
     a_damaged_volume_tells_its_stage
     a_volume_goes_to_another_thread
     a_volume_keeps_its_shape
+    a_recorder_writes_lines_to_files
+    what_is_no_line_is_refused
+    a_recorder_goes_on_in_the_newest_file
+    the_oldest_file_of_a_recorder_goes
 }
 
 fn bytes_of<D: Backend>(volume: &mut Volume<D>, path: &str) -> Vec<u8> {
@@ -263,4 +267,86 @@ fn a_volume_keeps_its_shape(ground: &mut impl Ground) {
     volume.upgrade().unwrap();
     volume.sync().unwrap();
     assert_eq!(ground.stopped(volume).shape().unwrap(), Shape::new(72, Version::Two));
+}
+
+/// The files of the root, each with its bytes.
+fn files_of<D: Backend>(volume: &mut Volume<D>) -> Vec<(String, Vec<u8>)> {
+    let entries = volume.readdir("/").unwrap();
+    let names = entries.into_iter().map(|entry| String::from_utf8(entry.name).unwrap());
+    names
+        .map(|name| {
+            let bytes = bytes_of(volume, &format!("/{name}"));
+            (name, bytes)
+        })
+        .collect()
+}
+
+fn named(files: &[(&str, &[u8])]) -> Vec<(String, Vec<u8>)> {
+    files.iter().map(|(name, bytes)| (name.to_string(), bytes.to_vec())).collect()
+}
+
+fn a_recorder_writes_lines_to_files(ground: &mut impl Ground) {
+    let mut volume = ground.format(64, Version::One);
+    volume.record_begin(10, 2).unwrap();
+    volume.record_line("2026-01-01", "one").unwrap();
+    volume.record_line(b"2026-01-01", b"and two").unwrap();
+    assert_eq!(files_of(&mut volume), named(&[("00000001-2026-01-01", b"one\nand two\n")]));
+    volume.record_line("2026-01-01", "three").unwrap();
+    volume.record_line("2026-01-02", "").unwrap();
+    let three = ("00000002-2026-01-01", &b"three\n"[..]);
+    let empty = ("00000003-2026-01-02", &b"\n"[..]);
+    assert_eq!(files_of(&mut volume), named(&[three, empty]));
+    volume.record_line("2026-01-01", "back").unwrap();
+    assert_eq!(files_of(&mut volume), named(&[empty, ("00000004-2026-01-01", b"back\n")]));
+}
+
+fn what_is_no_line_is_refused(ground: &mut impl Ground) {
+    let mut volume = ground.format(64, Version::One);
+    let long = vec![b'a'; 65_536];
+    assert_eq!(refusal(volume.record_line("2026-01-01", "a")), "Inval");
+    assert_eq!(refusal(volume.record_save()), "Inval");
+    volume.record_begin(1, 0).unwrap();
+    assert_eq!(refusal(volume.record_line("2026-01-01", "a\nb")), "Inval");
+    assert_eq!(refusal(volume.record_line("2026-01-01", &long)), "Inval");
+    for day in ["", "2026-1-1", "2026/01/01", "2026-01-01 "] {
+        assert_eq!(refusal(volume.record_line(day, "a")), "Inval");
+    }
+    assert_eq!(volume.readdir("/").unwrap(), []);
+    volume.record_line("2026-01-01", &long[1..]).unwrap();
+    assert_eq!(volume.stat("/00000001-2026-01-01").unwrap().size, 65_536);
+}
+
+fn a_recorder_goes_on_in_the_newest_file(ground: &mut impl Ground) {
+    let mut volume = ground.format(64, Version::One);
+    // What a recorder had open is given up as another begins.
+    for _ in 0..100 {
+        volume.record_begin(1_000, 0).unwrap();
+        volume.record_line("2026-01-01", "a").unwrap();
+    }
+    volume.record_save().unwrap();
+    volume.record_line("2026-01-02", "lost").unwrap();
+    let mut volume = ground.stopped(volume);
+    assert_eq!(refusal(volume.record_line("2026-01-01", "a")), "Inval");
+    let first = b"a\n".repeat(100);
+    assert_eq!(files_of(&mut volume), named(&[("00000001-2026-01-01", &first)]));
+    let handle = volume.open("/00000001-2026-01-01").unwrap();
+    volume.pwrite(handle, 200, b"half").unwrap();
+    volume.record_begin(1_000, 0).unwrap();
+    volume.record_line("2026-01-01", "whole").unwrap();
+    assert_eq!(files_of(&mut volume)[1], ("00000002-2026-01-01".to_string(), b"whole\n".to_vec()));
+}
+
+/// A line of 65,536 bytes needs 128 blocks, one of pointers and an inode, which count seven times each, and the eighth of a block for its
+/// name. An empty volume of 64 segments has a need of 727, and its limit is 3,008.
+fn the_oldest_file_of_a_recorder_goes(ground: &mut impl Ground) {
+    let mut volume = ground.format(64, Version::One);
+    let other = volume.create("/other").unwrap();
+    volume.pwrite(other, 0, b"a").unwrap();
+    volume.record_begin(1, 0).unwrap();
+    for _ in 0..40 {
+        volume.record_line("2026-01-01", [b'a'; 65_535]).unwrap();
+    }
+    let names: Vec<_> = volume.readdir("/").unwrap().into_iter().map(|entry| entry.name).collect();
+    let wanted = (26..=40).map(|number| format!("{number:08}-2026-01-01").into_bytes());
+    assert_eq!(names, wanted.chain([b"other".to_vec()]).collect::<Vec<_>>());
 }

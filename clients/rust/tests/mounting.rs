@@ -125,8 +125,11 @@ fn a_volume_that_is_only_read_refuses_what_may_write() {
         refusal(volume.clean_once()),
         refusal(volume.upgrade()),
         refusal(volume.widen("/")),
+        refusal(volume.record_begin(10, 2)),
+        refusal(volume.record_line("2026-01-01", "a")),
+        refusal(volume.record_save()),
     ];
-    assert_eq!(refusals, ["ReadOnly"; 15]);
+    assert_eq!(refusals, ["ReadOnly"; 18]);
     let mut bytes = [0; 9];
     assert_eq!(volume.pread(handle, 0, &mut bytes).unwrap(), 5);
     assert_eq!(bytes[..5], *b"bytes");

@@ -122,4 +122,7 @@ declare! {
     version();
     upgrade();
     widen(path: *const u8, length: usize);
+    record_begin(bytes: u32, files: u32);
+    record_line(day: *const u8, line: *const u8, length: usize);
+    record_save();
 }
