@@ -5,12 +5,14 @@ use Rattle.std.proofs.Math.Seq.{take-append-add, take-append_seam}
 use Rattle.std.proofs.lemmas.List.{length-map, take-append-drop}
 use Rattle.std.specs.Prelude.{ℤ, pos, Result, Ok, Err, take, drop, slice_get, min}
 use Rattle.lfs_model.specs.Call.{Answer, Call, Count, Done, Pwrite, Sync}
+use Rattle.lfs_model.specs.Content.{Content}
+use Rattle.lfs_model.specs.Run.{Point}
 use Rattle.lfs_model.specs.Device.{DeviceState}
 use Rattle.lfs_model.specs.Refusal as refusal
 use Rattle.lfs_model.specs.Refusal.{Refusal}
 use Rattle.lfs_model.proofs.Walks.{Some-injective}
 use Rattle.lfs_fs.specs.InARow as volume
-use Rattle.lfs_fs.specs.InARow.{ServesInARow}
+use Rattle.lfs_fs.specs.InARow.{IsSavedAt, ServesInARow}
 use Rattle.lfs_fs.specs.Refusals.{refusal_of}
 use Rattle.lfs_fs.specs.Seen.{answer_by, seen}
 use Rattle.lfs_fs.specs.Volume.{Mounted, Serves}
@@ -28,8 +30,9 @@ use Rattle.lfs_record.specs.declared.recorder.Recorder.{Recorder}
 use Rattle.lfs_record.specs.declared.recorder.TheConstants.{MOST_BYTES}
 use Rattle.lfs_record.proofs.Recorded.{moves_append, serves_none}
 use Rattle.pansuyog_calls.specs.Codes.{code_of_refusal}
-use Rattle.pansuyog_calls.specs.Recording.{Begins, SavesAll, TellsBegun, TellsResult, Writes, present_of}
-use Rattle.pansuyog_calls.specs.Sessions.{RecordsAreSaved, RecordsInARow, is_saved, is_tended, is_written, no_more, text_told}
+use Rattle.pansuyog_calls.specs.Recording.{Begins, BeginsIn, SavesAll, SavesIn, TellsBegun, TellsResult, Writes, WritesIn, present_of}
+use Rattle.pansuyog_calls.specs.declared.access.Access.TheVariants.{ReadWrite}
+use Rattle.pansuyog_calls.specs.Sessions.{HoldsTexts, RecordsAreSaved, RecordsInARow, is_saved, is_tended, is_written, no_more, text_told}
 
 -- ---- the texts of calls
 
@@ -168,20 +171,93 @@ module _ {D : Type 0} (state : D → DeviceState) where
     has = save_texts saves.outcome;
   }
 
-  row : (last : Fs D) (end : Recorder) {old : Fs D} {was : Recorder} {texts : List (List ℕ)}
-      → RecordsInARow state last end old was texts → Row (seen old) (seen last) was end texts
-  row last end no_more = record { calls = []; served = serves_none state (seen last); does = recorder.no_more; has = refl }
-  row last end (is_written {old = old} {was = was} {texts = texts} new now day line code writes rest) =
-      joined (seen old) (seen new) (seen last) was now end (text_told code line) texts (line_row old new was now day line code writes)
-      (row last end rest)
-  row last end (is_saved {old = old} {was = was} {texts = texts} new code saves rest) =
-      joined (seen old) (seen new) (seen last) was was end [] texts (save_row old new was code saves) (row last end rest)
-  row last end (is_tended new tended rest) = let those = row last end rest in record {
+  empty_row : (v : Mounted D) (r : Recorder) → Row v v r r []
+  empty_row v r = record { calls = []; served = serves_none state v; does = recorder.no_more; has = refl }
+
+  tended_row : (a b c : Mounted D) (r r' : Recorder) (texts : List (List ℕ)) → volume.IsTended state a b → Row b c r r' texts
+      → Row a c r r' texts
+  tended_row a b c r r' texts tended those = record {
     calls = those.calls;
-    served = (those.served.0, volume.is_tended (seen new) tended those.served.1);
+    served = (those.served.0, volume.is_tended b tended those.served.1);
     does = those.does;
     has = those.has;
   }
+
+  -- ---- a volume that is mounted, with a recorder, has both behind a call
+
+  record Wrote (old : Fs D) (was : Recorder) (after : Option (Fs D)) (now : Option Recorder) (day line : List ℕ) (code : ℤ) : Type 0 where
+    pub new : Fs D
+    pub mounted : after ≡ Some new
+    pub goes_on : Recorder
+    pub there : now ≡ Some goes_on
+    pub writes : Writes state old new was goes_on day line code
+
+  wrote : (old : Fs D) (was : Recorder) (before after : Option (Fs D)) (held now : Option Recorder) (day line : List ℕ) (code : ℤ)
+      → before ≡ Some old → held ≡ Some was → WritesIn state ReadWrite before after held now day line code
+      → Wrote old was after now day line code
+  wrote old was (Some x) (Some y) (Some r) (Some r') day line code is has writes =
+      subst (λ (f : Fs D). Wrote f was (Some y) (Some r') day line code) (Some-injective is)
+      (subst (λ (p : Recorder). Wrote x p (Some y) (Some r') day line code) (Some-injective has)
+      (record { new = y; mounted = refl; goes_on = r'; there = refl; writes = writes }))
+  wrote old was (Some x) (Some y) (Some r) None day line code is has writes = absurd writes
+  wrote old was (Some x) (Some y) None now day line code is has writes = absurd (cc has)
+  wrote old was (Some x) None held now day line code is has writes = absurd writes
+  wrote old was None after held now day line code is has writes = absurd (cc is)
+
+  record Saved (old : Fs D) (was : Recorder) (after : Option (Fs D)) (code : ℤ) : Type 0 where
+    pub new : Fs D
+    pub mounted : after ≡ Some new
+    pub saves : SavesAll state old new was code
+
+  saved_all : (old : Fs D) (was : Recorder) (before after : Option (Fs D)) (held : Option Recorder) (code : ℤ)
+      → before ≡ Some old → held ≡ Some was → SavesIn state ReadWrite before after held code → Saved old was after code
+  saved_all old was (Some x) (Some y) (Some r) code is has saves =
+      subst (λ (f : Fs D). Saved f was (Some y) code) (Some-injective is)
+      (subst (λ (p : Recorder). Saved x p (Some y) code) (Some-injective has) (record { new = y; mounted = refl; saves = saves }))
+  saved_all old was (Some x) (Some y) None code is has saves = absurd (cc has)
+  saved_all old was (Some x) None held code is has saves = absurd saves
+  saved_all old was None after held code is has saves = absurd (cc is)
+
+  record Shows (old : Fs D) (was : Recorder) (after : Option (Fs D)) (now : Option Recorder) (texts : List (List ℕ)) : Type 0 where
+    pub new : Fs D
+    pub mounted : after ≡ Some new
+    pub goes_on : Recorder
+    pub there : now ≡ Some goes_on
+    pub row : Row (seen old) (seen new) was goes_on texts
+
+  rows : (last : Option (Fs D)) (end : Option Recorder) {before : Option (Fs D)} {held : Option Recorder} {texts : List (List ℕ)}
+      → RecordsInARow state last end before held texts → (old : Fs D) (was : Recorder) → before ≡ Some old → held ≡ Some was
+      → Shows old was last end texts
+  rows last end no_more old was is has = record { new = old; mounted = is; goes_on = was; there = has; row = empty_row (seen old) was }
+  rows last end {before} {held} (is_written {texts = texts} new now day line code writes rest) old was is has =
+      let one = wrote old was before new held now day line code is has writes in
+      let those = rows last end rest one.new one.goes_on one.mounted one.there in record {
+        new = those.new;
+        mounted = those.mounted;
+        goes_on = those.goes_on;
+        there = those.there;
+        row = joined (seen old) (seen one.new) (seen those.new) was one.goes_on those.goes_on (text_told code line) texts
+            (line_row old one.new was one.goes_on day line code one.writes) those.row;
+      }
+  rows last end {before} {held} (is_saved {texts = texts} new code saves rest) old was is has =
+      let one = saved_all old was before new held code is has saves in
+      let those = rows last end rest one.new was one.mounted has in record {
+        new = those.new;
+        mounted = those.mounted;
+        goes_on = those.goes_on;
+        there = those.there;
+        row = joined (seen old) (seen one.new) (seen those.new) was was those.goes_on [] texts (save_row old one.new was code one.saves)
+            those.row;
+      }
+  rows last end {held = held} {texts = texts} (is_tended before now same tended rest) old was is has =
+      let those = rows last end rest now was refl has in
+      subst (λ (f : Fs D). Shows f was last end texts) (Some-injective (sym same ∙ is)) (record {
+        new = those.new;
+        mounted = those.mounted;
+        goes_on = those.goes_on;
+        there = those.there;
+        row = tended_row (seen before) (seen now) (seen those.new) was those.goes_on texts tended those.row;
+      })
 
   -- ---- a recorder begins
 
@@ -195,6 +271,10 @@ module _ {D : Type 0} (state : D → DeviceState) where
       subst (λ (x : Recorder). BeginsOn state a b bytes files (Ok x)) (sym (Some-injective tells.1)) begins
   begun_by a b r bytes files (Err fault) tells begins = absurd (cc tells.1)
 
+  not_begun : (outcome : Result Recorder FsError) → TellsBegun (pos 0) None outcome → ⊥
+  not_begun (Ok begun) tells = cc tells.1
+  not_begun (Err fault) tells = not_done (refusal_of fault) tells.0
+
   begins_on : (old begun : Fs D) (was : Option Recorder) (r : Recorder) (bytes files : ℕ) → present_of was ≡ None
       → Begins state old begun was (Some r) bytes files (pos 0) → BeginsOn state (seen old) (seen begun) (min bytes MOST_BYTES) files (Ok r)
   begins_on old begun was r bytes files none begins =
@@ -206,6 +286,20 @@ module _ {D : Type 0} (state : D → DeviceState) where
         ends = on.ends;
       }
 
+  record Begun (old : Fs D) (after : Option (Fs D)) (now : Option Recorder) (bytes files : ℕ) : Type 0 where
+    pub new : Fs D
+    pub mounted : after ≡ Some new
+    pub goes_on : Recorder
+    pub there : now ≡ Some goes_on
+    pub begins : BeginsOn state (seen old) (seen new) (min bytes MOST_BYTES) files (Ok goes_on)
+
+  begun : (old : Fs D) (after : Option (Fs D)) (was now : Option Recorder) (bytes files : ℕ) → present_of was ≡ None
+      → BeginsIn state ReadWrite (Some old) after was now bytes files (pos 0) → Begun old after now bytes files
+  begun old (Some new) was (Some r) bytes files none begins =
+      record { new = new; mounted = refl; goes_on = r; there = refl; begins = begins_on old new was r bytes files none begins }
+  begun old (Some new) was None bytes files none begins = absurd (not_begun begins.outcome begins.tells)
+  begun old None was now bytes files none begins = absurd begins
+
   -- ---- a stop since a save
 
   clocks_of : (new : Mounted D) {old : Mounted D} {calls : List Call} {answers : List Answer} {clocks : List ℕ}
@@ -214,29 +308,31 @@ module _ {D : Type 0} (state : D → DeviceState) where
   clocks_of new (volume.is_served mid call answer serves rest) = let same = clocks_of new rest in omega (arith, same)
   clocks_of new (volume.is_tended mid tended rest) = clocks_of new rest
 
-  synced : (old new : Fs D) (r : Recorder) (outcome : Result (Unit {0}) FsError) → TellsResult (pos 0) outcome
+  synced : (old new : Fs D) (outcome : Result (Unit {0}) FsError) → TellsResult (pos 0) outcome
       → Serves state (seen old) (seen new) Sync (answer_by (λ done. Done) outcome) → Serves state (seen old) (seen new) Sync Done
-  synced old new r (Ok done) tells serves = serves
-  synced old new r (Err fault) tells serves = absurd (not_done (refusal_of fault) tells)
+  synced old new (Ok done) tells serves = serves
+  synced old new (Err fault) tells serves = absurd (not_done (refusal_of fault) tells)
 
-  pub records_are_saved : SessionsAreSaved state → RecordsAreSaved state
-  records_are_saved sessions old saved new first later s keeps start at_start c left =
-      let one = row s.between s.next s.row in
-      let two = row new s.last s.rest in
-      let sync = synced s.between saved s.next s.saves.outcome s.saves.tells s.saves.saves.serves in
-      let rest = serves_append (seen s.between) (seen saved) (seen new) ((Sync, Done) ∷ []) two.calls
-      (serves_one (seen s.between) (seen saved) Sync Done sync) two.served in
+  holds_since : SessionsAreSaved state → (old begun between saved new : Fs D) (first later : List (List ℕ)) (bytes files : ℕ)
+      (r m r' : Recorder) → BeginsOn state (seen old) (seen begun) bytes files (Ok r) → Row (seen begun) (seen between) r m first
+      → SavesAll state between saved m (pos 0) → Row (seen saved) (seen new) m r' later → (state (seen new).log.device).keeps_model
+      → (start : Point) → IsSavedAt state (seen old) start → (c : Content)
+      → (state (seen new).log.device).left_since (state (seen saved).log.device).moment c
+      → HoldsTexts (files_in start.state.tree) first later c
+  holds_since sessions old begun between saved new first later bytes files r m r' begins one saves two keeps start at_start c left =
+      let sync = synced between saved saves.outcome saves.tells saves.saves.serves in
+      let rest = serves_append (seen between) (seen saved) (seen new) ((Sync, Done) ∷ []) two.calls
+      (serves_one (seen between) (seen saved) Sync Done sync) two.served in
       let calls : Calls = one.calls ++ (Sync, Done) ∷ two.calls in
-      let makes : Makes state (seen s.begun) (seen new) s.recorder calls s.last = record {
-        served = serves_append (seen s.begun) (seen s.between) (seen new) one.calls ((Sync, Done) ∷ two.calls) one.served rest;
-        moves = moves_append s.recorder s.next s.last one.calls ((Sync, Done) ∷ two.calls) one.does (recorder.saves two.does);
+      let makes : Makes state (seen begun) (seen new) r calls r' = record {
+        served = serves_append (seen begun) (seen between) (seen new) one.calls ((Sync, Done) ∷ two.calls) one.served rest;
+        moves = moves_append r m r' one.calls ((Sync, Done) ∷ two.calls) one.does (recorder.saves two.does);
       } in
-      let count = clocks_of (seen s.between) one.served.1 ∙ length-map one.calls (λ x. x.0) in
+      let count = clocks_of (seen between) one.served.1 ∙ length-map one.calls (λ x. x.0) in
       let moment = (state (seen saved).log.device).moment in
-      let leaves : LeavesFiles (files_in start.state.tree) calls (suc (length one.calls)) c = sessions (seen old) (seen s.begun) (seen new)
-      (min s.bytes MOST_BYTES) s.files s.recorder s.last calls (begins_on old s.begun s.was s.recorder s.bytes s.files s.none_open s.begins)
-      makes keeps start at_start (suc (length one.calls)) moment (at_seam one.served.0 moment two.served.0 (length one.calls) (sym count)) c
-      left in
+      let leaves : LeavesFiles (files_in start.state.tree) calls (suc (length one.calls)) c =
+      sessions (seen old) (seen begun) (seen new) bytes files r r' calls begins makes keeps start at_start (suc (length one.calls)) moment
+      (at_seam one.served.0 moment two.served.0 (length one.calls) (sym count)) c left in
       let k = leaves.n - suc (length one.calls) in
       let behind = leaves.saved (length one.calls) (omega arith) (at_seam one.calls (Sync, Done) two.calls (length one.calls) refl) in
       let place : leaves.n ≡ length one.calls + suc k = omega (arith, behind) in
@@ -253,3 +349,16 @@ module _ {D : Type 0} (state : D → DeviceState) where
         stands = leaves.stands;
         holds = subst (λ (t : List (List ℕ)). Holds (files_in start.state.tree) t (files_in leaves.state.tree)) texts leaves.holds;
       }
+
+  pub records_are_saved : SessionsAreSaved state → RecordsAreSaved state
+  records_are_saved sessions old saved new first later s keeps start at_start c left =
+      let from = begun old s.begun s.was s.recorder s.bytes s.files s.none_open s.begins in
+      let one = rows s.between s.next s.row from.new from.goes_on from.mounted from.there in
+      let save = saved_all one.new one.goes_on s.between (Some saved) s.next (pos 0) one.mounted one.there s.saves in
+      let two = rows (Some new) s.last s.rest saved one.goes_on refl one.there in
+      let saves : SavesAll state one.new saved one.goes_on (pos 0) =
+      subst (λ (f : Fs D). SavesAll state one.new f one.goes_on (pos 0)) (sym (Some-injective save.mounted)) save.saves in
+      let after : Row (seen saved) (seen new) one.goes_on two.goes_on later =
+      subst (λ (f : Fs D). Row (seen saved) (seen f) one.goes_on two.goes_on later) (sym (Some-injective two.mounted)) two.row in
+      holds_since sessions old from.new one.new saved new first later (min s.bytes MOST_BYTES) s.files from.goes_on one.goes_on two.goes_on
+      from.begins one.row saves after keeps start at_start c left
