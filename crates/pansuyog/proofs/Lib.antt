@@ -8,3 +8,4 @@ mod Available
 mod Numbers
 mod CallsInARow
 mod Standing
+pub mod Sessions

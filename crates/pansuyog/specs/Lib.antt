@@ -6,5 +6,6 @@ pub mod Making
 pub mod Mounted
 pub mod Orders
 pub mod Serving
+pub mod Sessions
 pub mod Sources
 pub mod Standing
