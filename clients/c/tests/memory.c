@@ -40,7 +40,13 @@ static int32_t calls(pansuyog *volume) {
     if ((code = pansuyog_unlink(volume, PATH("/d/l"))) < 0) return code;
     if ((code = pansuyog_rmdir(volume, PATH("/d"))) < 0) return code;
     if ((code = pansuyog_close(volume, (uint32_t)handle)) < 0) return code;
-    return pansuyog_sync(volume);
+    if ((code = pansuyog_sync(volume)) < 0) return code;
+    if ((code = pansuyog_record_begin(volume, 1, 1)) < 0) return code;
+    if ((code = pansuyog_record_line(volume, "2026-01-01", "one", 3)) < 0) return code;
+    if ((code = pansuyog_record_line(volume, "2026-01-02", "two", 3)) < 0) return code;
+    if ((code = pansuyog_record_begin(volume, 9, 1)) < 0) return code;
+    if ((code = pansuyog_record_line(volume, "2026-01-02", "three", 5)) < 0) return code;
+    return pansuyog_record_save(volume);
 }
 
 int main(int argc, char **argv) {

@@ -27,7 +27,13 @@ static int32_t calls(pansuyog_file *volume, const char *image) {
     if ((code = pansuyog_file_rmdir(volume, PATH("/d"))) < 0) return code;
     if ((code = pansuyog_file_close(volume, (uint32_t)handle)) < 0) return code;
     if ((code = pansuyog_file_sync(volume)) < 0) return code;
-    return pansuyog_file_unlink(volume, PATH("/b"));
+    if ((code = pansuyog_file_unlink(volume, PATH("/b"))) < 0) return code;
+    if ((code = pansuyog_file_record_begin(volume, 1, 1)) < 0) return code;
+    if ((code = pansuyog_file_record_line(volume, "2026-01-01", "one", 3)) < 0) return code;
+    if ((code = pansuyog_file_record_line(volume, "2026-01-02", "two", 3)) < 0) return code;
+    if ((code = pansuyog_file_record_begin(volume, 9, 1)) < 0) return code;
+    if ((code = pansuyog_file_record_line(volume, "2026-01-02", "three", 5)) < 0) return code;
+    return pansuyog_file_record_save(volume);
 }
 
 int main(int argc, char **argv) {
