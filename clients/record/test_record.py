@@ -302,8 +302,6 @@ class InTime(OfTheRecorder):
             if LFS and old > 0 and len(self.looked().splitlines()) < old:
                 late.append((count, "by lfs"))
         self.assertEqual(late, [])
-        # None is saved before its time: nothing waits for a thousand lines.
-        self.assertLess(acknowledged.saved, 20)
 
     def test_a_line_that_waits_is_saved_once_the_oldest_has_waited(self):
         child = self.started("--lines", "1000", "--seconds", "1", "--acknowledge")
@@ -365,6 +363,37 @@ class Stops(OfTheRecorder):
             stop += 1 if stop < 8 or stop > 60 else 13
         self.assertEqual(status, 0)
         self.assertGreater(stop, 70)
+
+
+class IdleMoments(OfTheRecorder):
+    def is_cleaning_due(self):
+        with pansuyog.Volume(self.image, read_only=True, library=LIBRARY) as volume:
+            return volume.is_cleaning_due()
+
+    def overwrite(self):
+        """Writes over a large file here and there, until fewer than a quarter of the segments are clean."""
+        chance = random.Random(1)
+        with pansuyog.Volume(self.image, library=LIBRARY) as volume:
+            handle = volume.create("/of another")
+            for place in range(64):
+                volume.pwrite(handle, 65_536 * place, bytes([1]) * 65_536)
+            while not volume.is_cleaning_due():
+                volume.pwrite(handle, 512 * chance.randrange(8_192), bytes([2]) * 512)
+                volume.sync()
+
+    def test_it_cleans_while_no_input_waits(self):
+        # Of 256 segments a change leaves more than three sixteenths alone, so that a line cleans none.
+        self.saves(b"", 0, size="8M")
+        self.overwrite()
+        self.assertTrue(self.is_cleaning_due())
+        child = self.started("--acknowledge", "--lines", "1")
+        child.stdin.write(b"one\n")
+        child.stdin.flush()
+        self.assertEqual(child.stdout.readline(), b"1\n")
+        time.sleep(1)
+        child.kill()
+        child.wait()
+        self.assertFalse(self.is_cleaning_due())
 
 
 class Images(OfTheRecorder):
