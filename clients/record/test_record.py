@@ -569,8 +569,9 @@ class Refusals(OfTheRecorder):
     def test_help(self):
         ran = subprocess.run([PROGRAM, "--help"], stdout=subprocess.PIPE, stderr=subprocess.PIPE, check=False)
         self.assertEqual((ran.returncode, ran.stderr), (0, b""))
-        options = ("size", "sparse", "lines", "seconds", "file", "keep", "buffer", "acknowledge", "input", "serial")
-        self.assertEqual([it for it in options if f"--{it}" not in ran.stdout.decode()], [])
+        options = ("--size BYTES", "--sparse", "--lines LINES", "--seconds SECONDS", "--file BYTES", "--keep FILES", "--buffer BYTES",
+                   "--acknowledge", "--input FIFO", "--serial TTY[:BAUD]")
+        self.assertEqual([it for it in options if it not in ran.stdout.decode()], [])
 
 
 class Streams(OfTheRecorder):
