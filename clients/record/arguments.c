@@ -24,6 +24,8 @@ static const char HELP[] =
     "  --acknowledge     tells standard output how many lines are saved, each time\n"
     "  --input FIFO      reads a FIFO in place of standard input\n"
     "  --serial TTY[:BAUD]  reads a terminal in its place, at 115200 baud without BAUD\n"
+    "  --copy FOLDER     copies each file there once the next one has begun\n"
+    "  --status FILE     writes a line of JSON there, each ten seconds\n"
     "\n"
     "BYTES may end in K, M or G. A line has at most 65535 bytes. SIGTERM, SIGINT and SIGHUP save what\n"
     "waits. Status 0: the input has ended, or SIGTERM came. 1: see standard error, and start it again.\n"
@@ -99,18 +101,39 @@ static bool is_numeric(struct arguments *arguments, const char *name, const char
     return false;
 }
 
+/* An option that has a name of the host: what it is, and where it goes. */
+struct named {
+    const char *name, *what;
+    size_t place;
+};
+
+static const struct named NAMED[] = {
+    {"--input", "a FIFO", offsetof(struct arguments, input)},
+    {"--copy", "a folder", offsetof(struct arguments, copy)},
+    {"--status", "a file", offsetof(struct arguments, status)},
+};
+
+static bool is_named(struct arguments *arguments, const char *name, const char *value, bool *well) {
+    for (size_t at = 0; at < sizeof NAMED / sizeof *NAMED; at++) {
+        if (strcmp(name, NAMED[at].name) != 0) continue;
+        *well = value != NULL && *value != '\0';
+        if (!*well) fprintf(stderr, "pansuyog-record: %s takes %s\n", name, NAMED[at].what);
+        *(const char **)(void *)((char *)arguments + NAMED[at].place) = value;
+        return true;
+    }
+    return false;
+}
+
 /* Takes an option that has a value, if it is one: whether it was well. */
 static bool read_option(struct arguments *arguments, const char *name, char *value) {
-    bool well = value != NULL;
-    if (is_numeric(arguments, name, value, &well)) return well;
-    bool is_input = strcmp(name, "--input") == 0;
-    if (!is_input && strcmp(name, "--serial") != 0) {
+    bool well;
+    if (is_numeric(arguments, name, value, &well) || is_named(arguments, name, value, &well)) return well;
+    if (strcmp(name, "--serial") != 0) {
         fprintf(stderr, "pansuyog-record: %s is no option\n", name);
         return false;
     }
-    if (is_input && well) arguments->input = value;
-    if (!is_input && well) well = read_serial(arguments, value);
-    if (!well) fprintf(stderr, "pansuyog-record: %s takes %s\n", name, is_input ? "a FIFO" : "a terminal, and a speed that is known");
+    well = value != NULL && read_serial(arguments, value);
+    if (!well) fputs("pansuyog-record: --serial takes a terminal, and a speed that is known\n", stderr);
     return well;
 }
 

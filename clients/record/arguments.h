@@ -10,6 +10,8 @@ struct arguments {
     const char *image;
     const char *input;  /* a FIFO that is read in place of standard input, or null */
     const char *serial; /* a terminal that is read in place of it, or null */
+    const char *copy;   /* a folder that finished files are copied to, or null */
+    const char *status; /* a file that says how the recorder is, or null */
     uint32_t baud;      /* of that terminal */
     uint32_t size;      /* bytes of the segments of a volume that is made */
     uint32_t lines;     /* so many are saved together */

@@ -13,7 +13,7 @@ static uint32_t count_segments(uint32_t size) {
     return segments < LEAST_SEGMENTS ? LEAST_SEGMENTS : segments;
 }
 
-static bool write_all(int fd, const char *bytes, size_t count, off_t offset) {
+bool image_write_all(int fd, const char *bytes, size_t count, off_t offset) {
     while (count > 0) {
         ssize_t written = pwrite(fd, bytes, count, offset);
         if (written < 0 && errno == EINTR) continue;
@@ -32,7 +32,7 @@ static int32_t reserve(int fd, uint32_t sectors, pansuyog_failed_t *failed) {
     off_t size = (off_t)PANSUYOG_SECTOR * sectors;
     for (off_t at = 0; at < size; at += SEGMENT_BYTES) {
         size_t count = size - at < SEGMENT_BYTES ? (size_t)(size - at) : SEGMENT_BYTES;
-        if (!write_all(fd, zeros, count, at)) return pansuyog_fail(failed, PANSUYOG_AT_WRITE, (uint32_t)(at / PANSUYOG_SECTOR));
+        if (!image_write_all(fd, zeros, count, at)) return pansuyog_fail(failed, PANSUYOG_AT_WRITE, (uint32_t)(at / PANSUYOG_SECTOR));
     }
     return pansuyog_sync_all(fd) ? pansuyog_fail(failed, PANSUYOG_AT_SYNC, 0) : PANSUYOG_OK;
 }

@@ -20,6 +20,8 @@ enum { STATUS_TRY_AGAIN = 1, STATUS_RESTART = 2 };
 int image_open(struct image *image, const char *path, uint32_t size, bool is_sparse);
 /* Tells why a call was refused: the status to end with. */
 int image_refuse(struct image *image, int32_t code);
+/* Writes all of these bytes to a file of the host: false with errno where it can't. */
+bool image_write_all(int fd, const char *bytes, size_t count, off_t offset);
 /* Saves nothing. */
 void image_close(struct image *image);
 

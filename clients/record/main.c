@@ -112,12 +112,7 @@ int main(int argc, char **argv) {
     }
     enum reading reading = arguments_read(&arguments, argv);
     if (reading != READ_WELL) return reading == READ_HELP ? 0 : 2;
-    struct recorder recorder = {
-        .image = &image,
-        .ring = &ring,
-        .rhythm = {.lines = arguments.lines, .seconds = (time_t)arguments.seconds},
-        .acknowledges = arguments.acknowledges,
-    };
+    struct recorder recorder = {.image = &image, .ring = &ring};
     int status = run(&recorder, &arguments, ends);
     fprintf(stderr, "saved %" PRIu64 "\n", recorder.saved);
     return status;

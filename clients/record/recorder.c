@@ -4,6 +4,9 @@
 
 enum { DAY_LENGTH = 10 };
 
+/* The saver looks up after so many seconds at the latest, and the status is as old at most. */
+enum { GLANCE = 10 };
+
 /* How long the last acknowledgement waits for one who reads it, in milliseconds. */
 enum { LAST_WAIT = 1000 };
 
@@ -11,6 +14,7 @@ enum { LAST_WAIT = 1000 };
 static bool present_day(char day[DAY_LENGTH + 1]) {
     struct tm local;
     time_t now = time(NULL);
+    tzset();
     return localtime_r(&now, &local) != NULL && strftime(day, DAY_LENGTH + 1, "%Y-%m-%d", &local) == DAY_LENGTH;
 }
 
@@ -56,18 +60,31 @@ static int32_t save_lines(struct recorder *recorder, const unsigned char *bytes,
     return code < 0 ? code : saved;
 }
 
-/* Tells what was lost of the input, once a second at most. */
-static void tell_losses(struct recorder *recorder, bool is_last) {
-    const struct losses none = {0}, *losses = &recorder->losses;
+/* Tells what was lost of the input since it was told last. */
+static void tell_losses(struct recorder *recorder) {
+    const struct losses *losses = &recorder->losses, *told = &recorder->told;
+    const char *path = recorder->image->path;
+    if (losses->lost > told->lost)
+        fprintf(stderr, "%s: the buffer was full: %" PRIu64 " bytes of the input are lost\n", path, losses->lost - told->lost);
+    if (losses->cut_lines > told->cut_lines)
+        fprintf(stderr, "%s: a line has at most %d bytes: %" PRIu64 " were cut, by %" PRIu64 " bytes\n", path, LONGEST_LINE,
+                losses->cut_lines - told->cut_lines, losses->cut_bytes - told->cut_bytes);
+    recorder->told = *losses;
+}
+
+/* All but saving, once a second at most: losses are told, finished files copied, and the status written each ten seconds. */
+static void tend(struct recorder *recorder, bool is_last) {
     struct timespec now;
-    if (clock_gettime(CLOCK_MONOTONIC, &now) != 0 || (!is_last && now.tv_sec == recorder->told)) return;
-    if (losses->lost > 0)
-        fprintf(stderr, "%s: the buffer was full: %" PRIu64 " bytes of the input are lost\n", recorder->image->path, losses->lost);
-    if (losses->cut_lines > 0)
-        fprintf(stderr, "%s: a line has at most %d bytes: %" PRIu64 " were cut, by %" PRIu64 " bytes\n", recorder->image->path, LONGEST_LINE,
-                losses->cut_lines, losses->cut_bytes);
-    recorder->losses = none;
-    recorder->told = now.tv_sec;
+    if (clock_gettime(CLOCK_MONOTONIC, &now) != 0) return;
+    bool is_early = !is_last && now.tv_sec == recorder->tended;
+    recorder->rhythm.glance = is_early ? 1 : GLANCE;
+    if (is_early) return;
+    recorder->tended = now.tv_sec;
+    tell_losses(recorder);
+    copies_look(&recorder->copies);
+    if (!is_last && recorder->written != 0 && now.tv_sec < recorder->written + GLANCE) return;
+    recorder->written = now.tv_sec;
+    status_write(&recorder->status, recorder->saved, &recorder->losses);
 }
 
 /* Cleans while nothing waits, a pass at a time. */
@@ -84,23 +101,36 @@ static int32_t clean(struct recorder *recorder) {
 
 /* Saves lines until the input ends, or a call is refused. */
 static int32_t save_all(struct recorder *recorder, unsigned char *taken) {
-    for (;;) {
-        size_t count = ring_take(recorder->ring, &recorder->rhythm, taken, &recorder->losses);
-        tell_losses(recorder, false);
-        if (count == 0) return PANSUYOG_OK;
-        int32_t code = save_lines(recorder, taken, count);
+    size_t count;
+    int32_t code = PANSUYOG_OK;
+    while (code == PANSUYOG_OK && ring_take(recorder->ring, &recorder->rhythm, taken, &count, &recorder->losses)) {
+        if (count > 0) code = save_lines(recorder, taken, count);
+        if (code == PANSUYOG_OK) tend(recorder, false);
         if (code == PANSUYOG_OK) code = clean(recorder);
-        if (code != PANSUYOG_OK) return code;
     }
+    return code;
 }
 
-int recorder_run(struct recorder *recorder, const struct arguments *arguments) {
+/* Begins to record, and saves lines. */
+static int32_t record(struct recorder *recorder, const struct arguments *arguments) {
     unsigned char *taken = malloc(MOST_TAKEN);
-    int32_t code = taken == NULL ? PANSUYOG_NO_MEMORY : pansuyog_file_record_begin(&recorder->image->volume, arguments->file, arguments->keep);
+    if (taken == NULL) return PANSUYOG_NO_MEMORY;
+    int32_t code = pansuyog_file_record_begin(&recorder->image->volume, arguments->file, arguments->keep);
+    if (code == PANSUYOG_OK) tend(recorder, false);
     if (code == PANSUYOG_OK) code = clean(recorder);
     if (code == PANSUYOG_OK) code = save_all(recorder, taken);
     free(taken);
-    tell_losses(recorder, true);
+    return code;
+}
+
+int recorder_run(struct recorder *recorder, const struct arguments *arguments) {
+    recorder->rhythm = (struct rhythm){.lines = arguments->lines, .seconds = (time_t)arguments->seconds, .glance = GLANCE};
+    recorder->copies = (struct copies){.folder = arguments->copy, .image = recorder->image};
+    recorder->status = (struct status_file){.path = arguments->status, .image = recorder->image};
+    recorder->acknowledges = arguments->acknowledges;
+    int32_t code = record(recorder, arguments);
+    int status = code == PANSUYOG_OK ? 0 : image_refuse(recorder->image, code);
+    tend(recorder, true);
     acknowledge(recorder, LAST_WAIT);
-    return code == PANSUYOG_OK ? 0 : image_refuse(recorder->image, code);
+    return status;
 }

@@ -130,24 +130,33 @@ void ring_finish(struct ring *ring, struct ending ending) {
     unlock(ring);
 }
 
-/* Lines are due at once where so many wait, where the ring is half full, and at the end. */
-static bool is_due(const struct ring *ring, const struct rhythm *rhythm) {
-    return ring->has_ended || ring->lines >= rhythm->lines || ring->whole > ring->size / 2;
+/* This moment, and so many seconds. */
+static struct timespec behind(struct timespec moment, time_t seconds) {
+    moment.tv_sec += seconds;
+    return moment;
 }
 
-/* Waits until lines are due. */
-static void wait_until_due(struct ring *ring, const struct rhythm *rhythm) {
+static bool is_before(struct timespec one, struct timespec other) {
+    return one.tv_sec < other.tv_sec || (one.tv_sec == other.tv_sec && one.tv_nsec < other.tv_nsec);
+}
+
+/* Lines are due where so many wait or the oldest has waited so long, where the ring is half full, and at the end. */
+static bool is_due(const struct ring *ring, const struct rhythm *rhythm) {
+    if (ring->has_ended || ring->lines >= rhythm->lines || ring->whole > ring->size / 2) return true;
+    return ring->lines > 0 && !is_before(present_time(), behind(ring->oldest, rhythm->seconds));
+}
+
+/* Waits until lines are due, or for so long: whether they are. */
+static bool wait_until_due(struct ring *ring, const struct rhythm *rhythm) {
+    const struct timespec glance = behind(present_time(), rhythm->glance);
     while (!is_due(ring, rhythm)) {
-        if (ring->lines == 0) {
-            must(pthread_cond_wait(&ring->filled, &ring->lock));
-            continue;
-        }
-        struct timespec end = ring->oldest;
-        end.tv_sec += rhythm->seconds;
+        struct timespec end = glance, late = behind(ring->oldest, rhythm->seconds);
+        if (ring->lines > 0 && is_before(late, end)) end = late;
         int error = pthread_cond_timedwait(&ring->filled, &ring->lock, &end);
-        if (error == ETIMEDOUT) return;
-        must(error);
+        if (error != ETIMEDOUT) must(error);
+        else if (!is_before(present_time(), glance)) return is_due(ring, rhythm);
     }
+    return true;
 }
 
 /* How many bytes of whole lines are taken at a time. */
@@ -165,22 +174,28 @@ static size_t count_lines(const unsigned char *bytes, size_t count) {
     return lines;
 }
 
-size_t ring_take(struct ring *ring, const struct rhythm *rhythm, unsigned char *taken, struct losses *losses) {
-    lock(ring);
-    wait_until_due(ring, rhythm);
-    size_t count = count_taken(ring);
+/* Takes so many bytes of whole lines. */
+static void take(struct ring *ring, unsigned char *taken, size_t count) {
     copy_out(ring, taken, count);
     ring->start = place_of(ring, count);
     ring->length -= count;
     ring->whole -= count;
     ring->lines -= count_lines(taken, count);
+}
+
+bool ring_take(struct ring *ring, const struct rhythm *rhythm, unsigned char *taken, size_t *count, struct losses *losses) {
+    const struct losses none = {0};
+    lock(ring);
+    *count = wait_until_due(ring, rhythm) ? count_taken(ring) : 0;
+    bool goes_on = *count > 0 || !ring->has_ended;
+    take(ring, taken, *count);
     losses->lost += ring->losses.lost;
     losses->cut_lines += ring->losses.cut_lines;
     losses->cut_bytes += ring->losses.cut_bytes;
-    memset(&ring->losses, 0, sizeof ring->losses);
+    ring->losses = none;
     must(pthread_cond_signal(&ring->drained));
     unlock(ring);
-    return count;
+    return goes_on;
 }
 
 bool ring_is_idle(struct ring *ring) {

@@ -55,13 +55,14 @@ void ring_finish(struct ring *ring, struct ending ending);
 
 /* When lines are due. */
 struct rhythm {
-    size_t lines;  /* so many wait */
+    size_t lines;   /* so many wait */
     time_t seconds; /* or the oldest has waited so long */
+    time_t glance;  /* where none are due the saver looks up after so long */
 };
 
-/* Of the saver: waits until lines are due, and takes those that wait, up to MOST_TAKEN bytes: how many bytes. 0 where the input has ended
- * and all is taken. What was lost since the last time is added to `losses`. */
-size_t ring_take(struct ring *ring, const struct rhythm *rhythm, unsigned char *taken, struct losses *losses);
+/* Of the saver: waits until lines are due, and takes those that wait, up to MOST_TAKEN bytes: how many bytes. That are none where none is
+ * due yet. False once the input has ended and all was taken. What was lost since the last time is added to `losses`. */
+bool ring_take(struct ring *ring, const struct rhythm *rhythm, unsigned char *taken, size_t *count, struct losses *losses);
 /* Of the saver: whether nothing waits, nor has the input ended. */
 bool ring_is_idle(struct ring *ring);
 /* Of the saver: nobody takes lines any more. */

@@ -5,6 +5,7 @@ What is expected stands in README.md, in docs/RECORDER.md and in docs/LIBRARY.md
 import contextlib
 import datetime
 import fcntl
+import json
 import os
 import pty
 import random
@@ -34,7 +35,7 @@ SLOW_SYNCS = """
 #define _POSIX_C_SOURCE 200809L
 #include <time.h>
 int fsync(int fd) {
-    const struct timespec pause = {0, 300000000};
+    const struct timespec pause = {0, 100000000};
     (void)fd;
     return nanosleep(&pause, 0);
 }
@@ -291,7 +292,7 @@ class InTime(OfTheRecorder):
         self.saves(b"", 0)
         child = self.started("--lines", "1000", "--seconds", "1", "--acknowledge")
         acknowledged, late, begun = Acknowledged(child), [], time.monotonic()
-        for count in range(20):
+        for count in range(16):
             child.stdin.write(b"%d\n" % count)
             child.stdin.flush()
             time.sleep(0.2)
@@ -394,6 +395,99 @@ class IdleMoments(OfTheRecorder):
         child.kill()
         child.wait()
         self.assertFalse(self.is_cleaning_due())
+
+
+class Copies(OfTheRecorder):
+    """Files that are finished are copied to a folder."""
+
+    def setUp(self):
+        super().setUp()
+        self.copies = f"{self.folder}/copies"
+        os.mkdir(self.copies)
+
+    def copied(self):
+        found = {}
+        for name in os.listdir(self.copies):
+            with open(f"{self.copies}/{name}", "rb") as file:
+                found[name] = file.read()
+        return found
+
+    def test_all_but_the_newest_file_are_copied(self):
+        lines = [b"%09d\n" % it for it in range(25)]
+        self.saves(b"".join(lines), 25, "--file", "100", "--copy", self.copies)
+        self.assertEqual(self.copied(), {name_of(1): b"".join(lines[:10]), name_of(2): b"".join(lines[10:20])})
+        # The next start copies what was missed, and the file that it finishes.
+        os.unlink(f"{self.copies}/{name_of(1)}")
+        self.saves(b"".join(lines), 25, "--file", "100", "--copy", self.copies)
+        files = self.files()
+        del files[name_of(5)]
+        self.assertEqual((self.copied(), len(files)), (files, 4))
+
+    def test_a_file_is_copied_once_the_next_one_has_begun(self):
+        child = self.started("--lines", "1", "--file", "10", "--copy", self.copies)
+        for _ in range(2):
+            child.stdin.write(b"a line 90\n")
+            child.stdin.flush()
+        self.waits_for(lambda: self.copied() == {name_of(1): b"a line 90\n"}, 5)
+        # Of a large file, too.
+        child.stdin.write(b"x" * 60_000 + b"\nnext\n")
+        child.stdin.flush()
+        self.waits_for(lambda: self.copied().get(name_of(3)) == b"x" * 60_000 + b"\n", 5)
+
+    def test_a_copy_of_another_volume_stays(self):
+        with open(f"{self.copies}/{name_of(1)}", "wb") as file:
+            file.write(b"another 9\n")
+        for _ in range(2):
+            self.saves(b"a line 90\n" * 2, 2, "--file", "10", "--copy", self.copies)
+        wanted = {name_of(1): b"another 9\n", f"{name_of(1)}.1": b"a line 90\n", name_of(2): b"a line 90\n", name_of(3): b"a line 90\n"}
+        self.assertEqual(self.copied(), wanted)
+
+    def test_a_folder_that_isnt_there_stops_nothing(self):
+        os.rmdir(self.copies)
+        status, _, errors = self.run_on(b"a line 90\n" * 3, "--file", "10", "--copy", self.copies)
+        self.assertEqual((status, errors.splitlines()[-1]), (0, "saved 3"))
+        self.assertIn(f"{self.copies}/{name_of(1)}", errors.splitlines()[0])
+        self.assertIn("No such file or directory", errors.splitlines()[0])
+        self.assertEqual(self.content(), b"a line 90\n" * 3)
+
+
+class Status(OfTheRecorder):
+    def test_it_is_written_at_the_start_and_at_the_end(self):
+        path = f"{self.folder}/status"
+        child = self.started("--status", path)
+        self.waits_for(lambda: os.path.exists(path))
+        before = time.time()
+        with open(path, encoding="ascii") as file:
+            first = json.loads(file.read())
+        # An empty volume of 64 segments has a need of 727, and a limit of 3,008.
+        self.assertEqual([first[it] for it in ("saved", "lost_bytes", "cut_lines", "need", "limit")], [0, 0, 0, 727, 3_008])
+        self.assertLess(abs(first["time"] - before), 5)
+        child.communicate(b"a line\n" * 100 + b"x" * 70_000)
+        with open(path, encoding="ascii") as file:
+            text = file.read()
+        last = json.loads(text)
+        self.assertEqual(([last[it] for it in ("saved", "lost_bytes", "cut_lines")], text.count("\n")), ([101, 0, 1], 1))
+        self.assertGreater(last["need"], 727)
+        self.assertFalse(os.path.exists(f"{path}.part"))
+
+    def test_it_is_written_each_ten_seconds(self):
+        path = f"{self.folder}/status"
+        child = self.started("--status", path, "--lines", "1", "--acknowledge")
+        child.stdin.write(b"one\n")
+        child.stdin.flush()
+        self.assertEqual(child.stdout.readline(), b"1\n")
+
+        def saved():
+            with open(path, encoding="ascii") as file:
+                return json.loads(file.read())["saved"]
+
+        self.waits_for(lambda: saved() == 1, 12)
+
+    def test_one_that_cant_be_written_stops_nothing(self):
+        status, _, errors = self.run_on(b"one\n", "--status", f"{self.folder}/none/status")
+        told, saved = errors.splitlines()
+        self.assertEqual((status, saved), (0, "saved 1"))
+        self.assertTrue(told.startswith(f"{self.folder}/none/status: ") and told.endswith("No such file or directory"), told)
 
 
 class Images(OfTheRecorder):
@@ -570,7 +664,7 @@ class Refusals(OfTheRecorder):
         ran = subprocess.run([PROGRAM, "--help"], stdout=subprocess.PIPE, stderr=subprocess.PIPE, check=False)
         self.assertEqual((ran.returncode, ran.stderr), (0, b""))
         options = ("--size BYTES", "--sparse", "--lines LINES", "--seconds SECONDS", "--file BYTES", "--keep FILES", "--buffer BYTES",
-                   "--acknowledge", "--input FIFO", "--serial TTY[:BAUD]")
+                   "--acknowledge", "--input FIFO", "--serial TTY[:BAUD]", "--copy FOLDER", "--status FILE")
         self.assertEqual([it for it in options if it not in ran.stdout.decode()], [])
 
 
