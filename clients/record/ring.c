@@ -38,7 +38,8 @@ bool ring_begin(struct ring *ring, size_t size) {
     ring->size = size;
     ring->bytes = malloc(size);
     if (ring->bytes == NULL) return false;
-    if (pthread_mutex_init(&ring->lock, NULL) == 0 && begin_condition(&ring->filled) == 0 && begin_condition(&ring->drained) == 0) return true;
+    bool has_lock = pthread_mutex_init(&ring->lock, NULL) == 0;
+    if (has_lock && begin_condition(&ring->filled) == 0 && begin_condition(&ring->drained) == 0) return true;
     free(ring->bytes);
     return false;
 }
