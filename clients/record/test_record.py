@@ -40,6 +40,14 @@ int fsync(int fd) {
     return nanosleep(&pause, 0);
 }
 """
+# No read of a file at a place gives anything.
+BROKEN_READS = """
+#include <errno.h>
+#include <sys/types.h>
+static ssize_t fails(void) { errno = EIO; return -1; }
+ssize_t pread(int fd, void *bytes, size_t count, off_t at) { (void)fd; (void)bytes; (void)count; (void)at; return fails(); }
+ssize_t pread64(int fd, void *bytes, size_t count, off_t at) { (void)fd; (void)bytes; (void)count; (void)at; return fails(); }
+"""
 PROGRAM, LFS = None, os.environ.get("LFS")
 
 
@@ -417,7 +425,8 @@ class Copies(OfTheRecorder):
 
     def copied(self):
         found = {}
-        for name in os.listdir(self.copies):
+        # One that isn't whole has another name, and may get its own meanwhile.
+        for name in (it for it in os.listdir(self.copies) if not it.endswith(".part")):
             with open(f"{self.copies}/{name}", "rb") as file:
                 found[name] = file.read()
         return found
@@ -621,6 +630,19 @@ class Refusals(OfTheRecorder):
     def test_a_write_that_finds_no_room(self):
         self.saves(b"", 0)
         self.told(1, "No space left on device", env={**self.preloaded(FAULTS), "FAULTS": "write"})
+
+    def test_a_sync_that_fails_behind_a_write_that_finds_no_room(self):
+        # Another descriptor of the image is synced, and what was written before may be lost.
+        self.saves(b"", 0)
+        self.told(2, "No space left on device", env={**self.preloaded(FAULTS), "FAULTS": "write sync"})
+
+    def test_an_image_that_cant_be_read(self):
+        self.saves(b"", 0)
+        path = f"{self.folder}/broken.c"
+        with open(path, "w", encoding="ascii") as file:
+            file.write(BROKEN_READS)
+        self.told(2, "Input/output error", env=self.preloaded(path))
+        self.assertFalse(os.path.exists(f"{self.image}.0"))
 
     def test_a_limit_on_the_size_of_files(self):
         self.saves(b"", 0, "--sparse")
