@@ -73,6 +73,10 @@ class OfTheRecorder(unittest.TestCase):
         size = [] if size is None else ["--size", size]
         child = subprocess.Popen([PROGRAM, self.image, *size, *words], env={**os.environ, **(env or {})}, **how)
         self.addCleanup(self.ended, child)
+        # A test that waits for what never comes fails.
+        watch = threading.Timer(45, child.kill)
+        watch.start()
+        self.addCleanup(watch.cancel)
         return child
 
     @staticmethod
