@@ -35,7 +35,7 @@ SLOW_SYNCS = """
 #define _POSIX_C_SOURCE 200809L
 #include <time.h>
 int fsync(int fd) {
-    const struct timespec pause = {0, 100000000};
+    const struct timespec pause = {0, 50000000};
     (void)fd;
     return nanosleep(&pause, 0);
 }
@@ -359,7 +359,7 @@ class Stops(OfTheRecorder):
 
     def test_each_line_that_was_acknowledged_is_there(self):
         chance, number, least = random.Random(1), 0, 0
-        for _ in range(8):
+        for _ in range(6):
             sent, count = self.record_and_kill(number, 0.1 + 0.5 * chance.random())
             found = self.content() if os.path.exists(self.image) else b""
             last = int(found[-10:]) if found else number - 1
@@ -401,7 +401,8 @@ class IdleMoments(OfTheRecorder):
             for place in range(64):
                 volume.pwrite(handle, 65_536 * place, bytes([1]) * 65_536)
             while not volume.is_cleaning_due():
-                volume.pwrite(handle, 512 * chance.randrange(8_192), bytes([2]) * 512)
+                for _ in range(8):
+                    volume.pwrite(handle, 512 * chance.randrange(8_192), bytes([2]) * 512)
                 volume.sync()
 
     def test_it_cleans_while_no_input_waits(self):
