@@ -11,7 +11,6 @@ import pty
 import random
 import re
 import resource
-import select
 import shutil
 import signal
 import subprocess
@@ -215,6 +214,16 @@ class Checked(OfTheRecorder):
         self.assertEqual(numbers, list(range(numbers[0], numbers[0] + len(numbers))))
         self.assertGreater(numbers[0], 1)
         self.assertTrue(held.startswith(b"%07d of" % (len(lines) - len(held) // 18)))
+
+    def test_a_file_is_read_as_there_is_room(self):
+        # Lines are saved before their time where the buffer is half full. The longest ones fill it but for a byte.
+        for line in (b"a line\n", b"x" * LONGEST + b"\n"):
+            with self.subTest(size=len(line)), tempfile.TemporaryFile() as file:
+                count = 800_000 // len(line)
+                file.write(line * count)
+                file.seek(0)
+                self.saves(None, count, "--buffer", "128K", "--lines", "1000000", "--seconds", "1000", stdin=file)
+                self.assertTrue(self.content().endswith(line * count))
 
     def test_each_signal_saves_what_waits(self):
         for number, wanted in ((signal.SIGTERM, 0), (signal.SIGINT, 130), (signal.SIGHUP, 129)):
@@ -737,18 +746,29 @@ class Streams(OfTheRecorder):
         self.assertEqual((child.stderr.read(), child.wait()), (b"saved 1001\n", 0))
 
     def test_one_who_reads_nothing_holds_nothing_up(self):
+        # The pipe is full from the start on.
         ends = os.pipe()
         fcntl.fcntl(ends[1], fcntl.F_SETPIPE_SZ, 4096)
+        os.write(ends[1], b"x" * 4096)
         child = self.started("--lines", "1", "--acknowledge", stdout=ends[1])
         os.close(ends[1])
-        sent = 0
-        for _ in range(1_500):
-            child.stdin.write(b"a line\n")
-            child.stdin.flush()
-            sent += 1
-        child.stdin.close()
-        self.assertEqual((child.stderr.read(), child.wait()), (b"saved %d\n" % sent, 0))
-        self.assertTrue(select.select([ends[0]], [], [], 0)[0])
+        self.assertEqual((child.communicate(b"a line\n" * 100)[1], child.returncode), (b"saved 100\n", 0))
+        os.close(ends[0])
+        self.assertEqual(self.content(), b"a line\n" * 100)
+
+    def test_one_who_reads_late_is_told_the_newest_number(self):
+        ends = os.pipe()
+        fcntl.fcntl(ends[1], fcntl.F_SETPIPE_SZ, 4096)
+        os.write(ends[1], b"x" * 4096)
+        child = self.started("--lines", "1", "--acknowledge", stdout=ends[1])
+        os.close(ends[1])
+        child.stdin.write(b"a line\n" * 100)
+        child.stdin.flush()
+        self.waits_for(lambda: os.path.exists(self.image))
+        time.sleep(0.3)
+        self.assertEqual(os.read(ends[0], 4096), b"x" * 4096)
+        child.communicate(b"a line\n" * 100)
+        self.assertEqual(os.read(ends[0], 4096).split()[-1], b"200")
         os.close(ends[0])
 
 
