@@ -91,10 +91,18 @@ static void lose_line(struct ring *ring) {
     ring->is_cut = false;
 }
 
+/* Waits until so many bytes fit. The saver is told of the lines before, which are due then. */
+static void wait_for_room(struct ring *ring, size_t count) {
+    while (!ring->is_stopped && !has_room(ring, count)) {
+        must(pthread_cond_signal(&ring->filled));
+        must(pthread_cond_wait(&ring->drained, &ring->lock));
+    }
+}
+
 /* Puts a piece of a line, and the end of that if it is there. What is beyond the longest line is left out. */
 static void put_piece(struct ring *ring, const unsigned char *piece, size_t count, bool ends) {
     size_t left = LONGEST_LINE - (ring->length - ring->whole), kept = count < left ? count : left;
-    while (ring->waits && !ring->is_stopped && !has_room(ring, kept)) must(pthread_cond_wait(&ring->drained, &ring->lock));
+    if (ring->waits) wait_for_room(ring, kept);
     if (!ring->skips && !has_room(ring, kept)) lose_line(ring);
     if (ring->skips) {
         ring->losses.lost += count + ends;

@@ -217,12 +217,15 @@ class Checked(OfTheRecorder):
 
     def test_a_file_is_read_as_there_is_room(self):
         # Lines are saved before their time where the buffer is half full. The longest ones fill it but for a byte.
-        for line in (b"a line\n", b"x" * LONGEST + b"\n"):
+        for line in (*[b"a line\n"] * 4, b"x" * LONGEST + b"\n"):
             with self.subTest(size=len(line)), tempfile.TemporaryFile() as file:
                 count = 800_000 // len(line)
                 file.write(line * count)
                 file.seek(0)
+                begun = time.monotonic()
                 self.saves(None, count, "--buffer", "128K", "--lines", "1000000", "--seconds", "1000", stdin=file)
+                # Neither thread waits for the other until it looks up.
+                self.assertLess(time.monotonic() - begun, 8)
                 self.assertTrue(self.content().endswith(line * count))
 
     def test_each_signal_saves_what_waits(self):
