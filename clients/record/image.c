@@ -67,8 +67,13 @@ static int32_t mount_volume(struct image *image) {
     return code == PANSUYOG_OK ? pansuyog_file_mount(&image->volume) : code;
 }
 
+/* Whether a name is that of a device. Where the device isn't there no file takes its place, which would lie in memory. */
+static bool is_of_device(const char *path) {
+    return strncmp(path, "/dev/", 5) == 0 && strncmp(path, "/dev/shm/", 9) != 0;
+}
+
 static int32_t make_or_mount(struct image *image, uint32_t segments, bool is_sparse) {
-    int32_t code = make_volume(image, segments, is_sparse);
+    int32_t code = is_of_device(image->path) ? PANSUYOG_EXIST : make_volume(image, segments, is_sparse);
     return code == PANSUYOG_OK || code == PANSUYOG_EXIST ? mount_volume(image) : code;
 }
 

@@ -541,6 +541,13 @@ class Images(OfTheRecorder):
                 self.assertEqual(os.listdir(self.folder), ["disk.img"])
                 os.unlink(self.image)
 
+    def test_no_image_is_made_in_the_place_of_a_device(self):
+        missing = "/dev/no-card-is-there"
+        ran = subprocess.run([PROGRAM, missing], input=b"one\n", capture_output=True, timeout=30, check=False)
+        self.assertEqual((ran.returncode, ran.stdout), (1, b""))
+        self.assertIn(missing.encode(), ran.stderr)
+        self.assertFalse(os.path.exists(missing))
+
     def test_a_sparse_image_is_made(self):
         self.saves(b"one\n", 1, "--sparse", size="8M")
         found = os.stat(self.image)
