@@ -4,7 +4,7 @@
 //! commit as the age of the segment that was written. So the greatest age is that of the newest
 //! commit. The ages and the used parts of its segments then give the order in which the blocks of
 //! the map and of usage were written, of which the last ones count.
-ghost use Rattle.std.specs.Prelude.{◌≤◌, length};
+ghost use Rattle.std.specs.Prelude.{◌≡◌, ◌≤◌, IfOk, length};
 ghost use Rattle.lfs_salvage.specs.Telling.{TellsNothing};
 
 use lfs_device::SectorDevice;
@@ -555,7 +555,10 @@ fn is_whole(scanned: &Option<Scanned>) -> bool {
 pub fn scan<D: SectorDevice + Drop>(
     alloc: Global,
     mut volume: ByPlaces<D>,
-) -> Result<(ByPlaces<D>, Option<Scanned>), AllocError> {
+) -> Result<(ByPlaces<D>, Option<Scanned>), AllocError>
+    ensures { IfOk result (λ found. length (D.state found.0.device).told
+        ≡ length (D.state volume.device).told) }
+{
     let places = volume.places();
     let first = scan_at(alloc, &mut volume, places)?;
     if is_whole(&first) {
